@@ -1,0 +1,172 @@
+-- What the proofs of readers cite: how an answer in a struct goes with what follows it.
+use Prim.Native.Nat.{ℕ}
+use native.Mathlib.Omega.{arith}
+use mathlib.Core.Path.{_≡_, refl, ap, sym, _∙_}
+use mathlib.Core.Bool.{Bool, true, false}
+use mathlib.Core.List.{List}
+use Prim.Native.Nat.{_<_, _≤_}
+use borrow.Author.Tests.{le-ltb, lt-ltb, eq-eqb, ne-eqb}
+use Rattle.coding.specs.Reader.{Ans, Reader, Fault, code, blamed, after, if_then_else, judged, Judged, closed, choice, neither, tagged}
+use Rattle.coding.specs.Reader.Ans.{got, halt}
+use Rattle.coding.specs.Reader.Fault.{missing, unexpected, cut, form, shortest, contents, limit, named}
+use Rattle.coding.specs.Reader.Judged.{good, bad}
+use Rattle.coding.specs.Codec.{Run, pickRun}
+use Rattle.coding.specs.Shown.{shown, verdict}
+
+-- no fault has the number 0
+pub some-code : (w : Fault) → code w ≡ 0 → ⊥
+some-code missing e = omega arith
+some-code unexpected e = omega arith
+some-code cut e = omega arith
+some-code form e = omega arith
+some-code shortest e = omega arith
+some-code contents e = omega arith
+some-code limit e = omega arith
+some-code (named n) e = omega arith
+
+-- an answer from how it is shown
+pub got-of : {A : Type 0} (x : Ans A) (z : A) {k p n : ℕ} {v : A} → (k, p, v, n) ≡ shown z x → k ≡ 0 → x ≡ got v n
+unfolding shown
+got-of (got v' n') z e k0 = sym (ap (λ q. got (q .2) (q .3)) e)
+got-of (halt w p') z e k0 = absurd (some-code w (sym (ap (λ q. q .0) e) ∙ k0))
+
+-- a good answer goes on
+pub step : {A B : Type 0} (x : Ans A) (f : A → ℕ → Ans B) (z : A) (y : B) {k p n : ℕ} {v : A} {t : ℕ × ℕ × B × ℕ} →
+    (k, p, v, n) ≡ shown z x → k ≡ 0 → t ≡ shown y (f v n) → t ≡ shown y (after x f)
+unfolding shown after
+step (got v' n') f z y e k0 r = r ∙ ap (λ q. shown y (f (q .2) (q .3))) e
+step (halt w p') f z y e k0 r = absurd (some-code w (sym (ap (λ q. q .0) e) ∙ k0))
+
+-- a fault stays
+pub stay : {A B : Type 0} (x : Ans A) (f : A → ℕ → Ans B) (z : A) (y : B) {k p n : ℕ} {v : A} →
+    (k, p, v, n) ≡ shown z x → (k ≡ 0 → ⊥) → (k, p, y, 0) ≡ shown y (after x f)
+unfolding shown after
+stay (got v' n') f z y e k0 = absurd (k0 (ap (λ q. q .0) e))
+stay (halt w p') f z y e k0 = ap (λ q. (q .0, q .1, y, 0)) e
+
+-- what follows what follows
+pub assoc : {A B C : Type 0} (x : Ans A) (f : A → ℕ → Ans B) (g : B → ℕ → Ans C) (y : C) {t : ℕ × ℕ × C × ℕ} →
+    t ≡ shown y (after x (λ v n. after (f v n) g)) → t ≡ shown y (after (after x f) g)
+unfolding after
+assoc (got v n) f g y r = r
+assoc (halt w p) f g y r = r
+
+-- the same as equations, by which a type's reading becomes one sequence of steps
+pub after-assoc : {A B C : Type 0} (x : Ans A) (f : A → ℕ → Ans B) (g : B → ℕ → Ans C) → after (after x f) g ≡ after x (λ v n. after (f v n) g)
+unfolding after
+after-assoc (got v n) f g = refl
+after-assoc (halt w p) f g = refl
+
+pub after-got : {A B : Type 0} (v : A) (n : ℕ) (f : A → ℕ → Ans B) → after (got v n) f ≡ f v n
+unfolding after
+after-got v n f = refl
+
+pub after-choice : {A B : Type 0} (tag : ℕ) (this that : Reader A) (s : List ℕ) (at end : ℕ) (f : A → ℕ → Ans B) →
+    after (choice tag this that s at end) f ≡ choice tag (λ s at end. after (this s at end) f) (λ s at end. after (that s at end) f) s at end
+unfolding choice
+after-choice tag this that s at end f = go (tagged s at end tag)
+  where
+    go : (b : Bool) → after (if_then_else b (this s at end) (that s at end)) f ≡ if_then_else b (after (this s at end) f) (after (that s at end) f)
+    go true = refl
+    go false = refl
+
+pub ruleset flat = (after-assoc, after-got, after-choice)
+
+-- the last value of a constructed element, and then its end
+pub ends : {A B : Type 0} (v : A) (n : ℕ) (g : A → ℕ → Ans B) (y : B) {t : ℕ × ℕ × B × ℕ} → t ≡ shown y (g v n) → t ≡ shown y (after (got v n) g)
+unfolding after
+ends v n g y r = r
+
+-- an answer whose fault is told otherwise; `recode` says so of the numbers
+pub passed : {A B : Type 0} (m : Fault → Fault) (x : Ans A) (f : A → ℕ → Ans B) (z : A) (y : B) {k p n : ℕ} {v : A} {t : ℕ × ℕ × B × ℕ} →
+    (k, p, v, n) ≡ shown z x → k ≡ 0 → t ≡ shown y (f v n) → t ≡ shown y (after (blamed m x) f)
+unfolding shown after blamed
+passed m (got v' n') f z y e k0 r = r ∙ ap (λ q. shown y (f (q .2) (q .3))) e
+passed m (halt w p') f z y e k0 r = absurd (some-code w (sym (ap (λ q. q .0) e) ∙ k0))
+
+pub told : {A B : Type 0} (m : Fault → Fault) (recode : ℕ → ℕ) (same : (w : Fault) → recode (code w) ≡ code (m w)) (x : Ans A) (f : A → ℕ → Ans B) (z : A) (y : B)
+    {k p n : ℕ} {v : A} → (k, p, v, n) ≡ shown z x → (k ≡ 0 → ⊥) → (recode k, p, y, 0) ≡ shown y (after (blamed m x) f)
+unfolding shown after blamed
+told m recode same (got v' n') f z y e k0 = absurd (k0 (ap (λ q. q .0) e))
+told m recode same (halt w p') f z y e k0 = ap (λ q. (recode (q .0), q .1, y, 0)) e ∙ ap (λ j. (j, p', y, 0)) (same w)
+
+-- one of two readings by a test
+pub when-yes : {A : Type 0} (b : Bool) (x x' : Ans A) (y : A) {t : ℕ × ℕ × A × ℕ} → b ≡ true → t ≡ shown y x → t ≡ shown y (if_then_else b x x')
+when-yes b x x' y h r = rw h r
+
+pub when-no : {A : Type 0} (b : Bool) (x x' : Ans A) (y : A) {t : ℕ × ℕ × A × ℕ} → b ≡ false → t ≡ shown y x' → t ≡ shown y (if_then_else b x x')
+when-no b x x' y h r = rw h r
+
+pub run-yes : {A : Type 0} (b : Bool) (f g : Run A) (s : List ℕ) (at end : ℕ) (y : A) {t : ℕ × ℕ × A × ℕ} →
+    b ≡ true → t ≡ shown y (f .read s at end) → t ≡ shown y ((pickRun b f g) .read s at end)
+run-yes b f g s at end y h r = rw h r
+
+pub run-no : {A : Type 0} (b : Bool) (f g : Run A) (s : List ℕ) (at end : ℕ) (y : A) {t : ℕ × ℕ × A × ℕ} →
+    b ≡ false → t ≡ shown y (g .read s at end) → t ≡ shown y ((pickRun b f g) .read s at end)
+run-no b f g s at end y h r = rw h r
+
+-- a fault at once
+pub halts : {A : Type 0} (z : A) (w : Fault) (p : ℕ) → (code w, p, z, 0) ≡ shown z (halt w p)
+unfolding shown
+halts z w p = refl
+
+-- contents that are good give the value, and others a fault at the tag
+pub passes : {A : Type 0} (z : A) (j : Judged A) (at next : ℕ) {k : ℕ} {v : A} →
+    (k, v) ≡ verdict z j → k ≡ 0 → (0, 0, v, next) ≡ shown z (judged j at next)
+unfolding shown judged verdict
+passes z (good v') at next e k0 = ap (λ q. (0, 0, q .1, next)) e
+passes z (bad w) at next e k0 = absurd (some-code w (sym (ap (λ q. q .0) e) ∙ k0))
+
+pub fails : {A : Type 0} (z : A) (j : Judged A) (at next : ℕ) {k : ℕ} {v : A} →
+    (k, v) ≡ verdict z j → (k ≡ 0 → ⊥) → (k, at, z, 0) ≡ shown z (judged j at next)
+unfolding shown judged verdict
+fails z (good v') at next e k0 = absurd (k0 (ap (λ q. q .0) e))
+fails z (bad w) at next e k0 = ap (λ q. (q .0, at, z, 0)) e
+
+-- nothing over, or something
+pub shut : {A : Type 0} (z v : A) (at end next : ℕ) → at ≡ end → (0, 0, v, next) ≡ shown z (closed v at end next)
+unfolding shown closed
+shut z v at end next h = simp (eq-eqb at end h)
+
+pub remains : {A : Type 0} (z v : A) (at end next : ℕ) → (at ≡ end → ⊥) → (41, at, z, 0) ≡ shown z (closed v at end next)
+unfolding shown closed
+remains z v at end next h = simp (ne-eqb at end h)
+
+-- a value at its place
+pub gives : {A : Type 0} (z v : A) (at : ℕ) → (0, 0, v, at) ≡ shown z (got v at)
+unfolding shown
+gives z v at = refl
+
+-- by the next tag
+pub picks : {A : Type 0} (z : A) (tag : ℕ) (this that : Reader A) (s : List ℕ) (at end : ℕ) {b : Bool} {t : ℕ × ℕ × A × ℕ} →
+    b ≡ tagged s at end tag → b ≡ true → t ≡ shown z (this s at end) → t ≡ shown z (choice tag this that s at end)
+unfolding choice
+picks z tag this that s at end e h r = rw (← e, h) r
+
+pub skips : {A : Type 0} (z : A) (tag : ℕ) (this that : Reader A) (s : List ℕ) (at end : ℕ) {b : Bool} {t : ℕ × ℕ × A × ℕ} →
+    b ≡ tagged s at end tag → b ≡ false → t ≡ shown z (that s at end) → t ≡ shown z (choice tag this that s at end)
+unfolding choice
+skips z tag this that s at end e h r = rw (← e, h) r
+
+-- the same where something follows
+pub picks-in : {A B : Type 0} (z : B) (tag : ℕ) (this that : Reader A) (s : List ℕ) (at end : ℕ) (f : A → ℕ → Ans B) {b : Bool} {t : ℕ × ℕ × B × ℕ} →
+    b ≡ tagged s at end tag → b ≡ true → t ≡ shown z (after (this s at end) f) → t ≡ shown z (after (choice tag this that s at end) f)
+unfolding choice
+picks-in z tag this that s at end f e h r = rw (← e, h) r
+
+pub skips-in : {A B : Type 0} (z : B) (tag : ℕ) (this that : Reader A) (s : List ℕ) (at end : ℕ) (f : A → ℕ → Ans B) {b : Bool} {t : ℕ × ℕ × B × ℕ} →
+    b ≡ tagged s at end tag → b ≡ false → t ≡ shown z (after (that s at end) f) → t ≡ shown z (after (choice tag this that s at end) f)
+unfolding choice
+skips-in z tag this that s at end f e h r = rw (← e, h) r
+
+-- nothing that may stand here
+pub lacks : {A : Type 0} (z : A) (s : List ℕ) (at end : ℕ) → end ≤ at → (40, end, z, 0) ≡ shown z (neither s at end)
+unfolding shown neither
+lacks z s at end h = simp (le-ltb at end h)
+
+pub strange : {A : Type 0} (z : A) (s : List ℕ) (at end : ℕ) → at < end → (41, at, z, 0) ≡ shown z (neither s at end)
+unfolding shown neither
+strange z s at end h = simp (lt-ltb at end h)
+
+-- what the returns of a reader cite
+pub ruleset reading = (step, stay, assoc, ends, passes, fails, shut, remains, gives, picks, skips, picks-in, skips-in, lacks, strange)

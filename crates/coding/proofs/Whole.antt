@@ -1,0 +1,68 @@
+-- What the laws say of a whole type: written octets read back as the value, octets read have one meaning, no octets are shorter.
+-- Assumes nothing.
+use Prim.Native.Nat.{ℕ, zero, suc, _+_, _-_, _≤_, _<_}
+use mathlib.Core.Path.{_≡_, refl, sym, ap, _∙_, subst}
+use mathlib.Core.List.{List, [], _∷_, _++_, append-nil}
+use mathlib.Core.Bool.{Bool, true, false, not, _||_}
+use mathlib.Core.Logic.{_↔_}
+use native.Mathlib.Omega.{arith}
+use native.Mathlib.Nat.{zero-add}
+use lib.ListN.{length, getD, length-append}
+use lib.Dec.{leb}
+use borrow.Author.Tests.{le-leb}
+use Rattle.coding.specs.Reader.{Ans, got}
+use Rattle.coding.specs.Codec.{Holds, Run}
+use Rattle.coding.proofs.Basic.{holds-there, same-got}
+use Rattle.coding.proofs.Laws.{Octets, clear, RunLaws}
+
+-- the octets, whole, mean the value
+abbrev pub Encodes : {A : Type 0} → Run A → A → List ℕ → Type 0
+Encodes f x bs = f .Means x bs 0 (length bs)
+
+module _ {A : Type 0} (f : Run A) (F : RunLaws f) where
+  -- at any place, with anything before it and anything after it that it could not go on with
+  pub reads-there : (pre post : List ℕ) (e : ℕ) (x : A) → f .valid x ≡ true → length (f .write x) ≤ 65535
+      → length pre + length (f .write x) ≤ e → e ≤ length (pre ++ (f .write x ++ post))
+      → clear (f .avoid) (pre ++ (f .write x ++ post)) (length pre + length (f .write x)) e ≡ true
+      → f .read (pre ++ (f .write x ++ post)) (length pre) e ≡ got x (length pre + length (f .write x))
+  reads-there pre post e x v b ne es cl =
+      F .complete _ (length pre) _ e x ne es cl (F .written _ (length pre) x v b (holds-there pre (f .write x) post))
+
+  meaning-read : (bs : List ℕ) (x : A) → Encodes f x bs → f .read bs 0 (length bs) ≡ got x (length bs)
+  meaning-read bs x m =
+      F .complete bs 0 (length bs) (length bs) x (omega arith) (omega arith)
+      (ap (λ c. c || not (f .avoid (getD bs (length bs) 0))) (le-leb (length bs) (length bs) (omega arith))) m
+
+  -- (1) a valid value that fits is written so that it means the value, and is read back
+  pub means-itself : (x : A) → f .valid x ≡ true → length (f .write x) ≤ 65535 → Encodes f x (f .write x)
+  means-itself x v b =
+      let w = f .write x in
+      let m : f .Means x w 0 (0 + length w) =
+      subst (λ (s : List ℕ). f .Means x s 0 (0 + length w)) (append-nil w) (F .written (w ++ []) 0 x v b (holds-there [] w [])) in
+      subst (f .Means x w 0) (zero-add (length w)) m
+
+  pub reads-back : (x : A) → f .valid x ≡ true → length (f .write x) ≤ 65535 → f .read (f .write x) 0 (length (f .write x)) ≡ got x (length (f .write x))
+  reads-back x v b = meaning-read (f .write x) x (means-itself x v b)
+
+  -- (2) what is read is valid, and what is written of it is no longer than what was read
+  pub no-longer : (s : List ℕ) (a e n : ℕ) (x : A) → Octets s → a ≤ e → e ≤ length s → f .read s a e ≡ got x n
+      → (f .valid x ≡ true) × (a + length (f .write x) ≤ n) × (n ≤ e)
+  no-longer s a e n x os ae es r =
+      let m = F .sound s a e n x os ae es r in
+      (F .fine s a n x (m .1), F .shortest s a n x os (m .1), m .0)
+
+  -- (3) the reading is the meaning
+  pub reads-meaning : (bs : List ℕ) (x : A) → Octets bs → (f .read bs 0 (length bs) ≡ got x (length bs)) ↔ Encodes f x bs
+  reads-meaning bs x os = (
+    (λ r. F .sound bs 0 (length bs) (length bs) x os (omega arith) (omega arith) r .1),
+    meaning-read bs x,
+  )
+
+  -- octets mean at most one value
+  pub one-meaning : (bs : List ℕ) (x y : A) → Octets bs → Encodes f x bs → Encodes f y bs → x ≡ y
+  one-meaning bs x y os p q =
+      same-got (λ z k. x ≡ z) (sym (reads-meaning bs x os .1 p) ∙ reads-meaning bs y os .1 q) refl
+
+  -- no octets that mean the value are fewer than those written
+  pub none-shorter : (bs : List ℕ) (x : A) → Octets bs → Encodes f x bs → length (f .write x) ≤ length bs
+  none-shorter bs x os m = omega (arith, F .shortest bs 0 (length bs) x os m)

@@ -1,0 +1,168 @@
+-- Runs of stores: what several writes one after the other leave is one write of all their octets.
+-- Assumes nothing.
+use Prim.Native.Nat.{ℕ, zero, suc, _+_, _-_, _*_, _/_, _%_, _≤_, _<_}
+use mathlib.Core.Path.{_≡_, refl, sym, ap, ap₂, _∙_, subst}
+use mathlib.Core.List.{List, [], _∷_, _++_}
+use mathlib.Core.Bool.{Bool, true, false}
+use native.Mathlib.Omega.{arith}
+use native.Mathlib.Nat.{add-zero, add-suc, suc-add}
+use native.Mathlib.Numerals.{add-one, towards-suc}
+use lib.ListN.{length, getD, set, drop, take, length-append, length-set}
+use lib.Seq.{sets, sets-eq, length-sets, take-suc, drop-cons}
+use lib.Dec.{ltb}
+use borrow.Author.Tests.{lt-ltb, le-ltb}
+use Rattle.coding.specs.Reader.{if_then_else, part}
+use Rattle.coding.specs.Contents.{every}
+use Rattle.coding.specs.Codec.{lengthOctets, Leaf, Run, prim, cons}
+use Rattle.coding.specs.Leaves.{width, digits, number}
+use Rattle.coding.specs.Written.{Wrote, lead, fullNumber}
+use Rattle.coding.proofs.Basic.{picked, unpicked}
+use Rattle.coding.proofs.Number.{length-digits}
+
+pub sets-append : (xs ys l : List ℕ) (i : ℕ) → sets l i (xs ++ ys) ≡ sets (sets l i xs) (i + length xs) ys
+sets-append [] ys l i = ap (λ (j : ℕ). sets l j ys) (sym (add-zero i))
+sets-append (x ∷ xs) ys l i = sets-append xs ys (set l i x) (suc i) ∙ ap (λ (j : ℕ). sets (sets (set l i x) (suc i) xs) j ys) (suc-add i (length xs) ∙ sym (add-suc i (length xs)))
+
+-- one write after another
+pub wrote-both : {l m n : List ℕ} {a b c : ℕ} {xs ys : List ℕ} → Wrote l m a xs b → Wrote m n b ys c → Wrote l n a (xs ++ ys) c
+wrote-both {l} {m} {n} {a} {b} {c} {xs} {ys} p q = record {
+  kept = q .kept ∙ p .kept;
+  place = omega (arith, p .place, q .place, length-append xs ys);
+  stored =
+      q .stored ∙ ap₂ (λ (k : List ℕ) (j : ℕ). sets k j ys) (p .stored) (p .place) ∙ sym (sets-append xs ys l a);
+}
+
+-- one octet more
+pub wrote-one : (l : List ℕ) (a x : ℕ) → Wrote l (set l a x) a (x ∷ []) (a + 1)
+wrote-one l a x = record { kept = length-set l a x; place = refl; stored = refl }
+
+-- one octet, and then the rest
+pub wrote-cons : {l m : List ℕ} {a x r : ℕ} {xs : List ℕ} → Wrote (set l a x) m (a + 1) xs r → Wrote l m a (x ∷ xs) r
+wrote-cons {l} {m} {a} {x} {r} {xs} p = record {
+  kept = p .kept ∙ length-set l a x;
+  place = omega (arith, p .place);
+  stored = p .stored ∙ ap (λ (j : ℕ). sets (set l a x) j xs) (add-one a);
+}
+
+-- the octets under another name
+pub wrote-as : {l m : List ℕ} {a b : ℕ} {xs ys : List ℕ} → xs ≡ ys → Wrote l m a xs b → Wrote l m a ys b
+wrote-as {l} {m} {a} {b} e p = subst (λ zs. Wrote l m a zs b) e p
+
+pub wrote-next : {l m : List ℕ} {a b c : ℕ} {xs : List ℕ} → b ≡ c → Wrote l m a xs b → Wrote l m a xs c
+wrote-next {l} {m} {a} {b} {c} {xs} e p = subst (λ k. Wrote l m a xs k) e p
+
+-- nothing yet
+pub wrote-none : (l : List ℕ) (a : ℕ) → Wrote l l a [] (a + 0)
+wrote-none l a = record { kept = refl; place = refl; stored = refl }
+
+-- one more of a list that is copied
+pub wrote-octet : (l m : List ℕ) (a : ℕ) (s : List ℕ) (i : ℕ) → i < length s → Wrote l m a (take i s) (a + i)
+    → Wrote l (set m (a + i) (getD s i 0)) a (take (i + 1) s) (a + (i + 1))
+wrote-octet l m a s i h p =
+    wrote-next (omega arith)
+    (wrote-as (sym (take-suc s i 0 h) ∙ ap (λ (k : ℕ). take k s) (sym (add-one i))) (wrote-both p (wrote-one m (a + i) (getD s i 0))))
+
+-- straight-line stores
+pub wrote-2 : (l : List ℕ) (a x y : ℕ) → Wrote l (set (set l a x) (a + 1) y) a (x ∷ y ∷ []) (a + 2)
+wrote-2 l a x y = record { kept = simp length-set; place = refl; stored = simp towards-suc }
+
+pub wrote-3 : (l : List ℕ) (a x y z : ℕ) → Wrote l (set (set (set l a x) (a + 1) y) (a + 2) z) a (x ∷ y ∷ z ∷ []) (a + 3)
+wrote-3 l a x y z = record { kept = simp length-set; place = refl; stored = simp towards-suc }
+
+pub wrote-4 : (l : List ℕ) (a x y z w : ℕ) → Wrote l (set (set (set (set l a x) (a + 1) y) (a + 2) z) (a + 3) w) a (x ∷ y ∷ z ∷ w ∷ []) (a + 4)
+wrote-4 l a x y z w = record { kept = simp length-set; place = refl; stored = simp towards-suc }
+
+-- ---- tag and length octets
+
+pub lead-short : (tag n : ℕ) → n < 128 → lead tag n ≡ tag ∷ n ∷ []
+unfolding lead lengthOctets
+lead-short tag n h = ap (λ (xs : List ℕ). tag ∷ xs) (picked _ _ (lt-ltb n 128 h))
+
+pub lead-long : (tag n : ℕ) → 128 ≤ n → n < 256 → lead tag n ≡ tag ∷ 129 ∷ n ∷ []
+unfolding lead lengthOctets
+lead-long tag n l h = ap (λ (xs : List ℕ). tag ∷ xs) (unpicked _ _ (le-ltb n 128 l) ∙ picked _ _ (lt-ltb n 256 h))
+
+pub lead-length-short : (tag n : ℕ) → n < 128 → length (lead tag n) ≡ 2
+lead-length-short tag n h = ap length (lead-short tag n h)
+
+pub lead-length-long : (tag n : ℕ) → 128 ≤ n → n < 256 → length (lead tag n) ≡ 3
+lead-length-long tag n l h = ap length (lead-long tag n l h)
+
+pub lead-length : (tag n : ℕ) → 1 ≤ length (lead tag n)
+unfolding lead
+lead-length tag n = omega arith
+
+-- ---- a number's octets
+
+pub digits-one : (n : ℕ) → n % 256 ∷ [] ≡ digits 1 n
+unfolding digits
+digits-one n = ap (λ (d : ℕ). d ∷ []) (omega arith)
+
+pub wrote-width : {l m : List ℕ} {a r : ℕ} (k w n : ℕ) → k ≡ w → Wrote l m a (digits k n) r → Wrote l m a (digits w n) r
+wrote-width {l} {m} {a} {r} k w n e p = subst (λ (j : ℕ). Wrote l m a (digits j n) r) e p
+
+-- lead and octets of a number whose width is w
+pub wrote-number : {l m k : List ℕ} {a b r : ℕ} (tag n w : ℕ) → w ≡ width n → Wrote l m a (lead tag w) b → Wrote m k b (digits w n) r → Wrote l k a (fullNumber tag n) r
+unfolding fullNumber
+wrote-number tag n w e p q = wrote-as (ap (λ (j : ℕ). lead tag j ++ digits j n) e) (wrote-both p q)
+
+pub width-range : (n : ℕ) → (1 ≤ width n) × (width n ≤ 4)
+unfolding width
+width-range n = go (ltb n 0x80) (ltb n 0x8000) (ltb n 0x800000)
+  where
+    go : (t u v : Bool) → (1 ≤ if_then_else t 1 (if_then_else u 2 (if_then_else v 3 4))) × (if_then_else t 1 (if_then_else u 2 (if_then_else v 3 4)) ≤ 4)
+    go true u v = omega arith
+    go false true v = omega arith
+    go false false true = omega arith
+    go false false false = omega arith
+
+pub number-length : (tag n : ℕ) → length (fullNumber tag n) ≡ 2 + width n
+unfolding fullNumber
+number-length tag n =
+    omega (
+      arith,
+      length-append (lead tag (width n)) (digits (width n) n),
+      length-digits (width n) n,
+      lead-length-short tag (width n) (omega (arith, width-range n)),
+    )
+
+-- ---- elements
+
+-- an element is its lead and its contents
+pub prim-write : {A : Type 0} (tag : ℕ) (l : Leaf A) (x : A) → (prim tag l) .write x ≡ lead tag (length (l .write x)) ++ l .write x
+unfolding prim lead
+prim-write tag l x = refl
+
+pub cons-write : {A : Type 0} (tag : ℕ) (f : Run A) (x : A) → (cons tag f) .write x ≡ lead tag (length (f .write x)) ++ f .write x
+unfolding cons lead
+cons-write tag f x = refl
+
+pub number-write : (tag low high n : ℕ) → (prim tag (number low high)) .write n ≡ fullNumber tag n
+unfolding number fullNumber
+number-write tag low high n = prim-write tag (number low high) n ∙ ap (λ (k : ℕ). lead tag k ++ digits (width n) n) (length-digits (width n) n)
+
+-- a lead that says what then is written
+pub wrote-element : {l m n : List ℕ} {a b r : ℕ} (tag k : ℕ) {w : List ℕ} → k ≡ length w → Wrote l m a (lead tag k) b → Wrote m n b w r → Wrote l n a (lead tag (length w) ++ w) r
+wrote-element tag k {w} e p q = wrote-as (ap (λ (j : ℕ). lead tag j ++ w) e) (wrote-both p q)
+
+-- ---- every octet of a part
+
+module _ (ok : ℕ → Bool) (s : List ℕ) (i to : ℕ) where
+  part-cons : i < to → to ≤ length s → part s i to ≡ getD s i 0 ∷ part s (i + 1) to
+  unfolding part
+  part-cons h l =
+      let e : to - i ≡ suc (to - (i + 1)) = omega arith in
+      ap₂ (λ (k : ℕ) (ys : List ℕ). take k ys) e (drop-cons s i 0 (omega arith))
+      ∙ ap (λ (j : ℕ). getD s i 0 ∷ take (to - (i + 1)) (drop j s)) (sym (add-one i))
+
+  pub every-step : i < to → to ≤ length s → ok (getD s i 0) ≡ true → every ok (part s i to) ≡ every ok (part s (i + 1) to)
+  unfolding every
+  every-step h l o = ap (every ok) (part-cons h l) ∙ picked _ _ o
+
+  pub every-stop : i < to → to ≤ length s → ok (getD s i 0) ≡ false → every ok (part s i to) ≡ false
+  unfolding every
+  every-stop h l o = ap (every ok) (part-cons h l) ∙ unpicked _ _ o
+
+  pub every-end : i ≡ to → every ok (part s i to) ≡ true
+  unfolding every part
+  every-end e = let z : to - i ≡ 0 = omega (arith, e) in ap (λ (k : ℕ). every ok (take k (drop i s))) z

@@ -1,0 +1,106 @@
+use borrow.Author.Needs.{needs}
+use native.Mathlib.Omega.{arith}
+use borrow.Author.Tests.{le-ltb, lt-ltb, le-leb, lt-leb, eq-eqb, ne-eqb}
+use Prim.Native.Nat.{_+_, _≤_, _<_}
+use mathlib.Core.Path.{_≡_, sym, _∙_}
+use mathlib.Core.Bool.{true, false}
+use Rattle.coding.specs.Contents.{natural, numberFrom, negative, shortest}
+use Rattle.coding.specs.Reader.{part}
+use Rattle.coding.specs.Shown.{verdict}
+use Rattle.coding.proofs.natural_in.Statement.{statement}
+use Rattle.coding.proofs.natural_in.Tie as tie
+use Rattle.coding.proofs.natural_in.Reads as reads
+use Rattle.coding.proofs.natural_in.Lts as lts
+use Rattle.coding.proofs.is_negative.Reads as is-negative-reads
+use Rattle.coding.proofs.is_shortest.Reads as is-shortest-reads
+use Rattle.coding.proofs.magnitude.Reads as magnitude-reads
+
+-- src/lib.rt:194:8
+is-shortest-requires : tie.Need-is-shortest-requires
+is-shortest-requires c κs = search needs
+
+-- src/lib.rt:195:12
+is-negative-requires : tie.Need-is-negative-requires
+is-negative-requires c κs = search needs
+
+-- src/lib.rt:196:13
+returns : tie.Need-returns
+unfolding natural verdict
+returns c =
+    let d = c .before .before .before in
+    (simp (sym (d .is-shortest .ensures) ∙ c .before .before .if1 .taken, sym (c .before .is-negative .ensures) ∙ c .if2 .taken), omega arith)
+
+-- src/lib.rt:198:13
+magnitude-requires : tie.Need-magnitude-requires
+magnitude-requires c κs = search needs
+
+-- src/lib.rt:200:13
+returns-2 : tie.Need-returns-2
+unfolding natural verdict
+returns-2 c =
+    let d = c .before .before .before .before .before in
+    let a = d .before .before in
+    let N = numberFrom 0 (part (a .args .s .now) (a .args .start) (a .args .stop)) in
+    let h : N < a .args .low = omega arith in (
+      simp (
+        sym (d .is-shortest .ensures) ∙ c .before .before .before .before .if1 .taken,
+        sym (c .before .before .before .is-negative .ensures) ∙ c .before .before .if2 .left,
+        lt-leb _ _ h,
+      ),
+      omega arith,
+    )
+
+-- src/lib.rt:203:13
+returns-3 : tie.Need-returns-3
+unfolding natural verdict
+returns-3 c =
+    let d = c .before .before .before .before .before .before in
+    let a = d .before .before in
+    let N = numberFrom 0 (part (a .args .s .now) (a .args .start) (a .args .stop)) in
+    let h : a .args .low ≤ N = omega arith in
+    let k : a .args .high < N = omega arith in (
+      simp (
+        sym (d .is-shortest .ensures) ∙ c .before .before .before .before .before .if1 .taken,
+        sym (c .before .before .before .before .is-negative .ensures) ∙ c .before .before .before .if2 .left,
+        le-leb _ _ h,
+        lt-leb _ _ k,
+      ),
+      omega arith,
+    )
+
+-- src/lib.rt:205:9
+returns-4 : tie.Need-returns-4
+unfolding natural verdict
+returns-4 c =
+    let d = c .before .before .before .before .before .before in
+    let a = d .before .before in
+    let N = numberFrom 0 (part (a .args .s .now) (a .args .start) (a .args .stop)) in
+    let h : a .args .low ≤ N = omega arith in
+    let k : N ≤ a .args .high = omega arith in
+    let e : c .before .before .magnitude .result ≡ N = omega arith in (
+      simp (
+        sym (d .is-shortest .ensures) ∙ c .before .before .before .before .before .if1 .taken,
+        sym (c .before .before .before .before .is-negative .ensures) ∙ c .before .before .before .if2 .left,
+        le-leb _ _ h,
+        le-leb _ _ k,
+      ) (rw e),
+      omega arith,
+    )
+
+-- src/lib.rt:189:1
+returns-5 : tie.Need-returns-5
+unfolding natural verdict
+returns-5 c = (simp (sym (c .before .is-shortest .ensures) ∙ c .if1 .left), omega arith)
+
+pub natural-in-spec : {M : Type 1} → statement M
+natural-in-spec =
+    tie.close
+    (tie.spec
+    is-shortest-requires
+    is-negative-requires
+    returns
+    magnitude-requires
+    returns-2
+    returns-3
+    returns-4
+    returns-5)

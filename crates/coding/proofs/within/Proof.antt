@@ -1,0 +1,46 @@
+use borrow.Author.Needs.{needs}
+use borrow.Author.Tests.{le-ltb, lt-ltb, le-leb, lt-leb, eq-eqb, ne-eqb}
+use Prim.Native.Nat.{_+_, _≤_, _<_}
+use native.Mathlib.Omega.{arith}
+use Rattle.coding.specs.Reader.{extent}
+use Rattle.coding.specs.Shown.{shown}
+use Rattle.coding.proofs.within.Statement.{statement}
+use Rattle.coding.proofs.within.Tie as tie
+use Rattle.coding.proofs.within.Reads as reads
+use Rattle.coding.proofs.within.Lts as lts
+use Rattle.coding.proofs.halted.Reads as halted-reads
+
+-- src/lib.rt:59:13
+sub-if1 : tie.Need-sub-if1
+sub-if1 c = search needs
+
+-- src/lib.rt:63:42
+add-t8 : tie.Need-add-t8
+add-t8 c = search needs
+
+-- src/lib.rt:64:19
+add-t10 : tie.Need-add-t10
+add-t10 c = search needs
+
+-- src/lib.rt:67:9
+halted-requires : tie.Need-halted-requires
+halted-requires c κs = search needs
+
+-- src/lib.rt:54:1
+returns : tie.Need-returns
+unfolding extent shown
+returns c =
+    let a = c .before .args in
+    let h : a .start + a .n ≤ a .end = omega arith in
+    (simp (le-leb _ _ h), omega arith)
+
+-- src/lib.rt:54:1
+returns-2 : tie.Need-returns-2
+unfolding extent shown
+returns-2 c =
+    let a = c .before .before .args in
+    let h : a .end < a .start + a .n = omega arith in
+    rw (c .halted .ensures) (simp (lt-leb _ _ h), omega arith)
+
+pub within-spec : {M : Type 1} → statement M
+within-spec = tie.close (tie.spec sub-if1 add-t8 add-t10 halted-requires returns returns-2)

@@ -1,0 +1,51 @@
+-- What a primitive element's contents may be.
+use Prim.Native.Nat.{ℕ, _+_, _*_}
+use mathlib.Core.List.{List, [], _∷_}
+use mathlib.Core.Bool.{Bool, true, false, _&&_, _||_}
+use lib.ListN.{length}
+use lib.Dec.{ltb, leb, eqb}
+use Rattle.coding.specs.Reader.{if_then_else, Fault, Judged}
+
+-- the number that octets say, high first
+unfoldable pub numberFrom : ℕ → List ℕ → ℕ
+numberFrom n [] = n
+numberFrom n (x ∷ xs) = numberFrom (n * 256 + x) xs
+
+-- two's complement: the first bit is the sign
+unfoldable pub negative : List ℕ → Bool
+negative [] = false
+negative (x ∷ xs) = leb 0x80 x
+
+-- one octet, or more whose first nine bits are not all equal
+unfoldable pub shortest : List ℕ → Bool
+shortest [] = false
+shortest (x ∷ []) = true
+shortest (x ∷ y ∷ xs) =
+    if_then_else (eqb x 0) (leb 0x80 y) (if_then_else (eqb x 0xff) (ltb y 0x80) true)
+
+-- INTEGER or ENUMERATED from `low` to `high`, none below 0
+unfoldable pub natural : ℕ → ℕ → List ℕ → Judged ℕ
+natural low high xs =
+    if_then_else (shortest xs)
+    (if_then_else (negative xs) (Judged.bad Fault.contents)
+    (if_then_else (leb low (numberFrom 0 xs))
+    (if_then_else (leb (numberFrom 0 xs) high) (Judged.good (numberFrom 0 xs)) (Judged.bad Fault.contents))
+    (Judged.bad Fault.contents)))
+    (Judged.bad Fault.shortest)
+
+-- every octet passes
+unfoldable pub every : (ℕ → Bool) → List ℕ → Bool
+every ok [] = true
+every ok (x ∷ xs) = if_then_else (ok x) (every ok xs) false
+
+-- a string of `low` to `high` octets that all pass
+unfoldable pub text : ℕ → ℕ → (ℕ → Bool) → List ℕ → Judged (List ℕ)
+text low high ok xs =
+    if_then_else (ltb (length xs) low) (Judged.bad (if_then_else (eqb (length xs) 0) Fault.shortest Fault.contents))
+    (if_then_else (ltb high (length xs)) (Judged.bad Fault.contents)
+    (if_then_else (every ok xs) (Judged.good xs) (Judged.bad Fault.contents)))
+
+-- NULL
+unfoldable pub null : List ℕ → Judged (Unit {0})
+null [] = Judged.good tt
+null (x ∷ xs) = Judged.bad Fault.contents

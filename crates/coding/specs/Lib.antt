@@ -1,0 +1,7 @@
+pub mod Reader
+pub mod Contents
+pub mod Codec
+pub mod Leaves
+pub mod Shown
+pub mod Written
+pub mod Rows

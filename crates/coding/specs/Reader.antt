@@ -1,0 +1,164 @@
+-- How elements are read: a reader is given all the octets, a place, and the end of the enclosing element, and answers a value with the place
+-- after it, or the first fault with its place. Places count from the octets' start, so a fault names its octet whatever the depth.
+use Prim.Native.Nat.{ℕ, zero, suc, _+_, _-_, _*_}
+use mathlib.Core.List.{List, [], _∷_}
+use mathlib.Core.Bool.{Bool, true, false, _||_}
+use mathlib.Core.Option.{Option, none, some}
+use lib.ListN.{getD, take, drop}
+use lib.Dec.{ltb, leb, eqb}
+use Rattle.coding.specs.declared.Extent.{Extent}
+
+infixl 20 _>>=_
+abbrev pub if_then_else : {A : Type 0} → Bool → A → A → A
+if_then_else true a b = a
+if_then_else false a b = b
+
+-- Why a reading stops.
+--   missing     no element where one must be           (placed at the enclosing end)
+--   unexpected  another tag, or something left over    (placed at that tag, as all below)
+--   cut         length octets or contents run past the enclosing element
+--   form        a length octet of 80 or of 83 to FF
+--   shortest    an INTEGER's contents empty or not shortest
+--   contents    any other bad contents
+--   limit       an entry past its list's limit
+--   named n     refused by the number n of the paper that stands above
+pub data Fault : Type 0 where
+  missing unexpected cut form shortest contents limit : Fault
+  named : ℕ → Fault
+
+-- the numbers by which the code tells them; 0 is no fault
+abbrev pub code : Fault → ℕ
+code missing = 40
+code unexpected = 41
+code cut = 42
+code form = 2
+code shortest = 43
+code contents = 44
+code limit = 45
+code (named n) = 100 + n
+
+pub data Ans (A : Type 0) : Type 0 where
+  got : A → ℕ → Ans A
+  halt : Fault → ℕ → Ans A
+
+abbrev pub Reader : Type 0 → Type 0
+Reader A = List ℕ → ℕ → ℕ → Ans A
+
+-- what follows an answer: go on from its place, or stay with its fault
+unfoldable pub after : {A B : Type 0} → Ans A → (A → ℕ → Ans B) → Ans B
+after (got v next) f = f v next
+after (halt w p) f = halt w p
+
+abbrev pub _>>=_ : {A B : Type 0} → Reader A → (A → Reader B) → Reader B
+_>>=_ r f s at end = after (r s at end) (λ v next. f v s next end)
+
+abbrev pub pure : {A : Type 0} → A → Reader A
+pure v s at end = got v at
+
+-- Tags. The next tag is none at the end of the enclosing element, which no tag equals.
+unfoldable pub tagged : List ℕ → ℕ → ℕ → ℕ → Bool
+tagged s at end tag = if_then_else (ltb at end) (eqb (getD s at 0) tag) false
+
+-- one of the tags
+unfoldable pub has : List ℕ → ℕ → Bool
+has [] o = false
+has (t ∷ ts) o = eqb o t || has ts o
+
+-- nothing that may stand here does: missing at the end, else an unexpected tag
+unfoldable pub neither : {A : Type 0} → Reader A
+neither s at end = if_then_else (ltb at end) (halt unexpected at) (halt missing end)
+
+-- by the next tag: this, or else that
+unfoldable pub choice : {A : Type 0} → ℕ → Reader A → Reader A → Reader A
+choice tag this that s at end = if_then_else (tagged s at end tag) (this s at end) (that s at end)
+
+-- Length octets at a place, of the element whose tag is at `tag`: the contents' extent and the place after the element.
+unfoldable pub extent : ℕ → ℕ → ℕ → ℕ → Ans Extent
+extent tag start n end =
+    if_then_else (leb (start + n) end) (got (record { start = start; stop = start + n }) (start + n)) (halt cut tag)
+
+unfoldable pub lengthAt : ℕ → Reader Extent
+lengthAt tag s at end =
+    if_then_else (leb end at) (halt cut tag)
+    (if_then_else (ltb (getD s at 0) 0x80) (extent tag (at + 1) (getD s at 0) end)
+    (if_then_else (eqb (getD s at 0) 0x81)
+    (if_then_else (ltb end (at + 2)) (halt cut tag) (extent tag (at + 2) (getD s (at + 1) 0) end))
+    (if_then_else (eqb (getD s at 0) 0x82)
+    (if_then_else (ltb end (at + 3)) (halt cut tag)
+    (extent tag (at + 3) (getD s (at + 1) 0 * 256 + getD s (at + 2) 0) end))
+    (halt form tag))))
+
+-- An element's tag and length octets.
+unfoldable pub opened : ℕ → Reader Extent
+opened tag = choice tag (λ s at end. lengthAt at s (at + 1) end) neither
+
+-- the same answer with its fault told otherwise
+unfoldable pub blamed : {A : Type 0} → (Fault → Fault) → Ans A → Ans A
+blamed m (got v next) = got v next
+blamed m (halt w p) = halt (m w) p
+
+-- nothing over
+unfoldable pub closed : {A : Type 0} → A → ℕ → ℕ → ℕ → Ans A
+closed v at end next = if_then_else (eqb at end) (got v next) (halt unexpected at)
+
+unfoldable pub constructed : {A : Type 0} → ℕ → Reader A → Reader A
+constructed tag body s at end =
+    after (opened tag s at end) (λ e next.
+    after (body s (e .start) (e .stop)) (λ v last.
+    closed v last (e .stop) next))
+
+-- An element that stands alone: its tag, its length octets, its end and that nothing comes after it are judged before its contents.
+unfoldable pub entered : ℕ → (Fault → Fault) → Fault → Reader Extent
+entered tag m over s at end =
+    after (blamed m (opened tag s at end)) (λ e next. if_then_else (eqb next end) (got e next) (halt over next))
+
+-- The same where the tag is one of a list.
+unfoldable pub enteredAny : List ℕ → (Fault → Fault) → Fault → Reader Extent
+enteredAny tags m over s at end =
+    if_then_else (leb end at) (halt (m missing) end)
+    (if_then_else (has tags (getD s at 0))
+    (after (blamed m (lengthAt at s (at + 1) end)) (λ e next. if_then_else (eqb next end) (got e next) (halt over next)))
+    (halt (m unexpected) at))
+
+-- A primitive element's contents are judged as a list of octets.
+pub data Judged (A : Type 0) : Type 0 where
+  good : A → Judged A
+  bad : Fault → Judged A
+
+unfoldable pub part : List ℕ → ℕ → ℕ → List ℕ
+part s start stop = take (stop - start) (drop start s)
+
+-- the same contents for another type
+unfoldable pub mapped : {A B : Type 0} → (A → B) → Judged A → Judged B
+mapped f (good v) = good (f v)
+mapped f (bad w) = bad w
+
+-- the same contents where only some values pass
+unfoldable pub narrowed : {A : Type 0} → (A → Bool) → Judged A → Judged A
+narrowed ok (good v) = if_then_else (ok v) (good v) (bad contents)
+narrowed ok (bad w) = bad w
+
+unfoldable pub judged : {A : Type 0} → Judged A → ℕ → ℕ → Ans A
+judged (good v) tag next = got v next
+judged (bad w) tag next = halt w tag
+
+unfoldable pub primitive : {A : Type 0} → ℕ → (List ℕ → Judged A) → Reader A
+primitive tag judge s at end = after (opened tag s at end) (λ e next. judged (judge (part s (e .start) (e .stop))) at next)
+
+-- An optional element is absent when its tag does not come next.
+unfoldable pub optional : {A : Type 0} → ℕ → Reader A → Reader (Option A)
+optional tag r = choice tag (r >>= (λ v. pure (some v))) (pure none)
+
+-- Entries to the end of the enclosing element, at most as many as `most`; each begins with the tag.
+unfoldable pub entries : {A : Type 0} → ℕ → ℕ → Reader A → Reader (List A)
+entries tag zero entry s at end =
+    if_then_else (leb end at) (got [] at) (if_then_else (tagged s at end tag) (halt limit at) (halt unexpected at))
+entries tag (suc most) entry s at end =
+    let rest : Ans (List _) =
+    after (entry s at end) (λ v next. after (entries tag most entry s next end) (λ vs last. got (v ∷ vs) last)) in
+    if_then_else (leb end at) (got [] at) rest
+
+-- A list of one entry or more.
+unfoldable pub listOf : {A : Type 0} → ℕ → ℕ → Reader A → Reader (List A)
+listOf tag most entry s at end =
+    if_then_else (leb end at) (halt missing end) (entries tag most entry s at end)

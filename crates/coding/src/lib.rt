@@ -1,0 +1,544 @@
+// Reading elements of the basic encoding rules.
+//
+// Each reader is given all the octets, a place and the end of the enclosing element. Its answer is a struct: a fault's number, or 0;
+// the fault's place; the value; the place after it. After a fault the value and the next place are zero.
+ghost use mathlib.Core.Path.{_≡_};
+ghost use mathlib.Core.Bool.{Bool, true, false};
+ghost use Prim.Native.Nat.{_+_, _*_, _≤_, _<_, min};
+ghost use lib.ListN.{length, take};
+ghost use Rattle.coding.specs.Reader.{tagged, neither, extent, lengthAt, opened, closed, primitive, part};
+ghost use Rattle.coding.specs.Contents.{natural, shortest, negative, numberFrom};
+ghost use Rattle.coding.specs.Codec.{prim};
+ghost use Rattle.coding.specs.Leaves.{number, nullLeaf, given, signed16, identifier, width, digits};
+ghost use Rattle.coding.specs.Shown.{shown, verdict};
+ghost use Rattle.coding.specs.Written.{Wrote, lead, fullNumber};
+ghost use Rattle.coding.specs.Contents.{every};
+ghost use lib.Dec.{ltb};
+
+// The contents of an element: from start up to stop.
+pub struct Extent {
+    pub start: usize,
+    pub stop: usize,
+}
+
+pub struct Opened {
+    pub fault: u8,
+    pub place: usize,
+    pub value: Extent,
+    pub next: usize,
+}
+
+fn wide(x: u8) -> usize
+    ensures { λ r. ⌜ r ≡ x ⌝ }
+    ensures small { λ r. ⌜ r < 256 ⌝ }
+{
+    x as usize
+}
+
+// Whether the tag comes next.
+pub fn is_tag(s: &[u8], at: usize, end: usize, tag: u8) -> bool
+    requires { ⌜ end ≤ length (now s) ⌝ }
+    ensures { λ r. ⌜ r ≡ tagged (now (s .entry)) at end tag ⌝ }
+{
+    if end <= at {
+        return false;
+    }
+    s[at] == tag
+}
+
+fn halted(fault: u8, place: usize) -> Opened
+    ensures { λ r. ⌜ r ≡ record { fault = fault; place = place; value = record { start = 0; stop = 0 }; next = 0 } ⌝ }
+{
+    Opened {
+        fault,
+        place,
+        value: Extent { start: 0, stop: 0 },
+        next: 0,
+    }
+}
+
+// Contents of n octets, inside the enclosing element.
+fn within(tag: usize, start: usize, n: usize, end: usize) -> Opened
+    requires { ⌜ start ≤ end ⌝ }
+    ensures { λ r. ⌜ (r .fault, r .place, r .value, r .next) ≡ shown (record { start = 0; stop = 0 }) (extent tag start n end) ⌝ }
+    ensures inside { λ r. ⌜ (r .value .start ≤ r .value .stop) × (r .value .stop ≤ end) ⌝ }
+{
+    if n <= end - start {
+        Opened {
+            fault: 0,
+            place: 0,
+            value: Extent {
+                start,
+                stop: start + n,
+            },
+            next: start + n,
+        }
+    } else {
+        halted(42, tag)
+    }
+}
+
+// The length octets at a place, of the element whose tag is at tag.
+fn length_at(s: &[u8], tag: usize, at: usize, end: usize) -> Opened
+    requires { ⌜ end ≤ length (now s) ⌝ }
+    ensures { λ r. ⌜ (r .fault, r .place, r .value, r .next) ≡ shown (record { start = 0; stop = 0 }) (lengthAt tag (now (s .entry)) at end) ⌝ }
+    ensures inside { λ r. ⌜ (r .value .start ≤ r .value .stop) × (r .value .stop ≤ end) ⌝ }
+{
+    if end <= at {
+        return halted(42, tag);
+    }
+    let first = wide(s[at]);
+    if first < 0x80 {
+        return within(tag, at + 1, first, end);
+    }
+    if first == 0x81 {
+        if end < at + 2 {
+            return halted(42, tag);
+        }
+        let n = wide(s[at + 1]);
+        return within(tag, at + 2, n, end);
+    }
+    if first == 0x82 {
+        if end < at + 3 {
+            return halted(42, tag);
+        }
+        let n = wide(s[at + 1]) * 256 + wide(s[at + 2]);
+        return within(tag, at + 3, n, end);
+    }
+    halted(2, tag)
+}
+
+// An element's tag and length octets.
+pub fn open_at(s: &[u8], at: usize, end: usize, tag: u8) -> Opened
+    requires { ⌜ end ≤ length (now s) ⌝ }
+    ensures { λ r. ⌜ (r .fault, r .place, r .value, r .next) ≡ shown (record { start = 0; stop = 0 }) (opened tag (now (s .entry)) at end) ⌝ }
+    ensures inside { λ r. ⌜ (r .value .start ≤ r .value .stop) × (r .value .stop ≤ end) ⌝ }
+{
+    if end <= at {
+        return halted(40, end);
+    }
+    if s[at] != tag {
+        return halted(41, at);
+    }
+    length_at(s, at, at + 1, end)
+}
+
+// Contents judged by themselves: a fault's number, or 0, and the value.
+pub struct Verdict {
+    pub fault: u8,
+    pub value: u32,
+}
+
+pub struct NumberRead {
+    pub fault: u8,
+    pub place: usize,
+    pub value: u32,
+    pub next: usize,
+}
+
+// Whether contents are one octet, or more whose first nine bits are not all equal.
+pub fn is_shortest(s: &[u8], start: usize, stop: usize) -> bool
+    requires { ⌜ stop ≤ length (now s) ⌝ }
+    ensures { λ r. ⌜ r ≡ shortest (part (now (s .entry)) start stop) ⌝ }
+{
+    if stop <= start {
+        return false;
+    }
+    if stop == start + 1 {
+        return true;
+    }
+    let x = s[start];
+    let y = s[start + 1];
+    if x == 0 {
+        return 0x80 <= y;
+    }
+    if x == 0xff {
+        return y < 0x80;
+    }
+    true
+}
+
+pub fn is_negative(s: &[u8], start: usize, stop: usize) -> bool
+    requires { ⌜ stop ≤ length (now s) ⌝ }
+    ensures { λ r. ⌜ r ≡ negative (part (now (s .entry)) start stop) ⌝ }
+{
+    if stop <= start {
+        return false;
+    }
+    0x80 <= s[start]
+}
+
+// One octet more, held at 2^24.
+fn shifted(n: u32, x: u8) -> u32
+    ensures { λ r. ⌜ r ≡ min (n * 256 + x) 16777216 ⌝ }
+{
+    if n < 65536 {
+        n * 256 + (x as u32)
+    } else {
+        16777216
+    }
+}
+
+// The number that octets say, held at 2^24.
+pub fn magnitude(s: &[u8], start: usize, stop: usize) -> u32
+    requires { ⌜ (start ≤ stop) × (stop ≤ length (now s)) ⌝ }
+    ensures { λ r. ⌜ r ≡ min (numberFrom 0 (part (now (s .entry)) start stop)) 16777216 ⌝ }
+{
+    let mut n: u32 = 0;
+    let mut i = start;
+    while i < stop {
+        n = shifted(n, s[i]);
+        i += 1;
+    }
+    n
+}
+
+// INTEGER or ENUMERATED contents from low to high.
+fn natural_in(s: &[u8], start: usize, stop: usize, low: u32, high: u32) -> Verdict
+    requires { ⌜ (start ≤ stop) × (stop ≤ length (now s)) ⌝ }
+    requires { ⌜ (low < 16777216) × (high < 16777216) ⌝ }
+    ensures { λ r. ⌜ (r .fault, r .value) ≡ verdict 0 (natural low high (part (now (s .entry)) start stop)) ⌝ }
+    ensures bounded { λ r. ⌜ r .value ≤ high ⌝ }
+{
+    if is_shortest(s, start, stop) {
+        if is_negative(s, start, stop) {
+            return Verdict {
+                fault: 44,
+                value: 0,
+            };
+        }
+        let n = magnitude(s, start, stop);
+        if n < low {
+            return Verdict {
+                fault: 44,
+                value: 0,
+            };
+        }
+        if high < n {
+            return Verdict {
+                fault: 44,
+                value: 0,
+            };
+        }
+        return Verdict { fault: 0, value: n };
+    }
+    Verdict {
+        fault: 43,
+        value: 0,
+    }
+}
+
+// An INTEGER or ENUMERATED element from low to high.
+pub fn natural_at(s: &[u8], at: usize, end: usize, tag: u8, low: u32, high: u32) -> NumberRead
+    requires { ⌜ end ≤ length (now s) ⌝ }
+    requires { ⌜ (low < 16777216) × (high < 16777216) ⌝ }
+    ensures { λ r. ⌜ (r .fault, r .place, r .value, r .next) ≡ shown 0 ((prim tag (number low high)) .read (now (s .entry)) at end) ⌝ }
+    ensures bounded { λ r. ⌜ r .value ≤ high ⌝ }
+{
+    let e = open_at(s, at, end, tag);
+    if e.fault != 0 {
+        return NumberRead {
+            fault: e.fault,
+            place: e.place,
+            value: 0,
+            next: 0,
+        };
+    }
+    let v = natural_in(s, e.value.start, e.value.stop, low, high);
+    if v.fault != 0 {
+        return NumberRead {
+            fault: v.fault,
+            place: at,
+            value: 0,
+            next: 0,
+        };
+    }
+    NumberRead {
+        fault: 0,
+        place: 0,
+        value: v.value,
+        next: e.next,
+    }
+}
+
+// A number that may be absent.
+pub struct Chosen {
+    pub given: bool,
+    pub value: u32,
+}
+
+pub struct ChosenRead {
+    pub fault: u8,
+    pub place: usize,
+    pub value: Chosen,
+    pub next: usize,
+}
+
+// An optional INTEGER or ENUMERATED element from low to high.
+pub fn chosen_at(s: &[u8], at: usize, end: usize, tag: u8, low: u32, high: u32) -> ChosenRead
+    requires { ⌜ end ≤ length (now s) ⌝ }
+    requires { ⌜ (low < 16777216) × (high < 16777216) ⌝ }
+    ensures { λ r. ⌜ (r .fault, r .place, r .value, r .next) ≡ shown (record { given = false; value = 0 }) ((given tag low high) .read (now (s .entry)) at end) ⌝ }
+    ensures bounded { λ r. ⌜ r .value .value ≤ high ⌝ }
+{
+    let absent = Chosen {
+        given: false,
+        value: 0,
+    };
+    if is_tag(s, at, end, tag) {
+        let n = natural_at(s, at, end, tag, low, high);
+        if n.fault != 0 {
+            return ChosenRead {
+                fault: n.fault,
+                place: n.place,
+                value: absent,
+                next: 0,
+            };
+        }
+        return ChosenRead {
+            fault: 0,
+            place: 0,
+            value: Chosen {
+                given: true,
+                value: n.value,
+            },
+            next: n.next,
+        };
+    }
+    ChosenRead {
+        fault: 0,
+        place: 0,
+        value: absent,
+        next: at,
+    }
+}
+
+// A NULL element's answer has no value.
+pub struct Empty {
+    pub fault: u8,
+    pub place: usize,
+    pub next: usize,
+}
+
+pub fn null_at(s: &[u8], at: usize, end: usize, tag: u8) -> Empty
+    requires { ⌜ end ≤ length (now s) ⌝ }
+    ensures { λ r. ⌜ (r .fault, r .place, tt, r .next) ≡ shown (tt {0}) ((prim tag nullLeaf) .read (now (s .entry)) at end) ⌝ }
+{
+    let e = open_at(s, at, end, tag);
+    if e.fault != 0 {
+        return Empty {
+            fault: e.fault,
+            place: e.place,
+            next: 0,
+        };
+    }
+    if e.value.start != e.value.stop {
+        return Empty {
+            fault: 44,
+            place: at,
+            next: 0,
+        };
+    }
+    Empty {
+        fault: 0,
+        place: 0,
+        next: e.next,
+    }
+}
+
+// An identifier's contents: -32,768 to 32,767, as its pattern of 16 bits.
+fn identifier_in(s: &[u8], start: usize, stop: usize) -> Verdict
+    requires { ⌜ (start ≤ stop) × (stop ≤ length (now s)) ⌝ }
+    ensures { λ r. ⌜ (r .fault, r .value) ≡ verdict 0 (signed16 (part (now (s .entry)) start stop)) ⌝ }
+    ensures bounded { λ r. ⌜ r .value < 65536 ⌝ }
+{
+    if stop <= start {
+        return Verdict {
+            fault: 43,
+            value: 0,
+        };
+    }
+    let x = wide32(s[start]);
+    if stop == start + 1 {
+        if x < 0x80 {
+            return Verdict { fault: 0, value: x };
+        }
+        return Verdict {
+            fault: 0,
+            value: 0xff00 + x,
+        };
+    }
+    if !is_shortest(s, start, stop) {
+        return Verdict {
+            fault: 43,
+            value: 0,
+        };
+    }
+    if stop == start + 2 {
+        let y = wide32(s[start + 1]);
+        return Verdict {
+            fault: 0,
+            value: x * 256 + y,
+        };
+    }
+    Verdict {
+        fault: 44,
+        value: 0,
+    }
+}
+
+fn wide32(x: u8) -> u32
+    ensures { λ r. ⌜ r ≡ x ⌝ }
+    ensures small { λ r. ⌜ r < 256 ⌝ }
+{
+    x as u32
+}
+
+pub fn identifier_at(s: &[u8], at: usize, end: usize, tag: u8) -> NumberRead
+    requires { ⌜ end ≤ length (now s) ⌝ }
+    ensures { λ r. ⌜ (r .fault, r .place, r .value, r .next) ≡ shown 0 ((prim tag identifier) .read (now (s .entry)) at end) ⌝ }
+    ensures bounded { λ r. ⌜ r .value < 65536 ⌝ }
+{
+    let e = open_at(s, at, end, tag);
+    if e.fault != 0 {
+        return NumberRead {
+            fault: e.fault,
+            place: e.place,
+            value: 0,
+            next: 0,
+        };
+    }
+    let v = identifier_in(s, e.value.start, e.value.stop);
+    if v.fault != 0 {
+        return NumberRead {
+            fault: v.fault,
+            place: at,
+            value: 0,
+            next: 0,
+        };
+    }
+    NumberRead {
+        fault: 0,
+        place: 0,
+        value: v.value,
+        next: e.next,
+    }
+}
+
+// The octets of a shortest number.
+pub fn width_of(n: u32) -> usize
+    ensures { λ r. ⌜ r ≡ width n ⌝ }
+{
+    if n < 0x80 {
+        return 1;
+    }
+    if n < 0x8000 {
+        return 2;
+    }
+    if n < 0x800000 {
+        return 3;
+    }
+    4
+}
+
+// Tag and shortest length octets.
+pub fn put_lead(buf: &mut [u8], at: usize, tag: u8, n: usize) -> usize
+    requires { ⌜ (n < 256) × (at + length (lead tag n) ≤ length (now buf)) ⌝ }
+    ensures { λ r. ⌜ Wrote (now (buf .entry)) (now (buf .exit)) at (lead tag n) r ⌝ }
+{
+    buf[at] = tag;
+    if n < 128 {
+        buf[at + 1] = n as u8;
+        return at + 2;
+    }
+    buf[at + 1] = 129;
+    buf[at + 2] = n as u8;
+    at + 3
+}
+
+// The low octet of a number; the two, three and four low octets, high first.
+fn put1(buf: &mut [u8], at: usize, n: u32) -> usize
+    requires { ⌜ at + 1 ≤ length (now buf) ⌝ }
+    ensures { λ r. ⌜ Wrote (now (buf .entry)) (now (buf .exit)) at (digits 1 n) r ⌝ }
+{
+    buf[at] = (n % 256) as u8;
+    at + 1
+}
+
+fn put2(buf: &mut [u8], at: usize, n: u32) -> usize
+    requires { ⌜ at + 2 ≤ length (now buf) ⌝ }
+    ensures { λ r. ⌜ Wrote (now (buf .entry)) (now (buf .exit)) at (digits 2 n) r ⌝ }
+{
+    buf[at] = (n / 256 % 256) as u8;
+    put1(buf, at + 1, n)
+}
+
+fn put3(buf: &mut [u8], at: usize, n: u32) -> usize
+    requires { ⌜ at + 3 ≤ length (now buf) ⌝ }
+    ensures { λ r. ⌜ Wrote (now (buf .entry)) (now (buf .exit)) at (digits 3 n) r ⌝ }
+{
+    buf[at] = (n / 65536 % 256) as u8;
+    put2(buf, at + 1, n)
+}
+
+fn put4(buf: &mut [u8], at: usize, n: u32) -> usize
+    requires { ⌜ at + 4 ≤ length (now buf) ⌝ }
+    ensures { λ r. ⌜ Wrote (now (buf .entry)) (now (buf .exit)) at (digits 4 n) r ⌝ }
+{
+    buf[at] = (n / 16777216 % 256) as u8;
+    put3(buf, at + 1, n)
+}
+
+fn put_digits(buf: &mut [u8], at: usize, w: usize, n: u32) -> usize
+    requires { ⌜ (1 ≤ w) × (w ≤ 4) × (at + w ≤ length (now buf)) ⌝ }
+    ensures { λ r. ⌜ Wrote (now (buf .entry)) (now (buf .exit)) at (digits w n) r ⌝ }
+{
+    if w == 1 {
+        return put1(buf, at, n);
+    }
+    if w == 2 {
+        return put2(buf, at, n);
+    }
+    if w == 3 {
+        return put3(buf, at, n);
+    }
+    put4(buf, at, n)
+}
+
+// An element that holds a number.
+pub fn put_number(buf: &mut [u8], at: usize, tag: u8, n: u32) -> usize
+    requires { ⌜ at + length (fullNumber tag n) ≤ length (now buf) ⌝ }
+    ensures { λ r. ⌜ Wrote (now (buf .entry)) (now (buf .exit)) at (fullNumber tag n) r ⌝ }
+{
+    let w = width_of(n);
+    let p = put_lead(buf, at, tag, w);
+    put_digits(buf, p, w, n)
+}
+
+// The first n octets of a string.
+pub fn put_octets(buf: &mut [u8], at: usize, s: &[u8], n: usize) -> usize
+    requires { ⌜ (n ≤ length (now s)) × (at + n ≤ length (now buf)) ⌝ }
+    ensures { λ r. ⌜ Wrote (now (buf .entry)) (now (buf .exit)) at (take n (now (s .entry))) r ⌝ }
+{
+    let mut i = 0;
+    while i < n {
+        buf[at + i] = s[i];
+        i += 1;
+    }
+    at + n
+}
+
+// Whether the octets from a place up to another are below a limit.
+pub fn below(s: &[u8], from: usize, to: usize, limit: u8) -> bool
+    requires { ⌜ (from ≤ to) × (to ≤ length (now s)) ⌝ }
+    ensures { λ r. ⌜ r ≡ every (λ x. ltb x limit) (part (now (s .entry)) from to) ⌝ }
+{
+    let mut i = from;
+    while i < to {
+        if limit <= s[i] {
+            return false;
+        }
+        i += 1;
+    }
+    true
+}
