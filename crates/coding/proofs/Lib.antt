@@ -18,3 +18,5 @@ pub mod Only
 pub mod Frames
 pub mod Own
 pub mod Rows
+pub mod Shortcut
+pub mod Small

@@ -5,3 +5,4 @@ pub mod Leaves
 pub mod Shown
 pub mod Written
 pub mod Rows
+pub mod Shortcut

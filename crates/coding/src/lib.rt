@@ -4,16 +4,18 @@
 // the fault's place; the value; the place after it. After a fault the value and the next place are zero.
 ghost use mathlib.Core.Path.{_≡_};
 ghost use mathlib.Core.Bool.{Bool, true, false};
-ghost use Prim.Native.Nat.{_+_, _*_, _≤_, _<_, min};
+ghost use mathlib.Core.List.{[], _∷_, _++_};
+ghost use Prim.Native.Nat.{ℕ, _+_, _*_, _≤_, _<_, min};
 ghost use lib.ListN.{length, take};
 ghost use Rattle.coding.specs.Reader.{tagged, neither, extent, lengthAt, opened, closed, primitive, part};
 ghost use Rattle.coding.specs.Contents.{natural, shortest, negative, numberFrom};
-ghost use Rattle.coding.specs.Codec.{prim};
+ghost use Rattle.coding.specs.Codec.{prim, lengthOctets};
 ghost use Rattle.coding.specs.Leaves.{number, nullLeaf, given, signed16, identifier, width, digits};
 ghost use Rattle.coding.specs.Shown.{shown, verdict};
 ghost use Rattle.coding.specs.Written.{Wrote, lead, fullNumber};
 ghost use Rattle.coding.specs.Contents.{every};
 ghost use lib.Dec.{ltb};
+ghost use Rattle.coding.specs.Shortcut.{Tiny, Short, tinyAt, shortAt, bareAt};
 
 // The contents of an element: from start up to stop.
 pub struct Extent {
@@ -79,7 +81,7 @@ fn within(tag: usize, start: usize, n: usize, end: usize) -> Opened
 }
 
 // The length octets at a place, of the element whose tag is at tag.
-fn length_at(s: &[u8], tag: usize, at: usize, end: usize) -> Opened
+pub fn length_at(s: &[u8], tag: usize, at: usize, end: usize) -> Opened
     requires { ⌜ end ≤ length (now s) ⌝ }
     ensures { λ r. ⌜ (r .fault, r .place, r .value, r .next) ≡ shown (record { start = 0; stop = 0 }) (lengthAt tag (now (s .entry)) at end) ⌝ }
     ensures inside { λ r. ⌜ (r .value .start ≤ r .value .stop) × (r .value .stop ≤ end) ⌝ }
@@ -108,8 +110,53 @@ fn length_at(s: &[u8], tag: usize, at: usize, end: usize) -> Opened
     halted(2, tag)
 }
 
+// The length of contents where the element at a place has the tag, a length of one octet, and lies inside; 256 otherwise.
+pub fn short_length(s: &[u8], at: usize, end: usize, tag: u8) -> usize
+    requires { ⌜ end ≤ length (now s) ⌝ }
+    ensures { λ r. ⌜ r ≡ shortAt (now (s .entry)) at end tag ⌝ }
+    ensures found { λ r. ⌜ (r ≤ 256) × ((r < 128) → Short (now (s .entry)) at end tag r) ⌝ }
+{
+    if end <= at {
+        return 256;
+    }
+    if end - at < 2 {
+        return 256;
+    }
+    if s[at] != tag {
+        return 256;
+    }
+    let n = wide(s[at + 1]);
+    if 128 <= n {
+        return 256;
+    }
+    if end - at - 2 < n {
+        return 256;
+    }
+    n
+}
+
 // An element's tag and length octets.
 pub fn open_at(s: &[u8], at: usize, end: usize, tag: u8) -> Opened
+    requires { ⌜ end ≤ length (now s) ⌝ }
+    ensures { λ r. ⌜ (r .fault, r .place, r .value, r .next) ≡ shown (record { start = 0; stop = 0 }) (opened tag (now (s .entry)) at end) ⌝ }
+    ensures inside { λ r. ⌜ (r .value .start ≤ r .value .stop) × (r .value .stop ≤ end) ⌝ }
+{
+    let n = short_length(s, at, end, tag);
+    if n < 128 {
+        let start = at + 2;
+        let stop = start + n;
+        return Opened {
+            fault: 0,
+            place: 0,
+            value: Extent { start, stop },
+            next: stop,
+        };
+    }
+    open_long(s, at, end, tag)
+}
+
+// The same, every length octet looked at in its turn.
+pub fn open_long(s: &[u8], at: usize, end: usize, tag: u8) -> Opened
     requires { ⌜ end ≤ length (now s) ⌝ }
     ensures { λ r. ⌜ (r .fault, r .place, r .value, r .next) ≡ shown (record { start = 0; stop = 0 }) (opened tag (now (s .entry)) at end) ⌝ }
     ensures inside { λ r. ⌜ (r .value .start ≤ r .value .stop) × (r .value .stop ≤ end) ⌝ }
@@ -228,6 +275,27 @@ fn natural_in(s: &[u8], start: usize, stop: usize, low: u32, high: u32) -> Verdi
     }
 }
 
+// The octet x where the element at a place is tag 01 x, inside; 256 otherwise.
+pub fn tiny(s: &[u8], at: usize, end: usize, tag: u8) -> usize
+    requires { ⌜ end ≤ length (now s) ⌝ }
+    ensures { λ r. ⌜ r ≡ tinyAt (now (s .entry)) at end tag ⌝ }
+    ensures found { λ r. ⌜ (r ≤ 256) × ((r < 256) → Tiny (now (s .entry)) at end tag r) ⌝ }
+{
+    if end <= at {
+        return 256;
+    }
+    if end - at < 3 {
+        return 256;
+    }
+    if s[at] != tag {
+        return 256;
+    }
+    if s[at + 1] != 1 {
+        return 256;
+    }
+    wide(s[at + 2])
+}
+
 // An INTEGER or ENUMERATED element from low to high.
 pub fn natural_at(s: &[u8], at: usize, end: usize, tag: u8, low: u32, high: u32) -> NumberRead
     requires { ⌜ end ≤ length (now s) ⌝ }
@@ -235,7 +303,30 @@ pub fn natural_at(s: &[u8], at: usize, end: usize, tag: u8, low: u32, high: u32)
     ensures { λ r. ⌜ (r .fault, r .place, r .value, r .next) ≡ shown 0 ((prim tag (number low high)) .read (now (s .entry)) at end) ⌝ }
     ensures bounded { λ r. ⌜ r .value ≤ high ⌝ }
 {
-    let e = open_at(s, at, end, tag);
+    let x = tiny(s, at, end, tag) as u32;
+    if x < 128 {
+        if low <= x {
+            if x <= high {
+                return NumberRead {
+                    fault: 0,
+                    place: 0,
+                    value: x,
+                    next: at + 3,
+                };
+            }
+        }
+    }
+    natural_long(s, at, end, tag, low, high)
+}
+
+// The same, by its octets of any number.
+pub fn natural_long(s: &[u8], at: usize, end: usize, tag: u8, low: u32, high: u32) -> NumberRead
+    requires { ⌜ end ≤ length (now s) ⌝ }
+    requires { ⌜ (low < 16777216) × (high < 16777216) ⌝ }
+    ensures { λ r. ⌜ (r .fault, r .place, r .value, r .next) ≡ shown 0 ((prim tag (number low high)) .read (now (s .entry)) at end) ⌝ }
+    ensures bounded { λ r. ⌜ r .value ≤ high ⌝ }
+{
+    let e = open_long(s, at, end, tag);
     if e.fault != 0 {
         return NumberRead {
             fault: e.fault,
@@ -286,7 +377,7 @@ pub fn chosen_at(s: &[u8], at: usize, end: usize, tag: u8, low: u32, high: u32) 
         value: 0,
     };
     if is_tag(s, at, end, tag) {
-        let n = natural_at(s, at, end, tag, low, high);
+        let n = natural_long(s, at, end, tag, low, high);
         if n.fault != 0 {
             return ChosenRead {
                 fault: n.fault,
@@ -320,11 +411,44 @@ pub struct Empty {
     pub next: usize,
 }
 
+// Whether the element at a place is tag 00, inside.
+pub fn bare(s: &[u8], at: usize, end: usize, tag: u8) -> bool
+    requires { ⌜ end ≤ length (now s) ⌝ }
+    ensures { λ r. ⌜ r ≡ bareAt (now (s .entry)) at end tag ⌝ }
+    ensures found { λ r. ⌜ ((r ≡ true) → Short (now (s .entry)) at end tag 0) ⌝ }
+{
+    if end <= at {
+        return false;
+    }
+    if end - at < 2 {
+        return false;
+    }
+    if s[at] != tag {
+        return false;
+    }
+    s[at + 1] == 0
+}
+
 pub fn null_at(s: &[u8], at: usize, end: usize, tag: u8) -> Empty
     requires { ⌜ end ≤ length (now s) ⌝ }
     ensures { λ r. ⌜ (r .fault, r .place, tt, r .next) ≡ shown (tt {0}) ((prim tag nullLeaf) .read (now (s .entry)) at end) ⌝ }
 {
-    let e = open_at(s, at, end, tag);
+    if bare(s, at, end, tag) {
+        return Empty {
+            fault: 0,
+            place: 0,
+            next: at + 2,
+        };
+    }
+    null_long(s, at, end, tag)
+}
+
+// The same, by its length octets of any form.
+pub fn null_long(s: &[u8], at: usize, end: usize, tag: u8) -> Empty
+    requires { ⌜ end ≤ length (now s) ⌝ }
+    ensures { λ r. ⌜ (r .fault, r .place, tt, r .next) ≡ shown (tt {0}) ((prim tag nullLeaf) .read (now (s .entry)) at end) ⌝ }
+{
+    let e = open_long(s, at, end, tag);
     if e.fault != 0 {
         return Empty {
             fault: e.fault,
@@ -399,7 +523,33 @@ pub fn identifier_at(s: &[u8], at: usize, end: usize, tag: u8) -> NumberRead
     ensures { λ r. ⌜ (r .fault, r .place, r .value, r .next) ≡ shown 0 ((prim tag identifier) .read (now (s .entry)) at end) ⌝ }
     ensures bounded { λ r. ⌜ r .value < 65536 ⌝ }
 {
-    let e = open_at(s, at, end, tag);
+    let x = tiny(s, at, end, tag) as u32;
+    if x < 128 {
+        return NumberRead {
+            fault: 0,
+            place: 0,
+            value: x,
+            next: at + 3,
+        };
+    }
+    if x < 256 {
+        return NumberRead {
+            fault: 0,
+            place: 0,
+            value: 0xff00 + x,
+            next: at + 3,
+        };
+    }
+    identifier_long(s, at, end, tag)
+}
+
+// The same, by its octets of any number.
+pub fn identifier_long(s: &[u8], at: usize, end: usize, tag: u8) -> NumberRead
+    requires { ⌜ end ≤ length (now s) ⌝ }
+    ensures { λ r. ⌜ (r .fault, r .place, r .value, r .next) ≡ shown 0 ((prim tag identifier) .read (now (s .entry)) at end) ⌝ }
+    ensures bounded { λ r. ⌜ r .value < 65536 ⌝ }
+{
+    let e = open_long(s, at, end, tag);
     if e.fault != 0 {
         return NumberRead {
             fault: e.fault,
@@ -526,6 +676,87 @@ pub fn put_octets(buf: &mut [u8], at: usize, s: &[u8], n: usize) -> usize
         i += 1;
     }
     at + n
+}
+
+// A NULL element.
+pub fn put_null(buf: &mut [u8], at: usize, tag: u8) -> usize
+    requires { ⌜ at + length (lead tag 0) ≤ length (now buf) ⌝ }
+    ensures { λ r. ⌜ Wrote (now (buf .entry)) (now (buf .exit)) at (lead tag 0) r ⌝ }
+{
+    put_lead(buf, at, tag, 0)
+}
+
+// An element of one octet.
+fn put_one(buf: &mut [u8], at: usize, tag: u8, x: u8) -> usize
+    requires { ⌜ at + 3 ≤ length (now buf) ⌝ }
+    ensures { λ r. ⌜ Wrote (now (buf .entry)) (now (buf .exit)) at (tag ∷ 1 ∷ x ∷ []) r ⌝ }
+{
+    buf[at] = tag;
+    buf[at + 1] = 1;
+    buf[at + 2] = x;
+    at + 3
+}
+
+// An element that holds a number of one octet.
+pub fn put_small(buf: &mut [u8], at: usize, tag: u8, x: u8) -> usize
+    requires { ⌜ (x < 128) × (at + length (fullNumber tag x) ≤ length (now buf)) ⌝ }
+    ensures { λ r. ⌜ Wrote (now (buf .entry)) (now (buf .exit)) at (fullNumber tag x) r ⌝ }
+{
+    put_one(buf, at, tag, x)
+}
+
+// How many octets an identifier's contents have.
+pub fn id_width(id: u16) -> usize
+    ensures { λ r. ⌜ r ≡ length (identifier .write id) ⌝ }
+    ensures few { λ r. ⌜ (1 ≤ r) × (r ≤ 2) ⌝ }
+{
+    if id < 0x80 {
+        return 1;
+    }
+    if 0xff80 <= id {
+        return 1;
+    }
+    2
+}
+
+// An element that holds an identifier.
+pub fn put_id(buf: &mut [u8], at: usize, tag: u8, id: u16) -> usize
+    requires { ⌜ at + length ((prim tag identifier) .write id) ≤ length (now buf) ⌝ }
+    ensures { λ r. ⌜ Wrote (now (buf .entry)) (now (buf .exit)) at ((prim tag identifier) .write id) r ⌝ }
+{
+    if id < 0x80 {
+        return put_one(buf, at, tag, id as u8);
+    }
+    if 0xff80 <= id {
+        return put_one(buf, at, tag, (id % 256) as u8);
+    }
+    buf[at] = tag;
+    buf[at + 1] = 2;
+    buf[at + 2] = (id / 256) as u8;
+    buf[at + 3] = (id % 256) as u8;
+    at + 4
+}
+
+// An element that holds the first n octets of a string.
+pub fn put_string(buf: &mut [u8], at: usize, tag: u8, s: &[u8], n: usize) -> usize
+    requires { ⌜ (n < 256) × (n ≤ length (now s)) ⌝ }
+    requires { ⌜ at + length (tag ∷ lengthOctets n ++ take n (now s)) ≤ length (now buf) ⌝ }
+    ensures { λ r. ⌜ Wrote (now (buf .entry)) (now (buf .exit)) at (tag ∷ lengthOctets n ++ take n (now (s .entry))) r ⌝ }
+{
+    let p = put_lead(buf, at, tag, n);
+    put_octets(buf, p, s, n)
+}
+
+// The size of an element whose contents have n octets.
+pub fn element_size(n: usize) -> usize
+    requires { ⌜ n < 256 ⌝ }
+    ensures { λ r. ⌜ ((tag : ℕ) → r ≡ length (lead tag n) + n) ⌝ }
+    ensures few { λ r. ⌜ (n + 2 ≤ r) × (r ≤ n + 3) ⌝ }
+{
+    if n < 128 {
+        return n + 2;
+    }
+    n + 3
 }
 
 // Whether the octets from a place up to another are below a limit.

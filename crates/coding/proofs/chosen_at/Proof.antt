@@ -9,15 +9,15 @@ use Rattle.coding.proofs.chosen_at.Tie as tie
 use Rattle.coding.proofs.chosen_at.Reads as reads
 use Rattle.coding.proofs.chosen_at.Lts as lts
 use Rattle.coding.proofs.is_tag.Reads as is-tag-reads
-use Rattle.coding.proofs.natural_at.Reads as natural-at-reads
+use Rattle.coding.proofs.natural_long.Reads as natural-long-reads
 
 -- src/lib.rt:250:8
 is-tag-requires : tie.Need-is-tag-requires
 is-tag-requires c κs = search needs
 
 -- src/lib.rt:251:13
-natural-at-requires : tie.Need-natural-at-requires
-natural-at-requires c κs = search needs
+natural-long-requires : tie.Need-natural-long-requires
+natural-long-requires c κs = search needs
 
 -- src/lib.rt:253:13
 returns : tie.Need-returns
@@ -36,4 +36,4 @@ returns-3 c = (search reading, omega arith)
 
 pub chosen-at-spec : {M : Type 1} → statement M
 chosen-at-spec =
-    tie.close (tie.spec is-tag-requires natural-at-requires returns returns-2 returns-3)
+    tie.close (tie.spec is-tag-requires natural-long-requires returns returns-2 returns-3)

@@ -1,39 +1,37 @@
 use borrow.Author.Needs.{needs}
-use Rattle.coding.specs.Codec.{prim}
-use Rattle.coding.specs.Leaves.{number}
 use native.Mathlib.Omega.{arith}
-use Rattle.coding.specs.Reader.{primitive}
-use Rattle.coding.proofs.Reading.{reading}
+use Rattle.coding.proofs.Shortcut.{tiny-natural}
 use Rattle.coding.proofs.natural_at.Statement.{statement}
 use Rattle.coding.proofs.natural_at.Tie as tie
 use Rattle.coding.proofs.natural_at.Reads as reads
 use Rattle.coding.proofs.natural_at.Lts as lts
-use Rattle.coding.proofs.natural_in.Reads as natural-in-reads
-use Rattle.coding.proofs.open_at.Reads as open-at-reads
+use Rattle.coding.proofs.natural_long.Reads as natural-long-reads
+use Rattle.coding.proofs.tiny.Reads as tiny-reads
 
--- src/lib.rt:216:9
-open-at-requires : tie.Need-open-at-requires
-open-at-requires c κs = search needs
+-- src/lib.rt:306:13
+tiny-requires : tie.Need-tiny-requires
+tiny-requires c κs = search needs
 
--- src/lib.rt:218:9
+-- src/lib.rt:306:13
+cast-x : tie.Need-cast-x
+cast-x c = search needs
+
+-- src/lib.rt:314:27
+add-t12 : tie.Need-add-t12
+add-t12 c = omega (arith, c .before .before .before .tiny .ensures .1 .1 (omega arith) .inside)
+
+-- src/lib.rt:310:17
 returns : tie.Need-returns
-unfolding prim number primitive
-returns c = (search reading, omega arith)
+returns c = (tiny-natural _ _ _ _ _ _ (omega arith) (c .before .before .before .tiny .ensures .1 .1 (omega arith)) (omega arith) (omega arith) (omega arith), omega arith)
 
--- src/lib.rt:220:9
-natural-in-requires : tie.Need-natural-in-requires
-natural-in-requires c κs = search needs
+-- src/lib.rt:319:5
+natural-long-requires : tie.Need-natural-long-requires
+natural-long-requires c κs = search needs
 
--- src/lib.rt:222:9
+-- src/lib.rt:300:1
 returns-2 : tie.Need-returns-2
-unfolding prim number primitive
-returns-2 c = (search reading, omega arith)
-
--- src/lib.rt:211:1
-returns-3 : tie.Need-returns-3
-unfolding prim number primitive
-returns-3 c = (search reading, omega arith)
+returns-2 c = search needs
 
 pub natural-at-spec : {M : Type 1} → statement M
 natural-at-spec =
-    tie.close (tie.spec open-at-requires returns natural-in-requires returns-2 returns-3)
+    tie.close (tie.spec tiny-requires cast-x add-t12 returns natural-long-requires returns-2)

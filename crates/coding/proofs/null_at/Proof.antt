@@ -1,44 +1,32 @@
 use borrow.Author.Needs.{needs}
-use Rattle.coding.specs.Codec.{prim}
-use Rattle.coding.specs.Leaves.{nullLeaf}
 use native.Mathlib.Omega.{arith}
-use Prim.Native.Nat.{ℕ}
-use mathlib.Core.Path.{_≡_}
-use Rattle.coding.specs.Reader.{primitive}
-use Rattle.coding.proofs.Reading.{reading, step, fails}
-use Rattle.coding.proofs.Parts.{null-none, null-some}
+use Rattle.coding.proofs.Shortcut.{bare-null}
 use Rattle.coding.proofs.null_at.Statement.{statement}
 use Rattle.coding.proofs.null_at.Tie as tie
 use Rattle.coding.proofs.null_at.Reads as reads
 use Rattle.coding.proofs.null_at.Lts as lts
-use Rattle.coding.proofs.open_at.Reads as open-at-reads
+use Rattle.coding.proofs.bare.Reads as bare-reads
+use Rattle.coding.proofs.null_long.Reads as null-long-reads
 
--- src/lib.rt:276:9
-open-at-requires : tie.Need-open-at-requires
-open-at-requires c κs = search needs
+-- src/lib.rt:436:8
+bare-requires : tie.Need-bare-requires
+bare-requires c κs = search needs
 
--- src/lib.rt:278:9
+-- src/lib.rt:440:19
+add-t6 : tie.Need-add-t6
+add-t6 c = omega (arith, c .before .bare .ensures .1 (c .if1 .taken) .inside)
+
+-- src/lib.rt:437:9
 returns : tie.Need-returns
-unfolding prim nullLeaf primitive
-returns c = search reading
+returns c = bare-null _ _ _ _ (c .before .bare .ensures .1 (c .if1 .taken))
 
--- src/lib.rt:281:9
+-- src/lib.rt:443:5
+null-long-requires : tie.Need-null-long-requires
+null-long-requires c κs = search needs
+
+-- src/lib.rt:432:1
 returns-2 : tie.Need-returns-2
-unfolding prim nullLeaf primitive
-returns-2 c =
-    let a = c .before .before .before .before .before .before .args in
-    let o = c .before .before .before .before .open-at in
-    let e = null-some (a .s .now) (o .result .value .start) (o .result .value .stop) (omega arith) (omega arith) in
-    step _ _ _ _ (o .ensures .0) (c .before .before .if1 .left) (fails _ _ _ _ e (λ h. omega arith))
-
--- src/lib.rt:272:1
-returns-3 : tie.Need-returns-3
-unfolding prim nullLeaf primitive
-returns-3 c =
-    let a = c .before .before .before .before .before .before .args in
-    let v = c .before .before .before .before .open-at .result .value in
-    let e = null-none (a .s .now) (v .start) (v .stop) (omega arith) in
-    search reading
+returns-2 c = search needs
 
 pub null-at-spec : {M : Type 1} → statement M
-null-at-spec = tie.close (tie.spec open-at-requires returns returns-2 returns-3)
+null-at-spec = tie.close (tie.spec bare-requires add-t6 returns null-long-requires returns-2)

@@ -1,59 +1,38 @@
 use borrow.Author.Needs.{needs}
-use borrow.Author.Tests.{le-ltb, lt-ltb, le-leb, lt-leb, eq-eqb, ne-eqb}
 use native.Mathlib.Omega.{arith}
-use Rattle.coding.specs.Reader.{opened, choice, neither, tagged}
-use Rattle.coding.specs.Shown.{shown}
+use Rattle.coding.proofs.Shortcut.{short-shown}
 use Rattle.coding.proofs.open_at.Statement.{statement}
 use Rattle.coding.proofs.open_at.Tie as tie
 use Rattle.coding.proofs.open_at.Reads as reads
 use Rattle.coding.proofs.open_at.Lts as lts
-use Rattle.coding.proofs.halted.Reads as halted-reads
-use Rattle.coding.proofs.length_at.Reads as length-at-reads
+use Rattle.coding.proofs.open_long.Reads as open-long-reads
+use Rattle.coding.proofs.short_length.Reads as short-length-reads
 
--- src/lib.rt:109:9
-halted-requires : tie.Need-halted-requires
-halted-requires c κs = search needs
+-- src/lib.rt:143:9
+short-length-requires : tie.Need-short-length-requires
+short-length-requires c κs = search needs
 
--- src/lib.rt:109:9
+-- src/lib.rt:145:21
+add-start : tie.Need-add-start
+add-start c = omega (arith, c .before .short-length .ensures .1 .1 (omega arith) .inside)
+
+-- src/lib.rt:146:20
+add-stop : tie.Need-add-stop
+add-stop c = omega (arith, c .before .short-length .ensures .1 .1 (omega arith) .inside)
+
+-- src/lib.rt:147:9
 returns : tie.Need-returns
-unfolding opened choice neither tagged shown
-returns c = rw (c .halted .ensures) (simp (le-ltb _ _ (c .before .if1 .taken)), omega arith)
+returns c = let t = c .before .short-length .ensures .1 .1 (omega arith) in (short-shown _ _ _ _ _ t, omega (arith, t .inside))
 
--- src/lib.rt:111:8
-shared-slice-read-if2 : tie.Need-shared-slice-read-if2
-shared-slice-read-if2 c = search needs
+-- src/lib.rt:154:5
+open-long-requires : tie.Need-open-long-requires
+open-long-requires c κs = search needs
 
--- src/lib.rt:112:9
-halted-requires-2 : tie.Need-halted-requires-2
-halted-requires-2 c κs = search needs
-
--- src/lib.rt:112:9
+-- src/lib.rt:138:1
 returns-2 : tie.Need-returns-2
-unfolding opened choice neither tagged shown
-returns-2 c = rw (c .halted2 .ensures) (simp (lt-ltb _ _ (c .before .before .before .if1 .left), ne-eqb _ _ (c .before .if2 .taken)), omega arith)
-
--- src/lib.rt:114:22
-add-length-at : tie.Need-add-length-at
-add-length-at c = search needs
-
--- src/lib.rt:114:5
-length-at-requires : tie.Need-length-at-requires
-length-at-requires c κs = search needs
-
--- src/lib.rt:103:1
-returns-3 : tie.Need-returns-3
-unfolding opened choice tagged
-returns-3 c = (simp (lt-ltb _ _ (c .before .before .before .if1 .left), eq-eqb _ _ (c .before .if2 .left)) (c .length-at .ensures .0), c .length-at .ensures .1)
+returns-2 c = search needs
 
 pub open-at-spec : {M : Type 1} → statement M
 open-at-spec =
     tie.close
-    (tie.spec
-    halted-requires
-    returns
-    shared-slice-read-if2
-    halted-requires-2
-    returns-2
-    add-length-at
-    length-at-requires
-    returns-3)
+    (tie.spec short-length-requires add-start add-stop returns open-long-requires returns-2)

@@ -1,0 +1,6 @@
+pub mod PartLaws
+pub mod UnitLaws
+pub mod RateLaws
+pub mod ArgumentLaws
+pub mod FrameLaws
+pub mod Theorems

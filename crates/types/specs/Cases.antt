@@ -1,0 +1,124 @@
+-- Octets to try: what reading them answers, the answer's amount in thousandths, and what is written of it. One statement over one table.
+use Prim.Native.Nat.{ℕ, _*_, _^_}
+use mathlib.Core.Path.{_≡_, refl}
+use mathlib.Core.List.{List, [], _∷_, map}
+use lib.ListN.{replicate}
+use lib.Dec.{eqb}
+use Rattle.coding.specs.Reader.{if_then_else, after, tagged, neither, choice, extent, lengthAt, opened, blamed, closed, constructed, enteredAny, part, mapped, narrowed, judged, primitive, optional, entries, listOf}
+use Rattle.coding.specs.Contents.{numberFrom, negative, shortest, natural, every, text, null}
+use Rattle.coding.specs.Codec.{lengthOctets, has, prim, cons, nothing, pair, alt, over, maybe, some·more, leafOver, leads, barring, marked, sort, frames, shape, canonical, pad, padded}
+use Rattle.coding.specs.Leaves.{digits, width, number, string, nullLeaf, signed16, identifier, listing, listed, only, given}
+use Rattle.coding.specs.Rows.{rows, table}
+use Rattle.types.specs.declared.Money.{Money}
+use Rattle.types.specs.declared.Charge.{Charge}
+use Rattle.types.specs.declared.Record.{Record}
+use Rattle.types.specs.declared.Answer.{Answer}
+use Rattle.types.specs.Charges.{scaled, currencyLeaf, currency, money, digitsLeaf, identified, publicParty, plainParty, party, unassociated, association}
+use Rattle.types.specs.Entries.{unit}
+use Rattle.types.specs.Rates.{duration, flatRate, volume, coded, plainRate, price, rate}
+use Rattle.types.specs.Arguments.{plain, bare, noCharge, moneyFigure, listFigure, arranged, sign, inMoney, inUnits, during, subtotals, ending, settled, finals, rates, arrangement, available, chargeOf}
+use Rattle.types.specs.Frames.{value, carries, carrying, asks, request, argument, invoke, returnResult, fails, failed, returnError, caller, problem, problems, reject, frame, component, accepted, refused, readOf}
+
+pub record Case : Type 0 where
+  pub octets : List ℕ
+  pub answer : Answer
+  pub thousandths : ℕ
+  pub written : List ℕ
+
+-- ---- the octets
+
+-- D subtotal, EUR, 500 thousandths
+unfoldable pub c1 : List ℕ
+c1 = 0xa1 ∷ 0x1a ∷ 0x02 ∷ 0x01 ∷ 0x01 ∷ 0x02 ∷ 0x01 ∷ 0x21 ∷ 0x30 ∷ 0x12 ∷ 0xa1 ∷ 0x0d ∷ 0x81 ∷ 0x03 ∷ 0x45 ∷ 0x55 ∷ 0x52 ∷ 0xa2 ∷ 0x06 ∷ 0x81 ∷ 0x01 ∷ 0x32 ∷ 0x82 ∷ 0x01 ∷ 0x01 ∷ 0x82 ∷ 0x01 ∷ 0x00 ∷ []
+
+-- E, 12 units
+unfoldable pub c2 : List ℕ
+c2 = 0xa1 ∷ 0x11 ∷ 0x02 ∷ 0x01 ∷ 0x02 ∷ 0x02 ∷ 0x01 ∷ 0x24 ∷ 0x30 ∷ 0x09 ∷ 0x30 ∷ 0x07 ∷ 0xa1 ∷ 0x05 ∷ 0x30 ∷ 0x03 ∷ 0x02 ∷ 0x01 ∷ 0x0c ∷ []
+
+-- request of D, identifier 5
+unfoldable pub c3 : List ℕ
+c3 = 0xa1 ∷ 0x09 ∷ 0x02 ∷ 0x01 ∷ 0x05 ∷ 0x02 ∷ 0x01 ∷ 0x1e ∷ 0x0a ∷ 0x01 ∷ 0x01 ∷ []
+
+-- the same with a longer length
+unfoldable pub c3-long : List ℕ
+c3-long = 0xa1 ∷ 0x81 ∷ 0x09 ∷ 0x02 ∷ 0x01 ∷ 0x05 ∷ 0x02 ∷ 0x01 ∷ 0x1e ∷ 0x0a ∷ 0x01 ∷ 0x01 ∷ []
+
+-- result of that request: NULL
+unfoldable pub c4 : List ℕ
+c4 = 0xa2 ∷ 0x0a ∷ 0x02 ∷ 0x01 ∷ 0x05 ∷ 0x30 ∷ 0x05 ∷ 0x02 ∷ 0x01 ∷ 0x1e ∷ 0x05 ∷ 0x00 ∷ []
+
+-- error of that request: 26
+unfoldable pub c5 : List ℕ
+c5 = 0xa3 ∷ 0x06 ∷ 0x02 ∷ 0x01 ∷ 0x05 ∷ 0x02 ∷ 0x01 ∷ 0x1a ∷ []
+
+-- D free
+unfoldable pub c6 : List ℕ
+c6 = 0xa1 ∷ 0x08 ∷ 0x02 ∷ 0x01 ∷ 0x03 ∷ 0x02 ∷ 0x01 ∷ 0x21 ∷ 0x81 ∷ 0x00 ∷ []
+
+-- the same contents for operation 35: bad argument
+unfoldable pub c6-ending : List ℕ
+c6-ending = 0xa1 ∷ 0x08 ∷ 0x02 ∷ 0x01 ∷ 0x03 ∷ 0x02 ∷ 0x01 ∷ 0x23 ∷ 0x81 ∷ 0x00 ∷ []
+
+-- E free
+unfoldable pub c7 : List ℕ
+c7 = 0xa1 ∷ 0x0a ∷ 0x02 ∷ 0x01 ∷ 0x04 ∷ 0x02 ∷ 0x01 ∷ 0x23 ∷ 0x30 ∷ 0x02 ∷ 0x81 ∷ 0x00 ∷ []
+
+-- special arrangement 10
+unfoldable pub c8 : List ℕ
+c8 = 0xa1 ∷ 0x09 ∷ 0x02 ∷ 0x01 ∷ 0x06 ∷ 0x02 ∷ 0x01 ∷ 0x20 ∷ 0x02 ∷ 0x01 ∷ 0x0a ∷ []
+
+-- there is no arrangement 11
+unfoldable pub c8-eleven : List ℕ
+c8-eleven = 0xa1 ∷ 0x09 ∷ 0x02 ∷ 0x01 ∷ 0x06 ∷ 0x02 ∷ 0x01 ∷ 0x20 ∷ 0x02 ∷ 0x01 ∷ 0x0b ∷ []
+
+-- ---- what they say; frame 1 is an invoke, 2 a return result
+
+-- EUR, 50 times ten
+abbrev halfEuro : Money
+halfEuro = record { currency = record { count = 3; octets = 0x45 ∷ 0x55 ∷ 0x52 ∷ replicate 7 0 }; multiplier = 1; number = 50 }
+
+abbrev twelveUnits : Charge
+twelveUnits = record { figure = listFigure 3 1; entries = record { numbers = 12 ∷ replicate 31 0; octets = 1 ∷ replicate 191 0 } }
+
+-- ---- the table
+
+abbrev took : List ℕ → Record → ℕ → List ℕ → Case
+took s x m w = record { octets = s; answer = accepted x; thousandths = m; written = w }
+
+abbrev no : ℕ → List ℕ → Case
+no n s = record { octets = s; answer = refused n; thousandths = 0; written = [] }
+
+unfoldable pub cases : List Case
+cases =
+    took c1 (carries 1 1 33 (plain (moneyFigure halfEuro))) 500 c1
+    ∷ took c2 (carries 1 2 36 twelveUnits) 0 c2
+    ∷ took c3 (asks 5 1) 0 c3
+    ∷ took c3-long (asks 5 1) 0 c3
+    ∷ took c4 (carries 2 5 30 noCharge) 0 c4
+    ∷ took c5 (fails 5 26) 0 c5
+    ∷ took c6 (carries 1 3 33 (bare 1)) 0 c6
+    ∷ no 9 c6-ending
+    ∷ took c7 (carries 1 4 35 (bare 1)) 0 c7
+    ∷ took c8 (carries 1 6 32 (arranged 10)) 0 c8
+    ∷ no 9 c8-eleven
+    ∷ []
+
+-- ---- the same table by the definitions
+
+unfoldable pub answerOf : List ℕ → Answer
+unfolding after tagged neither choice extent lengthAt opened blamed closed constructed enteredAny part mapped narrowed judged primitive optional entries listOf numberFrom negative shortest natural every text null has prim cons nothing pair alt over maybe some·more leafOver leads barring marked sort frames shape canonical pad padded number string nullLeaf signed16 identifier listing listed only given rows table scaled currencyLeaf currency money digitsLeaf identified publicParty plainParty party unassociated association unit duration flatRate volume coded plainRate price rate sign inMoney inUnits during subtotals ending settled finals rates arrangement available chargeOf value carrying request argument invoke returnResult failed returnError caller problem problems reject frame component readOf
+answerOf s = readOf s
+
+unfoldable pub amountOf : Answer → ℕ
+amountOf a = let m : Money = a .value .charge .figure .money in m .number * 10 ^ m .multiplier
+
+unfoldable pub writtenOf : Answer → List ℕ
+unfolding lengthOctets digits width has prim cons nothing pair alt over maybe some·more leafOver leads barring marked sort frames shape canonical pad padded number string nullLeaf identifier listed only given rows table scaled currencyLeaf currency money digitsLeaf identified publicParty plainParty party unassociated association unit duration flatRate volume coded plainRate price rate sign inMoney inUnits during subtotals ending settled finals rates arrangement available chargeOf value carrying request argument invoke returnResult failed returnError caller problem problems reject frame component
+writtenOf a = if_then_else (eqb (a .number) 0) (component .write (a .value)) []
+
+unfoldable pub tried : Case → Case
+tried c = let a : Answer = answerOf (c .octets) in record { octets = c .octets; answer = a; thousandths = amountOf a; written = writtenOf a }
+
+pub cases-right : map tried cases ≡ cases
+unfolding cases tried answerOf amountOf writtenOf c1 c2 c3 c3-long c4 c5 c6 c6-ending c7 c8 c8-eleven
+cases-right = refl

@@ -1,0 +1,167 @@
+-- Components: frames, the record, and what reading octets answers.
+use Prim.Native.Nat.{ℕ, _+_, _-_, _≤_}
+use mathlib.Core.Path.{_≡_}
+use mathlib.Core.List.{List, [], _∷_}
+use mathlib.Core.Bool.{Bool, true, false, not, _&&_, _||_}
+use mathlib.Core.Logic.{_⊎_, inl, inr, _↔_}
+use lib.ListN.{length}
+use lib.Dec.{ltb, leb, eqb}
+use Rattle.coding.specs.Reader.{Ans, Fault, if_then_else}
+use Rattle.coding.specs.Reader.Ans.{got, halt}
+use Rattle.coding.specs.Reader.Fault.{missing, unexpected, cut, form, shortest, contents, limit, named}
+use Rattle.coding.specs.Codec.{Run, has, prim, cons, alt, canonical, sort, frames, leads, barring, marked, pickRun}
+use Rattle.coding.specs.Leaves.{number, nullLeaf, identifier, listed}
+use Rattle.types.specs.declared.Charge.{Charge}
+use Rattle.types.specs.declared.Record.{Record}
+use Rattle.types.specs.declared.Answer.{Answer}
+use Rattle.types.specs.Charges.{flag}
+use Rattle.types.specs.Arguments.{noCharge, sameCharge, chargeOf}
+
+-- ---- where a fault is
+
+-- the component's own element: no first octet 1, its value 4, length octets missing or contents beyond the end 1, length form 2
+abbrev pub outside : Fault → Fault
+outside missing = named 1
+outside unexpected = named 4
+outside cut = named 1
+outside form = form
+outside shortest = shortest
+outside contents = contents
+outside limit = limit
+outside (named n) = named n
+
+-- in the argument or result: kept with its kind
+abbrev pub inArgument : Fault → Fault
+inArgument missing = named 40
+inArgument unexpected = named 41
+inArgument cut = named 42
+inArgument form = form
+inArgument shortest = named 43
+inArgument contents = named 44
+inArgument limit = named 45
+inArgument (named n) = named n
+
+-- the number given: those that are named, 9 in the argument or result, 2 for the form, and 6 for all else
+abbrev pub namedNumber : ℕ → ℕ
+namedNumber n = if_then_else (leb 40 n) 9 (if_then_else (has (1 ∷ 4 ∷ 5 ∷ 7 ∷ 8 ∷ []) n) n 6)
+
+abbrev pub numberOf : Fault → ℕ
+numberOf missing = 6
+numberOf unexpected = 6
+numberOf cut = 6
+numberOf form = 2
+numberOf shortest = 6
+numberOf contents = 6
+numberOf limit = 6
+numberOf (named n) = namedNumber n
+
+-- ---- the record
+
+abbrev pub noRecord : Record
+noRecord = record { frame = 0; unnamed = 0; id = 0; operation = 0; error = 0; problem = 0; detail = 0; charge = noCharge }
+
+abbrev pub sameRecord : Record → Record → Bool
+sameRecord r q =
+    ((eqb (r .frame) (q .frame) && eqb (r .unnamed) (q .unnamed)) && (eqb (r .id) (q .id) && eqb (r .operation) (q .operation)))
+    && ((eqb (r .error) (q .error) && eqb (r .problem) (q .problem)) && (eqb (r .detail) (q .detail) && sameCharge (r .charge) (q .charge)))
+
+-- ---- frames
+
+-- an operation or error value: 1 to 4 octets, else 6; one that is not known, and tag 06, are refused by their own number
+unfoldable pub value : ℕ → List ℕ → Run ℕ
+value unknown known = barring 0x06 (named unknown) (prim 0x02 (listed unknown known))
+
+abbrev pub operations : List ℕ
+operations = 30 ∷ 31 ∷ 32 ∷ 33 ∷ 34 ∷ 35 ∷ 36 ∷ []
+
+abbrev pub errors : List ℕ
+errors = 0 ∷ 3 ∷ 4 ∷ 7 ∷ 26 ∷ []
+
+-- a record that carries a charge
+abbrev pub carries : ℕ → ℕ → ℕ → Charge → Record
+carries k i o c = record { frame = k; unnamed = 0; id = i; operation = o; error = 0; problem = 0; detail = 0; charge = c }
+
+unfoldable pub carrying : ℕ → ℕ → ℕ → Run Record
+carrying k i o = canonical (carries k i o) (λ r. r .charge) sameRecord (marked inArgument (chargeOf o))
+
+-- the argument of operation 30: 0A, 0 to 2
+abbrev pub asks : ℕ → ℕ → Record
+asks i n = record { frame = 1; unnamed = 0; id = i; operation = 30; error = 0; problem = 0; detail = n; charge = noCharge }
+
+unfoldable pub request : ℕ → Run Record
+request i = canonical (asks i) (λ r. r .detail) sameRecord (marked inArgument (prim 0x0a (number 0 2)))
+
+-- A1 invoke: identifier, operation, argument
+unfoldable pub argument : ℕ → ℕ → Run Record
+argument i o = pickRun (eqb o 30) (request i) (carrying 1 i o)
+
+unfoldable pub invoke : Run Record
+invoke = leads (prim 0x02 identifier) (λ r. r .id) (λ i. leads (value 7 operations) (λ r. r .operation) (argument i))
+
+-- A2 return result: identifier, then 30 holding operation and result
+unfoldable pub returnResult : Run Record
+returnResult =
+    leads (prim 0x02 identifier) (λ r. r .id) (λ i. cons 0x30 (leads (value 7 (30 ∷ [])) (λ r. r .operation) (carrying 2 i)))
+
+-- A3 return error: identifier, error
+abbrev pub fails : ℕ → ℕ → Record
+fails i e = record { frame = 3; unnamed = 0; id = i; operation = 0; error = e; problem = 0; detail = 0; charge = noCharge }
+
+unfoldable pub failed : ℕ → Run Record
+failed i = canonical (fails i) (λ r. r .error) sameRecord (value 8 errors)
+
+unfoldable pub returnError : Run Record
+returnError = leads (prim 0x02 identifier) (λ r. r .id) failed
+
+-- A4 reject: identifier or NULL, then one of 80 general (0 to 2), 81 invoke (0 to 7), 82 result (0 to 2), 83 error (0 to 4)
+abbrev pub rejects : Unit {0} ⊎ ℕ → ℕ → ℕ → Record
+rejects (inl u) tag n = record { frame = 4; unnamed = 1; id = 0; operation = 0; error = 0; problem = tag; detail = n; charge = noCharge }
+rejects (inr i) tag n = record { frame = 4; unnamed = 0; id = i; operation = 0; error = 0; problem = tag; detail = n; charge = noCharge }
+
+unfoldable pub caller : Run (Unit {0} ⊎ ℕ)
+caller = alt 0x05 (prim 0x05 nullLeaf) (prim 0x02 identifier)
+
+abbrev pub callerOf : Record → Unit {0} ⊎ ℕ
+callerOf r = if_then_else (eqb (r .unnamed) 1) (inl tt) (inr (r .id))
+
+unfoldable pub problem : ℕ → ℕ → Unit {0} ⊎ ℕ → Run Record
+problem tag most c = canonical (rejects c tag) (λ r. r .detail) sameRecord (prim tag (number 0 most))
+
+abbrev pub isProblem : ℕ → Record → Bool
+isProblem tag r = eqb (r .problem) tag
+
+unfoldable pub problems : Unit {0} ⊎ ℕ → Run Record
+problems c =
+    sort 0x80 (isProblem 0x80) (problem 0x80 2 c)
+    (sort 0x81 (isProblem 0x81) (problem 0x81 7 c)
+    (sort 0x82 (isProblem 0x82) (problem 0x82 2 c)
+    (problem 0x83 4 c)))
+
+unfoldable pub reject : Run Record
+reject = leads caller callerOf problems
+
+-- ---- a component by its first octet; octets left over are 5
+
+unfoldable pub frame : ℕ → Run Record
+frame tag =
+    pickRun (eqb tag 0xa1) invoke
+    (pickRun (eqb tag 0xa2) returnResult
+    (pickRun (eqb tag 0xa3) returnError reject))
+
+unfoldable pub component : Run Record
+component = frames (0xa1 ∷ 0xa2 ∷ 0xa3 ∷ 0xa4 ∷ []) (λ r. 0xa0 + r .frame) outside (named 5) frame
+
+-- ---- what reading octets answers: over 254 octets are 3
+
+abbrev pub accepted : Record → Answer
+accepted x = record { number = 0; value = x }
+
+abbrev pub refused : ℕ → Answer
+refused n = record { number = n; value = noRecord }
+
+abbrev pub answered : Ans Record → Answer
+answered (got x n) = accepted x
+answered (halt w p) = refused (numberOf w)
+
+unfoldable pub readOf : List ℕ → Answer
+readOf s = if_then_else (ltb 254 (length s)) (refused 3) (answered (component .read s 0 (length s)))

@@ -1,0 +1,6 @@
+pub mod Charges
+pub mod Entries
+pub mod Rates
+pub mod Arguments
+pub mod Frames
+pub mod Cases

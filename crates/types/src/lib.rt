@@ -1,0 +1,107 @@
+// What a charge is: the structs of the standard's arguments, as C sees them.
+//
+// No struct has padding, no field is a bool or an enum (a host's memory may hold anything), and what is not used is zero.
+
+// 1 to 10 octets, each below 80 (hex).
+#[repr(C)]
+pub struct Currency {
+    pub count: u8,
+    pub octets: [u8; 10],
+}
+
+// An amount in a currency: the number times ten to the multiplier, in thousandths.
+#[repr(C)]
+pub struct Money {
+    pub currency: Currency,
+    pub multiplier: u8,
+    pub number: u32,
+}
+
+// Which other call a charge belongs to. kind: 0 none, 1 an identifier, 2 a number alone, 3 a number of a kind (plan).
+#[repr(C)]
+pub struct Association {
+    pub id: u16,
+    pub count: u16,
+    pub kind: u8,
+    pub plan: u8,
+    pub digits: [u8; 20],
+}
+
+// A charge but for its list. kind: 0 not available (or no charge at all), 1 free, 2 money, 3 units, 4 rates, 5 a special arrangement.
+#[repr(C)]
+pub struct Figure {
+    pub money: Money,
+    pub association: Association,
+    pub kind: u8,
+    pub total: u8,
+    pub billed: u8,
+    pub billing: u8,
+    pub arrangement: u8,
+    pub count: u8,
+}
+
+// The one list of a charge, its entries laid in rows of numbers and of octets.
+// Units, entry i: the number at numbers[i]; known and the type at octets[2 * i].
+// Rates, entry i: the amount's number, the time and the step at numbers[3 * i]; the other fields and the currency at octets[18 * i].
+#[repr(C)]
+pub struct Entries {
+    pub numbers: [u32; 32],
+    pub octets: [u8; 192],
+}
+
+#[repr(C)]
+pub struct Charge {
+    pub figure: Figure,
+    pub entries: Entries,
+}
+
+// An entry of a list of units. known: 0 not available, 1 a number; kind: the type 1 to 16, or 0 for none.
+pub struct Units {
+    pub number: u32,
+    pub known: u8,
+    pub kind: u8,
+}
+
+// An entry of a list of rates. kind: 1 duration, 2 flat, 3 volume, 4 a code, 5 free, 6 unknown.
+// detail: the duration's type, the volume's unit, or the code. stepped: 1 where a step (the time A5) is given.
+pub struct Rate {
+    pub item: u8,
+    pub kind: u8,
+    pub detail: u8,
+    pub stepped: u8,
+    pub scale: u8,
+    pub stepscale: u8,
+    pub multiplier: u8,
+    pub currency: Currency,
+    pub number: u32,
+    pub time: u32,
+    pub step: u32,
+}
+
+// A number with its multiplier or scale.
+pub struct Scaled {
+    pub number: u32,
+    pub scale: u8,
+}
+
+// A component. frame: 1 invoke, 2 return result, 3 return error, 4 reject. id: the identifier's 16 bits, two's complement.
+// unnamed: 1 for a reject with NULL in place of the identifier. problem: the tag of a reject's problem, 80 to 83 (hex).
+// detail: the service that operation 30 asks for, 0 S, 1 D, 2 E; or the value of a reject's problem.
+#[repr(C)]
+pub struct Record {
+    pub frame: u8,
+    pub unnamed: u8,
+    pub id: u16,
+    pub operation: u8,
+    pub error: u8,
+    pub problem: u8,
+    pub detail: u8,
+    pub charge: Charge,
+}
+
+// What reading octets answers: 0 and the record, or the refusal's number and zeros.
+#[repr(C)]
+pub struct Answer {
+    pub number: u32,
+    pub value: Record,
+}

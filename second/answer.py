@@ -1,0 +1,93 @@
+"""The second program's answers: one line of standard input, one line of standard output.
+
+R <hex>                  read             <number> <packed record>
+W <room> <packed record> write            <number> <count> <hex>
+E <hex>                  Facility element <number> <count> <starts, comma separated>
+J <room> <hex>           reject in reply  <number> <count> <hex>
+T <number> <multiplier>  thousandths      <thousandths>
+A <event>;<event>;...    account          outcome,phase,rate,running,closing,marks,pending;...
+
+Hex is small and without spaces. An empty last field leaves the space before it.
+"""
+
+import sys
+import zlib
+
+import aoc
+
+NO_RECORD = "00" * 376
+
+
+def answer_read(rest):
+    number, record = aoc.read(bytes.fromhex(rest))
+    return f"{number} {aoc.pack(record).hex() if record else NO_RECORD}"
+
+
+def answer_write(rest):
+    room, packed = rest.split(" ")
+    number, octets = aoc.write(aoc.unpack(bytes.fromhex(packed)), int(room))
+    return f"{number} {len(octets)} {octets.hex()}"
+
+
+def answer_element(rest):
+    number, starts = aoc.element(bytes.fromhex(rest))
+    return f"{number} {len(starts)} {','.join(map(str, starts))}"
+
+
+def answer_reply(rest):
+    room, _, octets = rest.partition(" ")
+    number, octets = aoc.reply(bytes.fromhex(octets), int(room))
+    return f"{number} {len(octets)} {octets.hex()}"
+
+
+def answer_thousandths(rest):
+    number, multiplier = map(int, rest.split(" "))
+    return str(aoc.thousandths(number, multiplier))
+
+
+def do(account, event):
+    if event[0] == "S":
+        return account.setup(*(None if i == "-" else int(i) for i in event[2:].split(",")))
+    if event[0] == "C":
+        return account.connect()
+    if event[0] == "X":
+        return account.clear()
+    if event[0] == "L":
+        return account.released()
+    return account.component(bytes.fromhex(event[1:]))
+
+
+def figure(charge):
+    return "-" if charge is None else f"{zlib.crc32(aoc.pack_charge(charge)):08x}"
+
+
+def bits(services):
+    return sum(1 << service for service in services)
+
+
+def answer_account(rest):
+    account, answers = aoc.Account(), []
+    for event in rest.split(";") if rest else ():
+        outcome = do(account, event)
+        # D is bit 2 and E bit 4 of the services; their conflicts are bits 8 and 16.
+        marks = bits(account.unavailable) | bits(account.conflict) << 2
+        answers.append(f"{outcome},{account.phase},{figure(account.rate)},{figure(account.running)},"
+                       f"{figure(account.closing)},{marks},{bits(account.pending)}")
+    return ";".join(answers)
+
+
+ANSWERS = {"R": answer_read, "W": answer_write, "E": answer_element, "J": answer_reply,
+           "T": answer_thousandths, "A": answer_account}
+
+
+def answer(line):
+    return ANSWERS[line[0]](line[2:])
+
+
+def main():
+    for line in sys.stdin:
+        sys.stdout.write(answer(line.rstrip("\n")) + "\n")
+
+
+if __name__ == "__main__":
+    main()

@@ -1,0 +1,202 @@
+"""Runs the vectors of document 01 and self-checks against aoc.py.
+
+python3 vectors.py [COUNT]: COUNT generated components for the self-checks.
+"""
+
+import random
+import sys
+
+import aoc
+import inputs
+from aoc import D, E, S
+
+passed = failed = 0
+
+
+def check(name, got, wanted):
+    global passed, failed
+    if got == wanted:
+        passed += 1
+    else:
+        failed += 1
+        print(f"FAILED {name}: got {got}, wanted {wanted}")
+
+
+def octets(text):
+    return bytes.fromhex(text)
+
+
+C1 = octets("A1 1A 02 01 01 02 01 21 30 12 A1 0D 81 03 45 55 52 A2 06 81 01 32 82 01 01 82 01 00")
+C2 = octets("A1 11 02 01 02 02 01 24 30 09 30 07 A1 05 30 03 02 01 0C")
+C3 = octets("A1 09 02 01 05 02 01 1E 0A 01 01")
+C3_LOOSE = octets("A1 81 09 02 01 05 02 01 1E 0A 01 01")
+C4 = octets("A2 0A 02 01 05 30 05 02 01 1E 05 00")
+C5 = octets("A3 06 02 01 05 02 01 1A")
+C6 = octets("A1 08 02 01 03 02 01 21 81 00")
+C7 = octets("A1 0A 02 01 04 02 01 23 30 02 81 00")
+C8 = octets("A1 09 02 01 06 02 01 20 02 01 0A")
+C2_THIRTEEN = C2[:-1] + b"\x0D"
+
+
+def record(frame, id, operation=0, **figure):
+    """A record with some fields of its figure; the rest is zero."""
+    made = aoc.Record(frame=frame, id=id, operation=operation)
+    for name, value in figure.items():
+        setattr(made.charge.figure, name, value)
+    return made
+
+
+def units_in(entry):
+    """C2 with another unit entry, lengths to match."""
+    def wrap(tag, body):
+        return bytes((tag, len(body))) + body
+    argument = wrap(0x30, wrap(0x30, wrap(0xA1, wrap(0x30, octets(entry)))))
+    return wrap(0xA1, octets("02 01 02 02 01 24") + argument)
+
+
+def components():
+    euro = aoc.Money(aoc.Currency(3, [0x45, 0x55, 0x52] + [0] * 7), 1, 50)
+    subtotal = record(1, 1, 33, kind=aoc.AMOUNT, money=euro)
+    twelve = record(1, 2, 36, kind=aoc.UNITS, count=1)
+    twelve.charge.list.numbers[0] = 12
+    twelve.charge.list.octets[0] = 1
+    asked = record(1, 5, 30)
+    asked.detail = D
+    error = record(3, 5)
+    error.error = 26
+    for name, given, wanted in (
+            ("C1", C1, subtotal), ("C2", C2, twelve), ("C3", C3, asked),
+            ("C3 with 81 09", C3_LOOSE, asked), ("C4", C4, record(2, 5, 30)), ("C5", C5, error),
+            ("C6", C6, record(1, 3, 33, kind=aoc.FREE)), ("C7", C7, record(1, 4, 35, kind=aoc.FREE)),
+            ("C8", C8, record(1, 6, 32, kind=aoc.ARRANGEMENT, arrangement=10))):
+        check(name, aoc.read(given), (0, wanted))
+        check(name + " packed", aoc.unpack(aoc.pack(wanted)), wanted)
+        # The vectors stand in shortest form, but for the one with 81 09.
+        check(name + " written", aoc.write(wanted, 254), (0, C3 if given == C3_LOOSE else given))
+        check(name + " in reply", aoc.reply(given, 0), (0, b""))
+    check("C1 thousandths", aoc.thousandths(50, 1), 500)
+    check("most thousandths", aoc.thousandths(16_777_215, 6), 16_777_215_000_000)
+    check("C6 with 23 for 21", aoc.read(C6[:7] + b"\x23" + C6[8:]), (9, None))
+    check("C8 with 0B", aoc.read(C8[:-1] + b"\x0B"), (9, None))
+
+    number, most = aoc.read(units_in("02 04 00 FF FF FF"))
+    check("16,777,215 units", (number, most and most.charge.list.numbers[0]), (0, 16_777_215))
+    check("16,777,216 units", aoc.read(units_in("02 04 01 00 00 00")), (9, None))
+    check("-1 units", aoc.read(units_in("02 03 FF FF FF")), (9, None))
+    check("05 in two octets", aoc.read(units_in("02 02 00 05")), (9, None))
+    number, typed = aoc.read(units_in("05 00 02 01 07"))
+    check("type after NULL", (number, typed and typed.charge.list.octets[:2]), (0, [0, 7]))
+
+    check("empty", aoc.read(b""), (1, None))
+    check("empty in reply", aoc.reply(b"", 254), (0, octets("A4 05 05 00 80 01 02")))
+    unknown = octets("A1 06 02 01 07 02 01 25")
+    check("operation 37", aoc.read(unknown), (7, None))
+    check("operation 37 in reply", aoc.reply(unknown, 254), (0, octets("A4 06 02 01 07 81 01 01")))
+    check("operation 37 in reply, 7 octets", aoc.reply(unknown, 7), (12, b""))
+
+    check("identifiers", [aoc.next_identifier(i) for i in (1, 0x7FFF, 0xFFFF)], [2, 0x8000, 0])
+    check("element", aoc.element(octets("1C 16 91") + C3 + C6), (0, [3, 14]))
+    check("element, a length over", aoc.element(octets("1C 17 91") + C3 + C6), (15, []))
+    check("element without component", aoc.element(octets("1C 01 91")), (15, []))
+
+
+def account(setup, *events):
+    """An account after its Setup and events, and the outcomes of the events."""
+    made = aoc.Account()
+    check("setup", made.setup(*setup), 0)
+    return made, [event(made) if callable(event) else made.component(event) for event in events]
+
+
+CONNECT, CLEAR, RELEASED = aoc.Account.connect, aoc.Account.clear, aoc.Account.released
+NO_REQUEST = (None, None, None)
+REQUEST_D = (None, 5, None)
+
+
+def lists():
+    charge1, charge2 = aoc.read(C1)[1].charge, aoc.read(C2)[1].charge
+
+    made, outcomes = account(NO_REQUEST, CONNECT, C1, CLEAR, RELEASED)
+    check("C1, Clear, Released", outcomes, [0, 21, 0, 0])
+    check("running 500", made.running, charge1)
+    check("closing none", (made.closing, made.phase), (None, aoc.ENDED))
+
+    made, outcomes = account(NO_REQUEST, CONNECT, C1, CLEAR, C2, C2, C2_THIRTEEN)
+    check("Clear, C2, C2, 13 units", outcomes, [0, 21, 0, 22, 28, 29])
+    check("conflict of E", (made.conflict, made.unavailable), ({E}, set()))
+    check("closing before Released", made.closing, None)
+    check("Released", made.released(), 0)
+    check("closing 12", made.closing, charge2)
+
+    made, outcomes = account(REQUEST_D, CONNECT, C1)
+    check("pending", (outcomes, made.pending, made.running), ([0, 26], {D}, None))
+    check("C4", (made.component(C4), made.pending), (24, set()))
+    check("C1 after C4", (made.component(C1), made.running), (21, charge1))
+
+    made, outcomes = account(REQUEST_D, CONNECT, C1, C5, C1)
+    check("C5 for C4", (outcomes, made.running), ([0, 26, 25, 21], charge1))
+
+    # The mistakes that 01 names, and what its rules say beside the lists.
+    check("a pending S request and D", account((5, None, None), CONNECT, C1)[1], [0, 21])
+    check("C4 on an S request", account((5, None, None), C4, C4)[1], [31, 31])
+    made, outcomes = account((5, None, None), octets("A2 0B 02 01 05 30 06 02 01 1E 02 01 0A"))
+    check("S 24", (outcomes, made.rate.figure.arrangement, made.pending), ([24], 10, set()))
+    made, outcomes = account(NO_REQUEST, octets("A1 08 02 01 01 02 01 1F 05 00"), C8, C6, C3)
+    check("23, 20, 21, 32", (outcomes, made.unavailable), ([23, 20, 21, 32], {S}))
+    check("free finals", account(NO_REQUEST, CLEAR, C7, C7, C6, C6, C2)[1], [0, 22, 28, 22, 28, 29])
+    check("NULL reject", account(REQUEST_D, octets("A4 05 05 00 80 01 02"))[1], [30])
+
+    made = aoc.Account()
+    check("Component in Idle", made.component(b""), 14)
+    check("Setup with one identifier twice", (made.setup(1, None, 1), made.phase), (13, aoc.IDLE))
+    check("Setup after it", (made.setup(1, None, 2), made.phase), (0, aoc.ESTABLISHMENT))
+    check("Setup again, 14 before 13", made.setup(1, 1, None), 14)
+
+
+def line_program():
+    given = (C3_LOOSE.hex(" ").upper() + "\nA1 80 02 01 05 02 01 1E 0A 01 01 00 00\n"
+             + C7.hex(" ").lower() + "\n")
+    wanted = ("A1 09 02 01 05 02 01 1E 0A 01 01\n"
+              "refused 2\n"
+              "A1 0A 02 01 04 02 01 23 30 02 81 00\n")
+    check("three lines", aoc.line_program(given.encode()), wanted)
+    check("no line", aoc.line_program(b""), "")
+    check("an empty line", aoc.line_program(b"\n"), "refused 1\n")
+    for bad in (b" A1", b"A1 ", b"A1  00", b"A", b"A1\t00", b"A1\r", b"0x1", b"+1"):
+        check("bad line", aoc.line_program(bad), "bad line\n")
+    check("255 octets", aoc.line_program(b" ".join([b"A1"] * 255)), "refused 3\n")
+
+
+def generated(count):
+    """Records made, laid out and read back; and whatever is read, written and read back."""
+    rng = random.Random(2024)
+    for _ in range(count):
+        made, root = inputs.fitting_record(rng)
+        short, laid = inputs.lay(root), inputs.loosely(rng, root)
+        check("laid out", aoc.read(laid), (0, made))
+        check("shortest", aoc.write(made, len(short)), (0, short))
+        check("no room", aoc.write(made, len(short) - 1), (12, b""))
+        check("unpacked", aoc.unpack(aoc.pack(made)), made)
+    source = inputs.component_source(rng)
+    for _ in range(count):
+        given = next(source)
+        number, found = aoc.read(given)
+        if number:
+            check("a refusal 1 to 9", (number in range(1, 10), found), (True, None))
+            continue
+        written_number, written = aoc.write(found, 254)
+        check("written", (written_number, len(written) <= len(given)), (0, True))
+        check("read back", aoc.read(written), (0, found))
+
+
+def main():
+    count = int(sys.argv[1]) if len(sys.argv) > 1 else 3000
+    components()
+    lists()
+    line_program()
+    generated(count)
+    print(f"{passed} passed, {failed} failed")
+    sys.exit(1 if failed else 0)
+
+
+if __name__ == "__main__":
+    main()
