@@ -1,0 +1,81 @@
+-- How the answer's number goes with what was read so far.
+-- Assumes nothing.
+use Prim.Native.Nat.{ℕ, _+_, _-_, _≤_, _<_}
+use native.Mathlib.Omega.{arith}
+use mathlib.Core.Path.{_≡_, refl, ap, sym, _∙_}
+use mathlib.Core.Bool.{Bool, true, false}
+use mathlib.Core.List.{List, [], _∷_}
+use lib.ListN.{length, getD}
+use lib.Dec.{ltb, leb, eqb}
+use borrow.Author.Tests.{lt-ltb, le-ltb, eq-eqb, ne-eqb}
+use Rattle.coding.specs.Reader.{Ans, Fault, Reader, code, if_then_else, after, blamed, closed, choice, tagged, enteredAny}
+use Rattle.coding.specs.Reader.Ans.{got, halt}
+use Rattle.coding.specs.Codec.{Run, pickRun, frames}
+use Rattle.coding.specs.Shown.{shown}
+use Rattle.coding.proofs.Reading.{got-of}
+use Rattle.types.specs.declared.Record.{Record}
+use Rattle.types.specs.declared.Answer.{Answer}
+use Rattle.types.specs.Frames.{inArgument, numberOf, outside, noRecord, accepted, refused, answered, component, frame, readOf}
+use Rattle.heads.specs.Heads.{argumentCode, numberCode, contentsOf, tailOf, restOf}
+use Rattle.heads.specs.declared.Head.{Head}
+use Rattle.heads.proofs.Codes.{argument-code, number-code}
+
+-- a good answer goes on
+pub goes : {A : Type 0} (x : Ans A) (f : A → ℕ → Ans Record) (z : A) {k p n : ℕ} {v : A} {t : Answer} →
+    (k, p, v, n) ≡ shown z x → k ≡ 0 → t ≡ answered (f v n) → t ≡ answered (after x f)
+unfolding after
+goes x f z e k0 r = rw (got-of x z e k0) r
+
+-- a fault is refused by its number
+pub refuses : {A : Type 0} (x : Ans A) (f : A → ℕ → Ans Record) (z : A) {k p n : ℕ} {v : A} →
+    (k, p, v, n) ≡ shown z x → (k ≡ 0 → ⊥) → refused (numberCode k) ≡ answered (after x f)
+unfolding shown after
+refuses (got v' n') f z e k0 = absurd (k0 (ap (λ q. q .0) e))
+refuses (halt w p') f z e k0 = ap (λ q. refused (numberCode (q .0))) e ∙ ap refused (number-code w)
+
+-- the same in the argument or result
+pub goes-in : {A : Type 0} (x : Ans A) (f : A → ℕ → Ans Record) (z : A) {k p n : ℕ} {v : A} {t : Answer} →
+    (k, p, v, n) ≡ shown z x → k ≡ 0 → t ≡ answered (f v n) → t ≡ answered (after (blamed inArgument x) f)
+unfolding after blamed
+goes-in x f z e k0 r = rw (got-of x z e k0) r
+
+pub refuses-in : {A : Type 0} (x : Ans A) (f : A → ℕ → Ans Record) (z : A) {k p n : ℕ} {v : A} →
+    (k, p, v, n) ≡ shown z x → (k ≡ 0 → ⊥) → refused (numberCode (argumentCode k)) ≡ answered (after (blamed inArgument x) f)
+unfolding shown after blamed
+refuses-in (got v' n') f z e k0 = absurd (k0 (ap (λ q. q .0) e))
+refuses-in (halt w p') f z e k0 =
+    ap (λ q. refused (numberCode (argumentCode (q .0)))) e ∙ ap (λ j. refused (numberCode j)) (argument-code w) ∙ ap refused (number-code (inArgument w))
+
+-- nothing over, or something
+pub ends : (v : Record) (at end next : ℕ) → at ≡ end → accepted v ≡ answered (closed v at end next)
+unfolding closed
+ends v at end next h = simp (eq-eqb at end h)
+
+pub leaves : (v : Record) (at end next : ℕ) → (at ≡ end → ⊥) → refused 6 ≡ answered (closed v at end next)
+unfolding closed
+leaves v at end next h = simp (ne-eqb at end h)
+
+-- an element that ends where the octets end, twice
+pub twice : (v : Record) (at end next whole : ℕ) {t : Answer} → at ≡ end → t ≡ answered (closed v next whole whole)
+    → t ≡ answered (after (closed v at end next) (λ w m. closed w m whole whole))
+unfolding closed after
+twice v at end next whole h r = rw (eq-eqb at end h) r
+
+pub over-in : (v : Record) (at end next whole : ℕ) → (at ≡ end → ⊥) → refused 6 ≡ answered (after (closed v at end next) (λ w m. closed w m whole whole))
+unfolding closed after
+over-in v at end next whole h = rw (ne-eqb at end h)
+
+pub one-end : (v : Record) (at end : ℕ) → after (closed v at end end) (λ w m. closed w m end end) ≡ closed v at end end
+unfolding closed after
+one-end v at end = go (eqb at end)
+  where
+    go : (b : Bool) → after (if_then_else b (got v end) (halt Fault.unexpected at)) (λ w m. if_then_else (eqb m end) (got w end) (halt Fault.unexpected m))
+        ≡ if_then_else b (got v end) (halt Fault.unexpected at)
+    go true = rw (eq-eqb end end refl)
+    go false = refl
+
+-- an argument that ends where the octets end
+pub tail-one : (f : Run Record) (h : Head) (s : List ℕ) → h .stop ≡ length s → h .next ≡ length s
+    → tailOf f h s ≡ answered (after (f .read s (h .at) (length s)) (λ v last. closed v last (length s) (length s)))
+unfolding tailOf
+tail-one f h s p q = rw (p, q) (λ i. answered (after (f .read s (h .at) (length s)) (λ v last. one-end v last (length s) i)))

@@ -1,0 +1,159 @@
+-- How the code's numbers go with the faults; values of a list.
+-- Assumes nothing.
+use Prim.Native.Nat.{ℕ, zero, suc, _+_, _-_, _≤_, _<_, min}
+use native.Mathlib.Omega.{arith}
+use mathlib.Core.Path.{_≡_, refl, ap, sym, _∙_}
+use mathlib.Core.Bool.{Bool, true, false, _&&_, _||_, true≢false}
+use mathlib.Core.List.{List, [], _∷_}
+use lib.ListN.{length}
+use lib.Dec.{ltb, leb, eqb}
+use borrow.Author.Tests.{lt-ltb, le-ltb, ltb-true, ltb-false, eqb-true, eq-eqb, ne-eqb}
+use Rattle.coding.specs.Reader.{Ans, Fault, code, if_then_else}
+use Rattle.coding.specs.Reader.Ans.{got, halt}
+use Rattle.coding.specs.Reader.Fault.{missing, unexpected, cut, form, shortest, contents, limit, named}
+use Rattle.coding.specs.Contents.{negative, numberFrom}
+use Rattle.coding.specs.Contents as Contents
+use Rattle.coding.specs.Codec.{has, all}
+use Rattle.coding.specs.Leaves.{listing}
+use Rattle.coding.specs.Shown.{shown, verdict}
+use Rattle.coding.proofs.Basic.{and-left, and-right}
+use Rattle.coding.proofs.Reading.{got-of}
+use Rattle.types.specs.declared.Record.{Record}
+use Rattle.types.specs.declared.Answer.{Answer}
+use Rattle.types.specs.Frames.{outside, inArgument, numberOf, namedNumber, operations, errors}
+use Rattle.heads.specs.Heads.{outsideCode, argumentCode, numberCode, knownIn}
+
+pub outside-code : (w : Fault) → outsideCode (code w) ≡ code (outside w)
+outside-code missing = refl
+outside-code unexpected = refl
+outside-code cut = refl
+outside-code form = refl
+outside-code shortest = refl
+outside-code contents = refl
+outside-code limit = refl
+outside-code (named n) =
+    simp (ne-eqb (100 + n) 40 (λ h. omega arith), ne-eqb (100 + n) 41 (λ h. omega arith), ne-eqb (100 + n) 42 (λ h. omega arith))
+
+pub argument-code : (w : Fault) → argumentCode (code w) ≡ code (inArgument w)
+argument-code missing = refl
+argument-code unexpected = refl
+argument-code cut = refl
+argument-code form = refl
+argument-code shortest = refl
+argument-code contents = refl
+argument-code limit = refl
+argument-code (named n) =
+    let l : 100 ≤ 100 + n = omega arith in
+    simp (ne-eqb (100 + n) 2 (λ h. omega arith), le-ltb (100 + n) 100 l)
+
+pub number-code : (w : Fault) → numberCode (code w) ≡ numberOf w
+number-code missing = refl
+number-code unexpected = refl
+number-code cut = refl
+number-code form = refl
+number-code shortest = refl
+number-code contents = refl
+number-code limit = refl
+number-code (named n) =
+    let l : 100 ≤ 100 + n = omega arith in
+    let e : 100 + n - 100 ≡ n = omega arith in
+    simp (le-ltb (100 + n) 100 l) (ap namedNumber e)
+
+-- ---- values of a list
+
+module _ (u : ℕ) (ks xs : List ℕ) where
+  pub list-form : Contents.shortest xs ≡ false → (43, 0) ≡ verdict 0 (listing u ks xs)
+  unfolding listing verdict
+  list-form h = rw h
+
+  module _ (s : Contents.shortest xs ≡ true) where
+    pub list-long : 4 < length xs → (44, 0) ≡ verdict 0 (listing u ks xs)
+    unfolding listing verdict
+    list-long l = rw (s, lt-ltb _ _ l)
+
+    module _ (l : length xs ≤ 4) where
+      pub list-negative : negative xs ≡ true → (100 + u, 0) ≡ verdict 0 (listing u ks xs)
+      unfolding listing verdict
+      list-negative n = rw (s, le-ltb _ _ l, n)
+
+      pub list-known : {k : ℕ} → negative xs ≡ false → k ≡ numberFrom 0 xs → has ks k ≡ true → (0, k) ≡ verdict 0 (listing u ks xs)
+      unfolding listing verdict
+      list-known n e h = rw (s, le-ltb _ _ l, n, ← e, h)
+
+      pub list-unknown : negative xs ≡ false → has ks (numberFrom 0 xs) ≡ false → (100 + u, 0) ≡ verdict 0 (listing u ks xs)
+      unfolding listing verdict
+      list-unknown n h = rw (s, le-ltb _ _ l, n, h)
+
+pub has-below : (most : ℕ) (ks : List ℕ) (n : ℕ) → all (λ k. ltb k most) ks ≡ true → has ks n ≡ true → n < most
+unfolding has
+has-below most [] n a h = absurd (true≢false (sym h))
+has-below most (k ∷ ks) n a h = go (eqb n k) refl h (has-below most ks n (and-right (ltb k most) _ a))
+  where
+    go : (b : Bool) → eqb n k ≡ b → b || has ks n ≡ true → (has ks n ≡ true → n < most) → n < most
+    go true q r f = omega (arith, eqb-true n k q, ltb-true k most (and-left (ltb k most) _ a))
+    go false q r f = f r
+
+has-above : (most : ℕ) (ks : List ℕ) (n : ℕ) → all (λ k. ltb k most) ks ≡ true → most ≤ n → has ks n ≡ false
+has-above most ks n a h = go (has ks n) refl
+  where
+    go : (b : Bool) → has ks n ≡ b → b ≡ false
+    go true q = absurd (omega (arith, has-below most ks n a q))
+    go false q = refl
+
+-- no known value is over 36
+known-all : (most k : ℕ) → 36 < most → all (λ v. ltb v most) (knownIn k) ≡ true
+known-all most k l = go (eqb k 1) (eqb k 2)
+  where
+    lt : (v : ℕ) → v ≤ 36 → ltb v most ≡ true
+    lt v e = let z : v < most = omega (arith, l) in lt-ltb v most z
+
+    go : (b d : Bool) → all (λ v. ltb v most) (if_then_else b operations (if_then_else d (30 ∷ []) errors)) ≡ true
+    go true d =
+        simp (lt 30 (omega arith), lt 31 (omega arith), lt 32 (omega arith), lt 33 (omega arith), lt 34 (omega arith), lt 35 (omega arith), lt 36 (omega arith))
+    go false true = simp (lt 30 (omega arith))
+    go false false = simp (lt 0 (omega arith), lt 3 (omega arith), lt 4 (omega arith), lt 7 (omega arith), lt 26 (omega arith))
+
+pub known-low : (u n : ℕ) → has (knownIn u) n ≡ true → n < 256
+known-low u n h = has-below 256 (knownIn u) n (known-all 256 u (omega arith)) h
+
+-- a number held at 2^24 is known where the number is
+pub known-held : (u n m : ℕ) → n ≡ min m 16777216 → has (knownIn u) n ≡ true → n ≡ m
+known-held u n m e h = omega (arith, known-low u n h)
+
+pub unknown-held : (u n m : ℕ) → n ≡ min m 16777216 → has (knownIn u) n ≡ false → has (knownIn u) m ≡ false
+unknown-held u n m e h = go (ltb m 16777216) refl
+  where
+    go : (b : Bool) → ltb m 16777216 ≡ b → has (knownIn u) m ≡ false
+    go true q = let z : n ≡ m = omega (arith, ltb-true m 16777216 q) in rw (← z) h
+    go false q = has-above 16777216 (knownIn u) m (known-all 16777216 u (omega arith)) (ltb-false m 16777216 q)
+
+-- ---- the operations are those from 30 to 36
+
+pub operation-below : (n : ℕ) → n < 30 → false ≡ has operations n
+unfolding has
+operation-below n l =
+    simp (ne-eqb n 30 (λ e. omega arith), ne-eqb n 31 (λ e. omega arith), ne-eqb n 32 (λ e. omega arith), ne-eqb n 33 (λ e. omega arith),
+    ne-eqb n 34 (λ e. omega arith), ne-eqb n 35 (λ e. omega arith), ne-eqb n 36 (λ e. omega arith))
+
+pub operation-above : (n : ℕ) → 36 < n → false ≡ has operations n
+unfolding has
+operation-above n l =
+    simp (ne-eqb n 30 (λ e. omega arith), ne-eqb n 31 (λ e. omega arith), ne-eqb n 32 (λ e. omega arith), ne-eqb n 33 (λ e. omega arith),
+    ne-eqb n 34 (λ e. omega arith), ne-eqb n 35 (λ e. omega arith), ne-eqb n 36 (λ e. omega arith))
+
+pub operation-known : (n : ℕ) → 30 ≤ n → n ≤ 36 → true ≡ has operations n
+unfolding has
+operation-known n l h =
+    let e : n ≡ 30 + (n - 30) = omega arith in
+    let k : n - 30 ≤ 6 = omega arith in
+    rw e (go (n - 30) k)
+  where
+    go : (k : ℕ) → k ≤ 6 → true ≡ has operations (30 + k)
+    go zero b = refl
+    go (suc zero) b = refl
+    go (suc (suc zero)) b = refl
+    go (suc (suc (suc zero))) b = refl
+    go (suc (suc (suc (suc zero)))) b = refl
+    go (suc (suc (suc (suc (suc zero))))) b = refl
+    go (suc (suc (suc (suc (suc (suc zero)))))) b = refl
+    go (suc (suc (suc (suc (suc (suc (suc k))))))) b = absurd (omega arith)

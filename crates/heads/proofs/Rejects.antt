@@ -1,0 +1,25 @@
+-- A reject's contents: who is answered, then the problem.
+-- Assumes nothing.
+use Prim.Native.Nat.{ℕ}
+use mathlib.Core.Path.{_≡_, refl, sym, _∙_}
+use mathlib.Core.Logic.{_⊎_}
+use mathlib.Core.List.{List}
+use lib.ListN.{length}
+use Rattle.coding.specs.Reader.{Ans, after, closed}
+use Rattle.coding.specs.Reader.Ans.{got, halt}
+use Rattle.coding.specs.Codec.{sort, canonical, over, leads}
+use Rattle.coding.proofs.Reading.{flat}
+use Rattle.types.specs.Frames.{rejects, problem, problems, caller, reject, answered}
+use Rattle.heads.specs.Heads.{problemIn, problemsIn, contentsOf}
+
+problems-by : (c : Unit {0} ⊎ ℕ) (s : List ℕ) (at end : ℕ) → (problems c) .read s at end ≡ after (problemsIn s at end) (λ p n. got (rejects c (p .tag) (p .detail)) n)
+unfolding problems sort problem canonical over problemsIn problemIn
+problems-by c s at end = simp flat
+
+pub reject-by : (s : List ℕ) (start : ℕ) → contentsOf reject s start
+    ≡ answered (after (caller .read s start (length s)) (λ c m.
+      after (problemsIn s m (length s)) (λ p n. closed (rejects c (p .tag) (p .detail)) n (length s) (length s))))
+unfolding contentsOf reject leads
+reject-by s start =
+    (λ i. answered (after (after (caller .read s start (length s)) (λ c m. problems-by c s m (length s) i)) (λ v last. closed v last (length s) (length s))))
+    ∙ simp flat

@@ -1,0 +1,95 @@
+use borrow.Author.Needs.{needs}
+use native.Mathlib.Omega.{arith}
+use mathlib.Core.Path.{refl}
+use Rattle.coding.specs.Reader.{constructed}
+use Rattle.coding.specs.Codec.{leads, cons, canonical, over}
+use Rattle.coding.proofs.Reading.{flat}
+use Rattle.types.specs.Frames.{returnResult}
+use Rattle.heads.specs.Heads.{contentsOf, tailOf, restOf}
+use Rattle.heads.proofs.Answers.{goes, refuses, ends, leaves, one-end}
+use Rattle.heads.proofs.result_head.Statement.{statement}
+use Rattle.heads.proofs.result_head.Tie as tie
+
+identifier-at-requires : tie.Need-identifier-at-requires
+identifier-at-requires c κs = search needs
+
+number-of-requires : tie.Need-number-of-requires
+number-of-requires c κs = search needs
+
+no-head-requires : tie.Need-no-head-requires
+no-head-requires c κs = search needs
+
+returns : tie.Need-returns
+unfolding restOf tailOf contentsOf returnResult leads cons constructed
+returns c =
+    (rw (c .no-head .ensures, c .before .number-of .ensures)
+    (simp flat (refuses _ _ _ (c .before .before .before .before .identifier-at .ensures .0) (c .before .before .if1 .taken))),
+    rw (c .no-head .ensures) (omega arith))
+
+open-at-requires : tie.Need-open-at-requires
+open-at-requires c κs = search needs
+
+number-of-requires-2 : tie.Need-number-of-requires-2
+number-of-requires-2 c κs = search needs
+
+no-head-requires-2 : tie.Need-no-head-requires-2
+no-head-requires-2 c κs = search needs
+
+returns-2 : tie.Need-returns-2
+unfolding restOf tailOf contentsOf returnResult leads cons constructed
+returns-2 c =
+    (rw (c .no-head2 .ensures, c .before .number-of2 .ensures)
+    (simp flat (goes _ _ _ (c .before .before .before .before .before .before .before .identifier-at .ensures .0) (c .before .before .before .before .before .if1 .left)
+    (refuses _ _ _ (c .before .before .before .before .open-at .ensures .0) (c .before .before .if2 .taken)))),
+    rw (c .no-head2 .ensures) (omega arith))
+
+value-at-requires : tie.Need-value-at-requires
+value-at-requires c κs = search needs
+
+number-of-requires-3 : tie.Need-number-of-requires-3
+number-of-requires-3 c κs = search needs
+
+no-head-requires-3 : tie.Need-no-head-requires-3
+no-head-requires-3 c κs = search needs
+
+returns-3 : tie.Need-returns-3
+unfolding restOf tailOf contentsOf returnResult leads cons constructed
+returns-3 c =
+    (rw (c .no-head3 .ensures, c .before .number-of3 .ensures)
+    (simp flat (goes _ _ _ (c .before .before .before .before .before .before .before .before .before .before .identifier-at .ensures .0) (c .before .before .before .before .before .before .before .before .if1 .left)
+    (goes _ _ _ (c .before .before .before .before .before .before .before .open-at .ensures .0) (c .before .before .before .before .before .if2 .left)
+    (refuses _ _ _ (c .before .before .before .before .value-at .ensures .0) (c .before .before .if3 .taken))))),
+    rw (c .no-head3 .ensures) (omega arith))
+
+cast-id : tie.Need-cast-id
+cast-id c = search needs
+
+cast-operation : tie.Need-cast-operation
+cast-operation c = search needs
+
+returns-4 : tie.Need-returns-4
+unfolding restOf tailOf contentsOf returnResult leads cons constructed
+returns-4 c =
+    (simp flat (goes _ _ _ (c .before .before .before .before .before .before .before .before .before .before .identifier-at .ensures .0) (c .before .before .before .before .before .before .before .before .if1 .left)
+    (goes _ _ _ (c .before .before .before .before .before .before .before .open-at .ensures .0) (c .before .before .before .before .before .if2 .left)
+    (goes _ _ _ (c .before .before .before .before .value-at .ensures .0) (c .before .before .if3 .left) refl))), omega arith)
+
+pub result-head-spec : {M : Type 1} → statement M
+result-head-spec =
+    tie.close
+    (tie.spec
+    identifier-at-requires
+    number-of-requires
+    no-head-requires
+    returns
+    open-at-requires
+    number-of-requires-2
+    no-head-requires-2
+    returns-2
+    value-at-requires
+    number-of-requires-3
+    no-head-requires-3
+    returns-3
+    cast-id
+    cast-operation
+    returns-4)

@@ -1,0 +1,563 @@
+// Heads of components: all that stands before an argument or result. Of a return error or a reject, all.
+ghost use mathlib.Core.Path.{_≡_};
+ghost use mathlib.Core.List.{List, [], _∷_};
+ghost use mathlib.Core.Logic.{_⊎_, inl, inr};
+ghost use Prim.Native.Nat.{ℕ, _+_, _≤_, _<_};
+ghost use lib.ListN.{length};
+ghost use Rattle.coding.specs.Reader.{Fault, part, enteredAny};
+ghost use Rattle.coding.specs.Reader.Fault.{named};
+ghost use Rattle.coding.specs.Codec.{has};
+ghost use Rattle.coding.specs.Leaves.{listing};
+ghost use Rattle.coding.specs.Shown.{shown, verdict};
+ghost use Rattle.types.specs.Frames.{outside, value, invoke, returnResult, returnError, reject, caller, problems, rejects, readOf};
+ghost use Rattle.heads.specs.Heads.{outsideCode, argumentCode, numberCode, knownIn, unknownIn, contentsOf, restOf, callerBy, rejectedBy, problemIn, problemsIn};
+
+// What stands before an argument or result, which lies from at to stop, in an element that ends at next; of a return error or reject, all.
+// frame: 0 with the number of a refusal, else as in a record.
+pub struct Head {
+    pub number: u8,
+    pub frame: u8,
+    pub unnamed: u8,
+    pub id: u16,
+    pub operation: u8,
+    pub error: u8,
+    pub problem: u8,
+    pub detail: u8,
+    pub at: usize,
+    pub stop: usize,
+    pub next: usize,
+}
+
+// ---- faults
+
+// A fault of the component's own element.
+fn outer(fault: u8) -> u8
+    ensures { λ r. ⌜ r ≡ outsideCode fault ⌝ }
+{
+    if fault == 40 {
+        return 101;
+    }
+    if fault == 41 {
+        return 104;
+    }
+    if fault == 42 {
+        return 101;
+    }
+    fault
+}
+
+// A fault in the argument or result.
+pub fn inner(fault: u8) -> u8
+    ensures { λ r. ⌜ r ≡ argumentCode fault ⌝ }
+{
+    if fault == 2 {
+        return 2;
+    }
+    if fault < 100 {
+        return 100 + fault;
+    }
+    fault
+}
+
+fn named_one(n: u8) -> bool
+    ensures { λ r. ⌜ r ≡ has (1 ∷ 4 ∷ 5 ∷ 7 ∷ 8 ∷ []) n ⌝ }
+{
+    if n == 1 {
+        return true;
+    }
+    if n == 4 {
+        return true;
+    }
+    if n == 5 {
+        return true;
+    }
+    if n == 7 {
+        return true;
+    }
+    if n == 8 {
+        return true;
+    }
+    false
+}
+
+// The number given for a fault.
+pub fn number_of(fault: u8) -> u8
+    ensures { λ r. ⌜ r ≡ numberCode fault ⌝ }
+{
+    if fault < 100 {
+        if fault == 2 {
+            return 2;
+        }
+        return 6;
+    }
+    let n = fault - 100;
+    if 40 <= n {
+        return 9;
+    }
+    if named_one(n) {
+        return n;
+    }
+    6
+}
+
+// ---- operation and error values
+
+fn known_operation(n: u32) -> bool
+    ensures { λ r. ⌜ r ≡ has (30 ∷ 31 ∷ 32 ∷ 33 ∷ 34 ∷ 35 ∷ 36 ∷ []) n ⌝ }
+{
+    if n < 30 {
+        return false;
+    }
+    if 36 < n {
+        return false;
+    }
+    true
+}
+
+fn known_error(n: u32) -> bool
+    ensures { λ r. ⌜ r ≡ has (0 ∷ 3 ∷ 4 ∷ 7 ∷ 26 ∷ []) n ⌝ }
+{
+    if n == 0 {
+        return true;
+    }
+    if n == 3 {
+        return true;
+    }
+    if n == 4 {
+        return true;
+    }
+    if n == 7 {
+        return true;
+    }
+    if n == 26 {
+        return true;
+    }
+    false
+}
+
+fn is_charging_request(n: u32) -> bool
+    ensures { λ r. ⌜ r ≡ has (30 ∷ []) n ⌝ }
+{
+    if n == 30 {
+        return true;
+    }
+    false
+}
+
+fn is_known(frame: u8, n: u32) -> bool
+    ensures { λ r. ⌜ r ≡ has (knownIn frame) n ⌝ }
+{
+    if frame == 1 {
+        return known_operation(n);
+    }
+    if frame == 2 {
+        return is_charging_request(n);
+    }
+    known_error(n)
+}
+
+// The fault of a value that is not known.
+fn unknown(frame: u8) -> u8
+    ensures { λ r. ⌜ r ≡ 100 + unknownIn frame ⌝ }
+{
+    if frame == 3 {
+        return 108;
+    }
+    107
+}
+
+// The contents of an operation or error value.
+fn value_in(s: &[u8], start: usize, stop: usize, frame: u8) -> coding::Verdict
+    requires { ⌜ (start ≤ stop) × (stop ≤ length (now s)) ⌝ }
+    ensures { λ r. ⌜ (r .fault, r .value) ≡ verdict 0 (listing (unknownIn frame) (knownIn frame) (part (now (s .entry)) start stop)) ⌝ }
+    ensures bounded { λ r. ⌜ r .value < 256 ⌝ }
+{
+    if !coding::is_shortest(s, start, stop) {
+        return coding::Verdict {
+            fault: 43,
+            value: 0,
+        };
+    }
+    if 4 < stop - start {
+        return coding::Verdict {
+            fault: 44,
+            value: 0,
+        };
+    }
+    if coding::is_negative(s, start, stop) {
+        let fault = unknown(frame);
+        return coding::Verdict { fault, value: 0 };
+    }
+    let n = coding::magnitude(s, start, stop);
+    if is_known(frame, n) {
+        return coding::Verdict { fault: 0, value: n };
+    }
+    let fault = unknown(frame);
+    coding::Verdict { fault, value: 0 }
+}
+
+fn value_at(s: &[u8], at: usize, end: usize, frame: u8) -> coding::NumberRead
+    requires { ⌜ end ≤ length (now s) ⌝ }
+    ensures { λ r. ⌜ (r .fault, r .place, r .value, r .next) ≡ shown 0 ((value (unknownIn frame) (knownIn frame)) .read (now (s .entry)) at end) ⌝ }
+    ensures bounded { λ r. ⌜ r .value < 256 ⌝ }
+{
+    if coding::is_tag(s, at, end, 0x06) {
+        let fault = unknown(frame);
+        return coding::NumberRead {
+            fault,
+            place: at,
+            value: 0,
+            next: 0,
+        };
+    }
+    let e = coding::open_at(s, at, end, 0x02);
+    if e.fault != 0 {
+        return coding::NumberRead {
+            fault: e.fault,
+            place: e.place,
+            value: 0,
+            next: 0,
+        };
+    }
+    let v = value_in(s, e.value.start, e.value.stop, frame);
+    if v.fault != 0 {
+        return coding::NumberRead {
+            fault: v.fault,
+            place: at,
+            value: 0,
+            next: 0,
+        };
+    }
+    coding::NumberRead {
+        fault: 0,
+        place: 0,
+        value: v.value,
+        next: e.next,
+    }
+}
+
+// ---- heads
+
+fn no_head(number: u8) -> Head
+    ensures { λ r. ⌜ r ≡ record { number = number; frame = 0; unnamed = 0; id = 0; operation = 0; error = 0; problem = 0; detail = 0; at = 0; stop = 0; next = 0 } ⌝ }
+{
+    Head {
+        number,
+        frame: 0,
+        unnamed: 0,
+        id: 0,
+        operation: 0,
+        error: 0,
+        problem: 0,
+        detail: 0,
+        at: 0,
+        stop: 0,
+        next: 0,
+    }
+}
+
+// A1: identifier, operation.
+fn invoke_head(s: &[u8], start: usize) -> Head
+    ensures { λ r. ⌜ restOf r (now (s .entry)) ≡ contentsOf invoke (now (s .entry)) start ⌝ }
+    ensures inside { λ r. ⌜ r .stop ≤ length (now (s .entry)) ⌝ }
+{
+    let n = s.len();
+    let i = coding::identifier_at(s, start, n, 0x02);
+    if i.fault != 0 {
+        return no_head(number_of(i.fault));
+    }
+    let o = value_at(s, i.next, n, 1);
+    if o.fault != 0 {
+        return no_head(number_of(o.fault));
+    }
+    let id = i.value as u16;
+    let operation = o.value as u8;
+    Head {
+        number: 0,
+        frame: 1,
+        unnamed: 0,
+        id,
+        operation,
+        error: 0,
+        problem: 0,
+        detail: 0,
+        at: o.next,
+        stop: n,
+        next: n,
+    }
+}
+
+// A2: identifier, then 30 holding operation and result.
+fn result_head(s: &[u8], start: usize) -> Head
+    ensures { λ r. ⌜ restOf r (now (s .entry)) ≡ contentsOf returnResult (now (s .entry)) start ⌝ }
+    ensures inside { λ r. ⌜ r .stop ≤ length (now (s .entry)) ⌝ }
+{
+    let n = s.len();
+    let i = coding::identifier_at(s, start, n, 0x02);
+    if i.fault != 0 {
+        return no_head(number_of(i.fault));
+    }
+    let e = coding::open_at(s, i.next, n, 0x30);
+    if e.fault != 0 {
+        return no_head(number_of(e.fault));
+    }
+    let o = value_at(s, e.value.start, e.value.stop, 2);
+    if o.fault != 0 {
+        return no_head(number_of(o.fault));
+    }
+    let id = i.value as u16;
+    let operation = o.value as u8;
+    Head {
+        number: 0,
+        frame: 2,
+        unnamed: 0,
+        id,
+        operation,
+        error: 0,
+        problem: 0,
+        detail: 0,
+        at: o.next,
+        stop: e.value.stop,
+        next: e.next,
+    }
+}
+
+// A3: identifier, error.
+fn error_head(s: &[u8], start: usize) -> Head
+    ensures { λ r. ⌜ restOf r (now (s .entry)) ≡ contentsOf returnError (now (s .entry)) start ⌝ }
+    ensures inside { λ r. ⌜ r .stop ≤ length (now (s .entry)) ⌝ }
+{
+    let n = s.len();
+    let i = coding::identifier_at(s, start, n, 0x02);
+    if i.fault != 0 {
+        return no_head(number_of(i.fault));
+    }
+    let o = value_at(s, i.next, n, 3);
+    if o.fault != 0 {
+        return no_head(number_of(o.fault));
+    }
+    if o.next != n {
+        return no_head(6);
+    }
+    let id = i.value as u16;
+    let error = o.value as u8;
+    Head {
+        number: 0,
+        frame: 3,
+        unnamed: 0,
+        id,
+        operation: 0,
+        error,
+        problem: 0,
+        detail: 0,
+        at: 0,
+        stop: 0,
+        next: 0,
+    }
+}
+
+// What a reject answers: an identifier, or NULL.
+pub struct Caller {
+    pub unnamed: u8,
+    pub id: u16,
+}
+
+pub struct CallerRead {
+    pub fault: u8,
+    pub place: usize,
+    pub value: Caller,
+    pub next: usize,
+}
+
+fn caller_at(s: &[u8], at: usize, end: usize) -> CallerRead
+    requires { ⌜ end ≤ length (now s) ⌝ }
+    ensures { λ r. ⌜ (r .fault, r .place, callerBy (r .value), r .next) ≡ shown (inr 0) (caller .read (now (s .entry)) at end) ⌝ }
+    ensures proper { λ r. ⌜ ((tag detail : ℕ) → rejects (callerBy (r .value)) tag detail ≡ rejectedBy (r .value) tag detail) ⌝ }
+{
+    if coding::is_tag(s, at, end, 0x05) {
+        let z = coding::null_at(s, at, end, 0x05);
+        if z.fault != 0 {
+            return CallerRead {
+                fault: z.fault,
+                place: z.place,
+                value: Caller { unnamed: 0, id: 0 },
+                next: 0,
+            };
+        }
+        return CallerRead {
+            fault: 0,
+            place: 0,
+            value: Caller { unnamed: 1, id: 0 },
+            next: z.next,
+        };
+    }
+    let i = coding::identifier_at(s, at, end, 0x02);
+    if i.fault != 0 {
+        return CallerRead {
+            fault: i.fault,
+            place: i.place,
+            value: Caller { unnamed: 0, id: 0 },
+            next: 0,
+        };
+    }
+    let id = i.value as u16;
+    CallerRead {
+        fault: 0,
+        place: 0,
+        value: Caller { unnamed: 0, id },
+        next: i.next,
+    }
+}
+
+pub struct ProblemRead {
+    pub fault: u8,
+    pub place: usize,
+    pub value: Problem,
+    pub next: usize,
+}
+
+// A reject's problem: its tag and its value.
+pub struct Problem {
+    pub tag: u8,
+    pub detail: u8,
+}
+
+fn problem_at(s: &[u8], at: usize, end: usize, tag: u8, most: u32) -> ProblemRead
+    requires { ⌜ (end ≤ length (now s)) × (most < 256) ⌝ }
+    ensures { λ r. ⌜ (r .fault, r .place, r .value, r .next) ≡ shown (record { tag = 0; detail = 0 }) (problemIn tag most (now (s .entry)) at end) ⌝ }
+{
+    let n = coding::natural_at(s, at, end, tag, 0, most);
+    if n.fault != 0 {
+        return ProblemRead {
+            fault: n.fault,
+            place: n.place,
+            value: Problem { tag: 0, detail: 0 },
+            next: 0,
+        };
+    }
+    let detail = n.value as u8;
+    ProblemRead {
+        fault: 0,
+        place: 0,
+        value: Problem { tag, detail },
+        next: n.next,
+    }
+}
+
+fn problems_at(s: &[u8], at: usize, end: usize) -> ProblemRead
+    requires { ⌜ end ≤ length (now s) ⌝ }
+    ensures { λ r. ⌜ (r .fault, r .place, r .value, r .next) ≡ shown (record { tag = 0; detail = 0 }) (problemsIn (now (s .entry)) at end) ⌝ }
+{
+    if coding::is_tag(s, at, end, 0x80) {
+        return problem_at(s, at, end, 0x80, 2);
+    }
+    if coding::is_tag(s, at, end, 0x81) {
+        return problem_at(s, at, end, 0x81, 7);
+    }
+    if coding::is_tag(s, at, end, 0x82) {
+        return problem_at(s, at, end, 0x82, 2);
+    }
+    problem_at(s, at, end, 0x83, 4)
+}
+
+// A4: identifier or NULL, problem.
+fn reject_head(s: &[u8], start: usize) -> Head
+    ensures { λ r. ⌜ restOf r (now (s .entry)) ≡ contentsOf reject (now (s .entry)) start ⌝ }
+    ensures inside { λ r. ⌜ r .stop ≤ length (now (s .entry)) ⌝ }
+{
+    let n = s.len();
+    let i = caller_at(s, start, n);
+    if i.fault != 0 {
+        return no_head(number_of(i.fault));
+    }
+    let p = problems_at(s, i.next, n);
+    if p.fault != 0 {
+        return no_head(number_of(p.fault));
+    }
+    if p.next != n {
+        return no_head(6);
+    }
+    Head {
+        number: 0,
+        frame: 4,
+        unnamed: i.value.unnamed,
+        id: i.value.id,
+        operation: 0,
+        error: 0,
+        problem: p.value.tag,
+        detail: p.value.detail,
+        at: 0,
+        stop: 0,
+        next: 0,
+    }
+}
+
+// The component's own element: its first octet, its length, its end, and nothing after it.
+fn enter(s: &[u8]) -> coding::Opened
+    ensures { λ r. ⌜ (r .fault, r .place, r .value, r .next) ≡ shown (record { start = 0; stop = 0 }) (enteredAny (0xa1 ∷ 0xa2 ∷ 0xa3 ∷ 0xa4 ∷ []) outside (named 5) (now (s .entry)) 0 (length (now (s .entry)))) ⌝ }
+    ensures there { λ r. ⌜ ((r .fault ≡ 0) → (0 < length (now (s .entry)))) ⌝ }
+{
+    let n = s.len();
+    if n == 0 {
+        return shut_out(101, n);
+    }
+    let tag = s[0];
+    if tag < 0xa1 {
+        return shut_out(104, 0);
+    }
+    if 0xa4 < tag {
+        return shut_out(104, 0);
+    }
+    let e = coding::length_at(s, 0, 1, n);
+    if e.fault != 0 {
+        return shut_out(outer(e.fault), e.place);
+    }
+    if e.next != n {
+        return shut_out(105, e.next);
+    }
+    let value = e.value;
+    coding::Opened {
+        fault: 0,
+        place: 0,
+        value,
+        next: e.next,
+    }
+}
+
+fn shut_out(fault: u8, place: usize) -> coding::Opened
+    ensures { λ r. ⌜ r ≡ record { fault = fault; place = place; value = record { start = 0; stop = 0 }; next = 0 } ⌝ }
+{
+    coding::Opened {
+        fault,
+        place,
+        value: coding::Extent { start: 0, stop: 0 },
+        next: 0,
+    }
+}
+
+// All that stands before an argument or result.
+pub fn head_of(s: &[u8]) -> Head
+    ensures { λ r. ⌜ restOf r (now (s .entry)) ≡ readOf (now (s .entry)) ⌝ }
+    ensures inside { λ r. ⌜ r .stop ≤ length (now (s .entry)) ⌝ }
+{
+    let n = s.len();
+    if 254 < n {
+        return no_head(3);
+    }
+    let e = enter(s);
+    if e.fault != 0 {
+        return no_head(number_of(e.fault));
+    }
+    let start = e.value.start;
+    let tag = s[0];
+    if tag == 0xa1 {
+        return invoke_head(s, start);
+    }
+    if tag == 0xa2 {
+        return result_head(s, start);
+    }
+    if tag == 0xa3 {
+        return error_head(s, start);
+    }
+    reject_head(s, start)
+}
