@@ -1,4 +1,4 @@
--- Frames: a run whose value names the next, and a tag that is refused at once.
+-- Runs that go by a value or a tag: one whose value names the next, a tag that is refused at once, one of two by a test.
 -- Assumes nothing.
 use Prim.Native.Nat.{ℕ, zero, suc, _+_, _-_, _≤_, _<_}
 use mathlib.Core.Path.{_≡_, refl, sym, ap, ap₂, _∙_, subst, subst₂}
@@ -9,8 +9,8 @@ use native.Mathlib.Omega.{arith}
 use lib.ListN.{length, getD, length-append}
 use lib.Dec.{ltb, leb, eqb}
 use borrow.Author.Tests.{leb-true, le-leb, eq-eqb}
-use Rattle.coding.specs.Reader.{Reader, Ans, Fault, got, halt, if_then_else, after, tagged, choice}
-use Rattle.coding.specs.Codec.{Holds, has, apart, Run, chosen, barring, pickRun, reread}
+use Rattle.coding.specs.Reader.{Fault, tagged, choice}
+use Rattle.coding.specs.Codec.{Holds, has, apart, Run, chosen, barring, pickRun}
 use Rattle.coding.proofs.Basic.{never, either-way, chain, same-got, picked, unpicked, followed, and-left, and-right, and-both, or-no, or-false, has-left, apart-has, holds-left, holds-right}
 use Rattle.coding.proofs.Laws.{Octets, clear, RunLaws}
 use Rattle.coding.proofs.Header.{tagged-is}
@@ -71,17 +71,7 @@ barringLaws tag w f F full ok = record {
           | inr k ↦ absurd (true≢false (sym (k .1) ∙ full))
         ]
 
-pub rereadLaws : {A : Type 0} (r : Reader A) (f : Run A) → ((s : List ℕ) (a e : ℕ) → r s a e ≡ f .read s a e) → RunLaws f → RunLaws (reread r f)
-unfolding reread
-rereadLaws r f same F = record {
-  sound = λ s a e n x os ae es q. F .sound s a e n x os ae es (sym (same s a e) ∙ q);
-  complete = λ s a n e x ne es cl m. same s a e ∙ F .complete s a n e x ne es cl m;
-  written = F .written;
-  fine = F .fine;
-  shortest = F .shortest;
-  heads = F .heads;
-}
-
+-- one type or another, by a test that has been made
 pub pickLaws : {A : Type 0} (t : Bool) (f g : Run A) → RunLaws f → RunLaws g → RunLaws (pickRun t f g)
 pickLaws true f g F G = F
 pickLaws false f g F G = G

@@ -1,3 +1,4 @@
+-- The laws of the coding: what the proofs of this crate and of those above cite.
 pub mod Basic
 pub mod Laws
 pub mod Header

@@ -1,4 +1,5 @@
 -- A loop over a list's entries: the entries so far, and that the whole list is those and then the rest.
+-- Assumes nothing.
 use Prim.Native.Nat.{ℕ, zero, suc, _+_, _-_, _≤_, _<_}
 use native.Mathlib.Omega.{arith}
 use native.Mathlib.Nat.{sub-zero}

@@ -1,4 +1,4 @@
--- The laws of what the joined trial adds: contents for another type, faults told otherwise, runs of one type by tag, an element alone,
+-- The laws of the further combinators and leaves: contents for another type, faults told otherwise, runs of one type by tag, an element alone,
 -- numbers of a list, a number that may be absent.
 -- Assumes nothing.
 use Prim.Native.Nat.{ℕ, zero, suc, _+_, _-_, _≤_, _<_}

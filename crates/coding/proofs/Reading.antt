@@ -1,4 +1,5 @@
 -- What the proofs of readers cite: how an answer in a struct goes with what follows it.
+-- Assumes nothing.
 use Prim.Native.Nat.{ℕ}
 use native.Mathlib.Omega.{arith}
 use mathlib.Core.Path.{_≡_, refl, ap, sym, _∙_}

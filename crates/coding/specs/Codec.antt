@@ -302,11 +302,6 @@ abbrev pub pickRun : {A : Type 0} → Bool → Run A → Run A → Run A
 pickRun true f g = f
 pickRun false f g = g
 
--- ---- the same type by a reading that gives the same answers, as one in do notation
-
-unfoldable pub reread : {A : Type 0} → Reader A → Run A → Run A
-reread r f = record { read = r; write = f .write; valid = f .valid; Means = f .Means; first = f .first; empty = f .empty; avoid = f .avoid }
-
 -- ---- records
 
 module _ {A B : Type 0} where

@@ -1,3 +1,4 @@
+-- The coding of elements, as the contracts and the tables of types cite it.
 pub mod Reader
 pub mod Contents
 pub mod Codec

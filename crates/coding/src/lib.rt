@@ -1,21 +1,24 @@
-// Reading elements of the basic encoding rules.
+// The basic encoding rules, as far as the components use them: elements read from octets, and elements written into a lent buffer.
 //
-// Each reader is given all the octets, a place and the end of the enclosing element. Its answer is a struct: a fault's number, or 0;
+// A reader is given all the octets, a place and the end of the enclosing element. Its answer is a struct: a fault's number, or 0;
 // the fault's place; the value; the place after it. After a fault the value and the next place are zero.
+// A writer is given a buffer, a place and what to write. It stores those octets from the place on, changes no other octet, and answers
+// the place after them.
+ghost use Prim.Native.Nat.{ℕ, _+_, _*_, _≤_, _<_, min};
 ghost use mathlib.Core.Path.{_≡_};
 ghost use mathlib.Core.Bool.{Bool, true, false};
 ghost use mathlib.Core.List.{[], _∷_, _++_};
-ghost use Prim.Native.Nat.{ℕ, _+_, _*_, _≤_, _<_, min};
 ghost use lib.ListN.{length, take};
+ghost use lib.Dec.{ltb};
 ghost use Rattle.coding.specs.Reader.{tagged, neither, extent, lengthAt, opened, closed, primitive, part};
-ghost use Rattle.coding.specs.Contents.{natural, shortest, negative, numberFrom};
+ghost use Rattle.coding.specs.Contents.{natural, shortest, negative, numberFrom, every};
 ghost use Rattle.coding.specs.Codec.{prim, lengthOctets};
 ghost use Rattle.coding.specs.Leaves.{number, nullLeaf, given, signed16, identifier, width, digits};
 ghost use Rattle.coding.specs.Shown.{shown, verdict};
-ghost use Rattle.coding.specs.Written.{Wrote, lead, fullNumber};
-ghost use Rattle.coding.specs.Contents.{every};
-ghost use lib.Dec.{ltb};
 ghost use Rattle.coding.specs.Shortcut.{Tiny, Short, tinyAt, shortAt, bareAt};
+ghost use Rattle.coding.specs.Written.{Wrote, lead, fullNumber};
+
+// ---- Elements: tag and length octets.
 
 // The contents of an element: from start up to stop.
 pub struct Extent {
@@ -23,6 +26,7 @@ pub struct Extent {
     pub stop: usize,
 }
 
+// An element that is opened.
 pub struct Opened {
     pub fault: u8,
     pub place: usize,
@@ -30,11 +34,19 @@ pub struct Opened {
     pub next: usize,
 }
 
+// An octet as a number.
 fn wide(x: u8) -> usize
     ensures { λ r. ⌜ r ≡ x ⌝ }
     ensures small { λ r. ⌜ r < 256 ⌝ }
 {
     x as usize
+}
+
+fn wide32(x: u8) -> u32
+    ensures { λ r. ⌜ r ≡ x ⌝ }
+    ensures small { λ r. ⌜ r < 256 ⌝ }
+{
+    x as u32
 }
 
 // Whether the tag comes next.
@@ -48,6 +60,7 @@ pub fn is_tag(s: &[u8], at: usize, end: usize, tag: u8) -> bool
     s[at] == tag
 }
 
+// A fault, and nothing opened.
 fn halted(fault: u8, place: usize) -> Opened
     ensures { λ r. ⌜ r ≡ record { fault = fault; place = place; value = record { start = 0; stop = 0 }; next = 0 } ⌝ }
 {
@@ -170,12 +183,15 @@ pub fn open_long(s: &[u8], at: usize, end: usize, tag: u8) -> Opened
     length_at(s, at, at + 1, end)
 }
 
+// ---- Numbers.
+
 // Contents judged by themselves: a fault's number, or 0, and the value.
 pub struct Verdict {
     pub fault: u8,
     pub value: u32,
 }
 
+// A number that is read.
 pub struct NumberRead {
     pub fault: u8,
     pub place: usize,
@@ -205,6 +221,7 @@ pub fn is_shortest(s: &[u8], start: usize, stop: usize) -> bool
     true
 }
 
+// Whether the sign of contents is set.
 pub fn is_negative(s: &[u8], start: usize, stop: usize) -> bool
     requires { ⌜ stop ≤ length (now s) ⌝ }
     ensures { λ r. ⌜ r ≡ negative (part (now (s .entry)) start stop) ⌝ }
@@ -358,6 +375,7 @@ pub struct Chosen {
     pub value: u32,
 }
 
+// A number that is read or absent.
 pub struct ChosenRead {
     pub fault: u8,
     pub place: usize,
@@ -404,6 +422,8 @@ pub fn chosen_at(s: &[u8], at: usize, end: usize, tag: u8, low: u32, high: u32) 
     }
 }
 
+// ---- NULL.
+
 // A NULL element's answer has no value.
 pub struct Empty {
     pub fault: u8,
@@ -429,6 +449,7 @@ pub fn bare(s: &[u8], at: usize, end: usize, tag: u8) -> bool
     s[at + 1] == 0
 }
 
+// A NULL element.
 pub fn null_at(s: &[u8], at: usize, end: usize, tag: u8) -> Empty
     requires { ⌜ end ≤ length (now s) ⌝ }
     ensures { λ r. ⌜ (r .fault, r .place, tt, r .next) ≡ shown (tt {0}) ((prim tag nullLeaf) .read (now (s .entry)) at end) ⌝ }
@@ -469,6 +490,8 @@ pub fn null_long(s: &[u8], at: usize, end: usize, tag: u8) -> Empty
         next: e.next,
     }
 }
+
+// ---- Identifiers.
 
 // An identifier's contents: -32,768 to 32,767, as its pattern of 16 bits.
 fn identifier_in(s: &[u8], start: usize, stop: usize) -> Verdict
@@ -511,13 +534,7 @@ fn identifier_in(s: &[u8], start: usize, stop: usize) -> Verdict
     }
 }
 
-fn wide32(x: u8) -> u32
-    ensures { λ r. ⌜ r ≡ x ⌝ }
-    ensures small { λ r. ⌜ r < 256 ⌝ }
-{
-    x as u32
-}
-
+// An INTEGER element from -32,768 to 32,767, as its pattern of 16 bits.
 pub fn identifier_at(s: &[u8], at: usize, end: usize, tag: u8) -> NumberRead
     requires { ⌜ end ≤ length (now s) ⌝ }
     ensures { λ r. ⌜ (r .fault, r .place, r .value, r .next) ≡ shown 0 ((prim tag identifier) .read (now (s .entry)) at end) ⌝ }
@@ -575,7 +592,9 @@ pub fn identifier_long(s: &[u8], at: usize, end: usize, tag: u8) -> NumberRead
     }
 }
 
-// The octets of a shortest number.
+// ---- Writing.
+
+// How many octets a shortest number has.
 pub fn width_of(n: u32) -> usize
     ensures { λ r. ⌜ r ≡ width n ⌝ }
 {
@@ -639,6 +658,7 @@ fn put4(buf: &mut [u8], at: usize, n: u32) -> usize
     put3(buf, at + 1, n)
 }
 
+// The w low octets of a number, high first.
 fn put_digits(buf: &mut [u8], at: usize, w: usize, n: u32) -> usize
     requires { ⌜ (1 ≤ w) × (w ≤ 4) × (at + w ≤ length (now buf)) ⌝ }
     ensures { λ r. ⌜ Wrote (now (buf .entry)) (now (buf .exit)) at (digits w n) r ⌝ }
@@ -678,7 +698,7 @@ pub fn put_octets(buf: &mut [u8], at: usize, s: &[u8], n: usize) -> usize
     at + n
 }
 
-// A NULL element.
+// A NULL element's octets.
 pub fn put_null(buf: &mut [u8], at: usize, tag: u8) -> usize
     requires { ⌜ at + length (lead tag 0) ≤ length (now buf) ⌝ }
     ensures { λ r. ⌜ Wrote (now (buf .entry)) (now (buf .exit)) at (lead tag 0) r ⌝ }
@@ -758,6 +778,8 @@ pub fn element_size(n: usize) -> usize
     }
     n + 3
 }
+
+// ---- Tests.
 
 // Whether the octets from a place up to another are below a limit.
 pub fn below(s: &[u8], from: usize, to: usize, limit: u8) -> bool

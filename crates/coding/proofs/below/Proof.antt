@@ -1,3 +1,5 @@
+-- `coding::below` meets its contract. The loop's invariant: what is left decides. The measure is what is left.
+-- Assumes nothing.
 use Prim.Native.Nat.{ℕ, _-_, _≤_, _<_}
 use mathlib.Core.Path.{_≡_, refl, sym, _∙_}
 use native.Mathlib.Omega.{arith}
@@ -8,8 +10,6 @@ use Rattle.coding.specs.Contents.{every}
 use Rattle.coding.proofs.Writing.{every-step, every-stop, every-end}
 use Rattle.coding.proofs.below.Statement.{statement}
 use Rattle.coding.proofs.below.Tie as tie
-use Rattle.coding.proofs.below.Reads as reads
-use Rattle.coding.proofs.below.Lts as lts
 
 abbrev Inv-loop : tie.InvT-loop
 Inv-loop s from to limit i₀ i = (from ≤ i) × (i ≤ to) × (every (λ x. ltb x limit) (part s from to) ≡ every (λ x. ltb x limit) (part s i to))
@@ -17,37 +17,30 @@ Inv-loop s from to limit i₀ i = (from ≤ i) × (i ≤ to) × (every (λ x. lt
 abbrev μ-loop : tie.MeasureT-loop
 μ-loop s from to limit i₀ i = to - i
 
--- src/lib.rt:130:5
 loop-holds : tie.Need-loop-holds Inv-loop μ-loop
 loop-holds c = (omega arith, omega arith, refl)
 
--- src/lib.rt:131:21
 shared-slice-read-if1 : tie.Need-shared-slice-read-if1 Inv-loop μ-loop
 shared-slice-read-if1 c = omega arith
 
--- src/lib.rt:132:13
 returns : tie.Need-returns Inv-loop μ-loop
 returns c =
     let a = c .before .before .before .before .args in
     let l = c .before .before .before .loop in
     sym (l .inv .2 ∙ every-stop (λ x. ltb x (a .limit)) (a .s .now) (l .i) (a .to) (omega arith) (omega arith) (le-ltb _ (a .limit) (omega arith)))
 
--- src/lib.rt:134:9
 add-i : tie.Need-add-i Inv-loop μ-loop
 add-i c = omega arith
 
--- src/lib.rt:130:5
 loop-less : tie.Need-loop-less Inv-loop μ-loop
 loop-less c = omega arith
 
--- src/lib.rt:130:5
 loop-again : tie.Need-loop-again Inv-loop μ-loop
 loop-again c =
     let a = c .before .before .before .before .args in
     let l = c .before .before .before .loop in
     (omega arith, omega arith, l .inv .2 ∙ every-step (λ x. ltb x (a .limit)) (a .s .now) (l .i) (a .to) (omega arith) (omega arith) (lt-ltb _ (a .limit) (omega arith)))
 
--- src/lib.rt:125:1
 returns-2 : tie.Need-returns-2 Inv-loop μ-loop
 returns-2 c =
     let a = c .before .before .args in

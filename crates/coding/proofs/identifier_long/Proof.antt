@@ -1,3 +1,5 @@
+-- `coding::identifier_long` meets its contract.
+-- Assumes nothing.
 use borrow.Author.Needs.{needs}
 use Rattle.coding.specs.Codec.{prim}
 use Rattle.coding.specs.Leaves.{identifier}
@@ -6,30 +8,21 @@ use Rattle.coding.specs.Reader.{primitive}
 use Rattle.coding.proofs.Reading.{reading}
 use Rattle.coding.proofs.identifier_long.Statement.{statement}
 use Rattle.coding.proofs.identifier_long.Tie as tie
-use Rattle.coding.proofs.identifier_long.Reads as reads
-use Rattle.coding.proofs.identifier_long.Lts as lts
-use Rattle.coding.proofs.identifier_in.Reads as identifier-in-reads
-use Rattle.coding.proofs.open_long.Reads as open-long-reads
 
--- src/lib.rt:216:9
 open-long-requires : tie.Need-open-long-requires
 open-long-requires c κs = search needs
 
--- src/lib.rt:218:9
 returns : tie.Need-returns
 unfolding prim identifier primitive
 returns c = (search reading, omega arith)
 
--- src/lib.rt:220:9
 identifier-in-requires : tie.Need-identifier-in-requires
 identifier-in-requires c κs = search needs
 
--- src/lib.rt:222:9
 returns-2 : tie.Need-returns-2
 unfolding prim identifier primitive
 returns-2 c = (search reading, omega arith)
 
--- src/lib.rt:211:1
 returns-3 : tie.Need-returns-3
 unfolding prim identifier primitive
 returns-3 c = (search reading, omega arith)

@@ -1,21 +1,18 @@
+-- `coding::is_tag` meets its contract.
+-- Assumes nothing.
 use borrow.Author.Needs.{needs}
 use borrow.Author.Tests.{le-ltb, lt-ltb, le-leb, lt-leb, eq-eqb, ne-eqb}
 use Rattle.coding.specs.Reader.{tagged}
 use Rattle.coding.proofs.is_tag.Statement.{statement}
 use Rattle.coding.proofs.is_tag.Tie as tie
-use Rattle.coding.proofs.is_tag.Reads as reads
-use Rattle.coding.proofs.is_tag.Lts as lts
 
--- src/lib.rt:37:9
 returns : tie.Need-returns
 unfolding tagged
 returns c = simp (le-ltb _ _ (c .if1 .taken))
 
--- src/lib.rt:39:5
 shared-slice-read-result : tie.Need-shared-slice-read-result
 shared-slice-read-result c = search needs
 
--- src/lib.rt:32:1
 returns-2 : tie.Need-returns-2
 unfolding tagged
 returns-2 c = simp (lt-ltb _ _ (c .before .if1 .left))

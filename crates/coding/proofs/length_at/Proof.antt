@@ -1,3 +1,5 @@
+-- `coding::length_at` meets its contract.
+-- Assumes nothing.
 use borrow.Author.Needs.{needs}
 use borrow.Author.Tests.{le-ltb, lt-ltb, le-leb, lt-leb, eq-eqb, ne-eqb}
 use borrow.Author.Tests.{le-ltb, lt-ltb, le-leb, lt-leb, eq-eqb, ne-eqb, ltb-true, leb-true}
@@ -6,80 +8,59 @@ use Rattle.coding.specs.Reader.{lengthAt}
 use Rattle.coding.specs.Shown.{shown}
 use Rattle.coding.proofs.length_at.Statement.{statement}
 use Rattle.coding.proofs.length_at.Tie as tie
-use Rattle.coding.proofs.length_at.Reads as reads
-use Rattle.coding.proofs.length_at.Lts as lts
-use Rattle.coding.proofs.halted.Reads as halted-reads
-use Rattle.coding.proofs.wide.Reads as wide-reads
-use Rattle.coding.proofs.within.Reads as within-reads
 
--- src/lib.rt:78:9
 halted-requires : tie.Need-halted-requires
 halted-requires c κs = search needs
 
--- src/lib.rt:78:9
 returns : tie.Need-returns
 unfolding lengthAt shown
 returns c = rw (c .halted .ensures) (simp (le-leb _ _ (c .before .if1 .taken)), omega arith)
 
--- src/lib.rt:80:22
 shared-slice-read-wide : tie.Need-shared-slice-read-wide
 shared-slice-read-wide c = search needs
 
--- src/lib.rt:80:9
 wide-requires : tie.Need-wide-requires
 wide-requires c κs = search needs
 
--- src/lib.rt:82:28
 add-within : tie.Need-add-within
 add-within c = search needs
 
--- src/lib.rt:82:9
 within-requires : tie.Need-within-requires
 within-requires c κs = search needs
 
--- src/lib.rt:82:9
 returns-2 : tie.Need-returns-2
 unfolding lengthAt
 returns-2 c =
     let w = c .before .before in
     (rw (← w .wide .ensures .0) (simp (lt-leb _ _ (w .before .before .if1 .left), lt-ltb _ _ (c .before .if2 .taken)) (c .within .ensures .0)), c .within .ensures .1)
 
--- src/lib.rt:85:18
 add-if4 : tie.Need-add-if4
 add-if4 c = search needs
 
--- src/lib.rt:86:13
 halted-requires-2 : tie.Need-halted-requires-2
 halted-requires-2 c κs = search needs
 
--- src/lib.rt:86:13
 returns-3 : tie.Need-returns-3
 unfolding lengthAt shown
 returns-3 c =
     let w = c .before .before .before .before in
     rw (c .halted2 .ensures) (rw (← w .wide .ensures .0) (simp (lt-leb _ _ (w .before .before .if1 .left), le-ltb _ _ (c .before .before .before .if2 .left), c .before .before .if3 .taken, lt-ltb _ _ (c .before .if4 .taken))), omega arith)
 
--- src/lib.rt:88:24
 add-wide : tie.Need-add-wide
 add-wide c = search needs
 
--- src/lib.rt:88:22
 shared-slice-read-wide-2 : tie.Need-shared-slice-read-wide-2
 shared-slice-read-wide-2 c = search needs
 
--- src/lib.rt:88:13
 wide-requires-2 : tie.Need-wide-requires-2
 wide-requires-2 c κs = search needs
 
--- src/lib.rt:89:28
 add-within-2 : tie.Need-add-within-2
 add-within-2 c = search needs
 
--- src/lib.rt:89:9
 within-requires-2 : tie.Need-within-requires-2
 within-requires-2 c κs = search needs
 
--- src/lib.rt:89:9
 returns-4 : tie.Need-returns-4
 unfolding lengthAt
 returns-4 c =
@@ -90,15 +71,12 @@ returns-4 c =
       c .within2 .ensures .1,
     )
 
--- src/lib.rt:92:18
 add-if6 : tie.Need-add-if6
 add-if6 c = search needs
 
--- src/lib.rt:93:13
 halted-requires-3 : tie.Need-halted-requires-3
 halted-requires-3 c κs = search needs
 
--- src/lib.rt:93:13
 returns-5 : tie.Need-returns-5
 unfolding lengthAt shown
 returns-5 c =
@@ -106,47 +84,36 @@ returns-5 c =
     rw (c .halted3 .ensures)
     (rw (← w .wide .ensures .0) (simp (lt-leb _ _ (w .before .before .if1 .left), c .before .before .if5 .taken, lt-ltb _ _ (c .before .if6 .taken))), omega arith)
 
--- src/lib.rt:95:24
 add-wide-2 : tie.Need-add-wide-2
 add-wide-2 c = search needs
 
--- src/lib.rt:95:22
 shared-slice-read-wide-3 : tie.Need-shared-slice-read-wide-3
 shared-slice-read-wide-3 c = search needs
 
--- src/lib.rt:95:17
 wide-requires-3 : tie.Need-wide-requires-3
 wide-requires-3 c κs = search needs
 
--- src/lib.rt:95:17
 mul-n : tie.Need-mul-n
 mul-n c = omega arith
 
--- src/lib.rt:95:48
 add-wide-3 : tie.Need-add-wide-3
 add-wide-3 c = search needs
 
--- src/lib.rt:95:46
 shared-slice-read-wide-4 : tie.Need-shared-slice-read-wide-4
 shared-slice-read-wide-4 c = search needs
 
--- src/lib.rt:95:41
 wide-requires-4 : tie.Need-wide-requires-4
 wide-requires-4 c κs = search needs
 
--- src/lib.rt:95:17
 add-n : tie.Need-add-n
 add-n c = omega arith
 
--- src/lib.rt:96:28
 add-within-3 : tie.Need-add-within-3
 add-within-3 c = search needs
 
--- src/lib.rt:96:9
 within-requires-3 : tie.Need-within-requires-3
 within-requires-3 c κs = search needs
 
--- src/lib.rt:96:9
 returns-6 : tie.Need-returns-6
 unfolding lengthAt
 returns-6 c =
@@ -161,11 +128,9 @@ returns-6 c =
       c .within3 .ensures .1,
     )
 
--- src/lib.rt:98:5
 halted-requires-4 : tie.Need-halted-requires-4
 halted-requires-4 c κs = search needs
 
--- src/lib.rt:72:1
 returns-7 : tie.Need-returns-7
 unfolding lengthAt shown
 returns-7 c =

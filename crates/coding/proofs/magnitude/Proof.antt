@@ -1,3 +1,5 @@
+-- `coding::magnitude` meets its contract. The loop's invariant: n is the number that the octets passed say, held at 2^24. The measure is what is left.
+-- Assumes nothing.
 use Prim.Native.Nat.{_+_, _*_, _-_, _≤_, min}
 use native.Mathlib.Omega.{arith}
 use mathlib.Core.Path.{_≡_, sym, ap, _∙_}
@@ -7,9 +9,6 @@ use Rattle.coding.specs.Contents.{numberFrom}
 use Rattle.coding.proofs.Parts.{part-none, part-more, number-more}
 use Rattle.coding.proofs.magnitude.Statement.{statement}
 use Rattle.coding.proofs.magnitude.Tie as tie
-use Rattle.coding.proofs.magnitude.Reads as reads
-use Rattle.coding.proofs.magnitude.Lts as lts
-use Rattle.coding.proofs.shifted.Reads as shifted-reads
 
 abbrev Inv-loop : tie.InvT-loop
 Inv-loop s start stop n₀ i₀ n i = (start ≤ i) × (i ≤ stop) × (n ≡ min (numberFrom 0 (part s start i)) 16777216)
@@ -17,7 +16,6 @@ Inv-loop s start stop n₀ i₀ n i = (start ≤ i) × (i ≤ stop) × (n ≡ mi
 abbrev μ-loop : tie.MeasureT-loop
 μ-loop s start stop n₀ i₀ n i = stop - i
 
--- src/lib.rt:181:5
 loop-holds : tie.Need-loop-holds Inv-loop μ-loop
 unfolding numberFrom
 loop-holds c =
@@ -25,23 +23,18 @@ loop-holds c =
     let h : a .start ≤ a .start = omega arith in
     (omega arith, omega arith, rw (part-none (a .s .now) _ _ h))
 
--- src/lib.rt:182:24
 shared-slice-read-shifted : tie.Need-shared-slice-read-shifted Inv-loop μ-loop
 shared-slice-read-shifted c = omega arith
 
--- src/lib.rt:182:9
 shifted-requires : tie.Need-shifted-requires Inv-loop μ-loop
 shifted-requires c κs = tt
 
--- src/lib.rt:183:9
 add-i : tie.Need-add-i Inv-loop μ-loop
 add-i c = omega arith
 
--- src/lib.rt:181:5
 loop-less : tie.Need-loop-less Inv-loop μ-loop
 loop-less c = omega arith
 
--- src/lib.rt:181:5
 loop-again : tie.Need-loop-again Inv-loop μ-loop
 loop-again c =
     let l = c .before .before .before .loop in
@@ -49,7 +42,6 @@ loop-again c =
     let p = part-more (a .s .now) (a .start) (l .i) (l .inv .0) (omega arith) in
     (omega arith, omega arith, rw (p, number-more) (omega arith))
 
--- src/lib.rt:175:1
 returns : tie.Need-returns Inv-loop μ-loop
 returns c =
     let e : c .before .loop .i ≡ c .before .before .before .args .stop = omega arith in

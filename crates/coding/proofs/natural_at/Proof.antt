@@ -1,34 +1,26 @@
+-- `coding::natural_at` meets its contract.
+-- Assumes nothing.
 use borrow.Author.Needs.{needs}
 use native.Mathlib.Omega.{arith}
 use Rattle.coding.proofs.Shortcut.{tiny-natural}
 use Rattle.coding.proofs.natural_at.Statement.{statement}
 use Rattle.coding.proofs.natural_at.Tie as tie
-use Rattle.coding.proofs.natural_at.Reads as reads
-use Rattle.coding.proofs.natural_at.Lts as lts
-use Rattle.coding.proofs.natural_long.Reads as natural-long-reads
-use Rattle.coding.proofs.tiny.Reads as tiny-reads
 
--- src/lib.rt:306:13
 tiny-requires : tie.Need-tiny-requires
 tiny-requires c κs = search needs
 
--- src/lib.rt:306:13
 cast-x : tie.Need-cast-x
 cast-x c = search needs
 
--- src/lib.rt:314:27
 add-t12 : tie.Need-add-t12
 add-t12 c = omega (arith, c .before .before .before .tiny .ensures .1 .1 (omega arith) .inside)
 
--- src/lib.rt:310:17
 returns : tie.Need-returns
 returns c = (tiny-natural _ _ _ _ _ _ (omega arith) (c .before .before .before .tiny .ensures .1 .1 (omega arith)) (omega arith) (omega arith) (omega arith), omega arith)
 
--- src/lib.rt:319:5
 natural-long-requires : tie.Need-natural-long-requires
 natural-long-requires c κs = search needs
 
--- src/lib.rt:300:1
 returns-2 : tie.Need-returns-2
 returns-2 c = search needs
 

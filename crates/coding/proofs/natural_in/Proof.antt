@@ -1,3 +1,5 @@
+-- `coding::natural_in` meets its contract.
+-- Assumes nothing.
 use borrow.Author.Needs.{needs}
 use native.Mathlib.Omega.{arith}
 use borrow.Author.Tests.{le-ltb, lt-ltb, le-leb, lt-leb, eq-eqb, ne-eqb}
@@ -9,32 +11,22 @@ use Rattle.coding.specs.Reader.{part}
 use Rattle.coding.specs.Shown.{verdict}
 use Rattle.coding.proofs.natural_in.Statement.{statement}
 use Rattle.coding.proofs.natural_in.Tie as tie
-use Rattle.coding.proofs.natural_in.Reads as reads
-use Rattle.coding.proofs.natural_in.Lts as lts
-use Rattle.coding.proofs.is_negative.Reads as is-negative-reads
-use Rattle.coding.proofs.is_shortest.Reads as is-shortest-reads
-use Rattle.coding.proofs.magnitude.Reads as magnitude-reads
 
--- src/lib.rt:194:8
 is-shortest-requires : tie.Need-is-shortest-requires
 is-shortest-requires c κs = search needs
 
--- src/lib.rt:195:12
 is-negative-requires : tie.Need-is-negative-requires
 is-negative-requires c κs = search needs
 
--- src/lib.rt:196:13
 returns : tie.Need-returns
 unfolding natural verdict
 returns c =
     let d = c .before .before .before in
     (simp (sym (d .is-shortest .ensures) ∙ c .before .before .if1 .taken, sym (c .before .is-negative .ensures) ∙ c .if2 .taken), omega arith)
 
--- src/lib.rt:198:13
 magnitude-requires : tie.Need-magnitude-requires
 magnitude-requires c κs = search needs
 
--- src/lib.rt:200:13
 returns-2 : tie.Need-returns-2
 unfolding natural verdict
 returns-2 c =
@@ -50,7 +42,6 @@ returns-2 c =
       omega arith,
     )
 
--- src/lib.rt:203:13
 returns-3 : tie.Need-returns-3
 unfolding natural verdict
 returns-3 c =
@@ -68,7 +59,6 @@ returns-3 c =
       omega arith,
     )
 
--- src/lib.rt:205:9
 returns-4 : tie.Need-returns-4
 unfolding natural verdict
 returns-4 c =
@@ -87,7 +77,6 @@ returns-4 c =
       omega arith,
     )
 
--- src/lib.rt:189:1
 returns-5 : tie.Need-returns-5
 unfolding natural verdict
 returns-5 c = (simp (sym (c .before .is-shortest .ensures) ∙ c .if1 .left), omega arith)

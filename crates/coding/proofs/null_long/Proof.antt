@@ -1,3 +1,5 @@
+-- `coding::null_long` meets its contract.
+-- Assumes nothing.
 use borrow.Author.Needs.{needs}
 use Rattle.coding.specs.Codec.{prim}
 use Rattle.coding.specs.Leaves.{nullLeaf}
@@ -9,20 +11,14 @@ use Rattle.coding.proofs.Reading.{reading, step, fails}
 use Rattle.coding.proofs.Parts.{null-none, null-some}
 use Rattle.coding.proofs.null_long.Statement.{statement}
 use Rattle.coding.proofs.null_long.Tie as tie
-use Rattle.coding.proofs.null_long.Reads as reads
-use Rattle.coding.proofs.null_long.Lts as lts
-use Rattle.coding.proofs.open_long.Reads as open-long-reads
 
--- src/lib.rt:276:9
 open-long-requires : tie.Need-open-long-requires
 open-long-requires c κs = search needs
 
--- src/lib.rt:278:9
 returns : tie.Need-returns
 unfolding prim nullLeaf primitive
 returns c = search reading
 
--- src/lib.rt:281:9
 returns-2 : tie.Need-returns-2
 unfolding prim nullLeaf primitive
 returns-2 c =
@@ -31,7 +27,6 @@ returns-2 c =
     let e = null-some (a .s .now) (o .result .value .start) (o .result .value .stop) (omega arith) (omega arith) in
     step _ _ _ _ (o .ensures .0) (c .before .before .if1 .left) (fails _ _ _ _ e (λ h. omega arith))
 
--- src/lib.rt:272:1
 returns-3 : tie.Need-returns-3
 unfolding prim nullLeaf primitive
 returns-3 c =

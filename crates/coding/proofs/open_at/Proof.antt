@@ -1,34 +1,26 @@
+-- `coding::open_at` meets its contract.
+-- Assumes nothing.
 use borrow.Author.Needs.{needs}
 use native.Mathlib.Omega.{arith}
 use Rattle.coding.proofs.Shortcut.{short-shown}
 use Rattle.coding.proofs.open_at.Statement.{statement}
 use Rattle.coding.proofs.open_at.Tie as tie
-use Rattle.coding.proofs.open_at.Reads as reads
-use Rattle.coding.proofs.open_at.Lts as lts
-use Rattle.coding.proofs.open_long.Reads as open-long-reads
-use Rattle.coding.proofs.short_length.Reads as short-length-reads
 
--- src/lib.rt:143:9
 short-length-requires : tie.Need-short-length-requires
 short-length-requires c κs = search needs
 
--- src/lib.rt:145:21
 add-start : tie.Need-add-start
 add-start c = omega (arith, c .before .short-length .ensures .1 .1 (omega arith) .inside)
 
--- src/lib.rt:146:20
 add-stop : tie.Need-add-stop
 add-stop c = omega (arith, c .before .short-length .ensures .1 .1 (omega arith) .inside)
 
--- src/lib.rt:147:9
 returns : tie.Need-returns
 returns c = let t = c .before .short-length .ensures .1 .1 (omega arith) in (short-shown _ _ _ _ _ t, omega (arith, t .inside))
 
--- src/lib.rt:154:5
 open-long-requires : tie.Need-open-long-requires
 open-long-requires c κs = search needs
 
--- src/lib.rt:138:1
 returns-2 : tie.Need-returns-2
 returns-2 c = search needs
 

@@ -1,3 +1,5 @@
+-- `coding::put1` meets its contract.
+-- Assumes nothing.
 use borrow.Author.Needs.{needs}
 use mathlib.Core.Path.{refl, sym, ap, _∙_}
 use native.Mathlib.Omega.{arith}
@@ -6,26 +8,19 @@ use Rattle.coding.specs.Leaves.{digits}
 use Rattle.coding.proofs.Writing.{wrote-one, wrote-cons, wrote-as, digits-one}
 use Rattle.coding.proofs.put1.Statement.{statement}
 use Rattle.coding.proofs.put1.Tie as tie
-use Rattle.coding.proofs.put1.Reads as reads
-use Rattle.coding.proofs.put1.Lts as lts
 
--- src/lib.rt:55:15
 cast-buf : tie.Need-cast-buf
 cast-buf c = search needs
 
--- src/lib.rt:55:5
 slice-write-buf : tie.Need-slice-write-buf
 slice-write-buf c = search needs
 
--- src/lib.rt:56:5
 add-result : tie.Need-add-result
 add-result c = search needs
 
--- src/lib.rt:51:1
 same-length : tie.Need-same-length
 same-length c = search needs
 
--- src/lib.rt:51:1
 returns : tie.Need-returns
 returns c = wrote-as (digits-one (c .args .n)) (wrote-one _ _ _)
 

@@ -1,3 +1,5 @@
+-- `coding::put3` meets its contract.
+-- Assumes nothing.
 use borrow.Author.Needs.{needs}
 use mathlib.Core.Path.{refl, sym, ap, _∙_}
 use native.Mathlib.Omega.{arith}
@@ -6,27 +8,19 @@ use Rattle.coding.specs.Leaves.{digits}
 use Rattle.coding.proofs.Writing.{wrote-one, wrote-cons, wrote-as, digits-one}
 use Rattle.coding.proofs.put3.Statement.{statement}
 use Rattle.coding.proofs.put3.Tie as tie
-use Rattle.coding.proofs.put3.Reads as reads
-use Rattle.coding.proofs.put3.Lts as lts
-use Rattle.coding.proofs.put2.Reads as put2-reads
 
--- src/lib.rt:71:15
 cast-buf : tie.Need-cast-buf
 cast-buf c = search needs
 
--- src/lib.rt:71:5
 slice-write-buf : tie.Need-slice-write-buf
 slice-write-buf c = search needs
 
--- src/lib.rt:72:15
 add-put2 : tie.Need-add-put2
 add-put2 c = search needs
 
--- src/lib.rt:72:5
 put2-requires : tie.Need-put2-requires
 put2-requires c κs = simp length-set (omega arith)
 
--- src/lib.rt:67:1
 returns : tie.Need-returns
 unfolding digits
 returns c = wrote-cons (c .before .before .put2 .ensures)

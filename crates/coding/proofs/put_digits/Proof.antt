@@ -1,60 +1,44 @@
+-- `coding::put_digits` meets its contract.
+-- Assumes nothing.
 use borrow.Author.Needs.{needs}
 use native.Mathlib.Omega.{arith}
 use Rattle.coding.proofs.Writing.{wrote-width}
 use Rattle.coding.proofs.put_digits.Statement.{statement}
 use Rattle.coding.proofs.put_digits.Tie as tie
-use Rattle.coding.proofs.put_digits.Reads as reads
-use Rattle.coding.proofs.put_digits.Lts as lts
-use Rattle.coding.proofs.put1.Reads as put1-reads
-use Rattle.coding.proofs.put2.Reads as put2-reads
-use Rattle.coding.proofs.put3.Reads as put3-reads
-use Rattle.coding.proofs.put4.Reads as put4-reads
 
--- src/lib.rt:88:9
 put1-requires : tie.Need-put1-requires
 put1-requires c κs = search needs
 
--- src/lib.rt:88:9
 same-length : tie.Need-same-length
 same-length c = search needs
 
--- src/lib.rt:88:9
 returns : tie.Need-returns
 returns c = wrote-width _ _ _ (omega arith) (c .before .before .put1 .ensures)
 
--- src/lib.rt:91:9
 put2-requires : tie.Need-put2-requires
 put2-requires c κs = search needs
 
--- src/lib.rt:91:9
 same-length-2 : tie.Need-same-length-2
 same-length-2 c = search needs
 
--- src/lib.rt:91:9
 returns-2 : tie.Need-returns-2
 returns-2 c = wrote-width _ _ _ (omega arith) (c .before .before .put2 .ensures)
 
--- src/lib.rt:94:9
 put3-requires : tie.Need-put3-requires
 put3-requires c κs = search needs
 
--- src/lib.rt:94:9
 same-length-3 : tie.Need-same-length-3
 same-length-3 c = search needs
 
--- src/lib.rt:94:9
 returns-3 : tie.Need-returns-3
 returns-3 c = wrote-width _ _ _ (omega arith) (c .before .before .put3 .ensures)
 
--- src/lib.rt:96:5
 put4-requires : tie.Need-put4-requires
 put4-requires c κs = search needs
 
--- src/lib.rt:83:1
 same-length-4 : tie.Need-same-length-4
 same-length-4 c = search needs
 
--- src/lib.rt:83:1
 returns-4 : tie.Need-returns-4
 returns-4 c = wrote-width _ _ _ (omega arith) (c .before .before .put4 .ensures)
 

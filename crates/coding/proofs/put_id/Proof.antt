@@ -1,3 +1,5 @@
+-- `coding::put_id` meets its contract.
+-- Assumes nothing.
 use native.Mathlib.Omega.{arith}
 use mathlib.Core.Path.{sym, ap}
 use lib.ListN.{length, length-set}
@@ -6,87 +8,64 @@ use Rattle.coding.proofs.Writing.{wrote-4, wrote-as}
 use borrow.Author.Needs.{needs}
 use Rattle.coding.proofs.put_id.Statement.{statement}
 use Rattle.coding.proofs.put_id.Tie as tie
-use Rattle.coding.proofs.put_id.Reads as reads
-use Rattle.coding.proofs.put_id.Lts as lts
-use Rattle.coding.proofs.put_one.Reads as put-one-reads
 
--- src/lib.rt:728:38
 cast-put-one : tie.Need-cast-put-one
 cast-put-one c = search needs
 
--- src/lib.rt:728:9
 put-one-requires : tie.Need-put-one-requires
 put-one-requires c κs = let a = c .before .before .before .args in omega (arith, ap length (id-low (a .tag) (a .id) (omega arith)))
 
--- src/lib.rt:728:9
 same-length : tie.Need-same-length
 same-length c = search needs
 
--- src/lib.rt:728:9
 returns : tie.Need-returns
 returns c = let a = c .before .before .before .before .before .before .args in wrote-as (sym (id-low (a .tag) (a .id) (omega arith))) (c .before .before .put-one .ensures)
 
--- src/lib.rt:731:38
 cast-put-one-2 : tie.Need-cast-put-one-2
 cast-put-one-2 c = search needs
 
--- src/lib.rt:731:9
 put-one-requires-2 : tie.Need-put-one-requires-2
 put-one-requires-2 c κs = let a = c .before .before .before .before .args in omega (arith, ap length (id-high (a .tag) (a .id) (omega arith)))
 
--- src/lib.rt:731:9
 same-length-2 : tie.Need-same-length-2
 same-length-2 c = search needs
 
--- src/lib.rt:731:9
 returns-2 : tie.Need-returns-2
 returns-2 c = let a = c .before .before .before .before .before .before .before .args in wrote-as (sym (id-high (a .tag) (a .id) (omega arith))) (c .before .before .put-one2 .ensures)
 
--- src/lib.rt:733:5
 slice-write-buf : tie.Need-slice-write-buf
 slice-write-buf c = let a = c .before .before .before .args in omega (arith, ap length (id-two (a .tag) (a .id) (omega arith) (omega arith)))
 
--- src/lib.rt:734:9
 add-buf : tie.Need-add-buf
 add-buf c = search needs
 
--- src/lib.rt:734:5
 slice-write-buf-2 : tie.Need-slice-write-buf-2
 slice-write-buf-2 c = let a = c .before .before .before .args in simp length-set (omega (arith, ap length (id-two (a .tag) (a .id) (omega arith) (omega arith))))
 
--- src/lib.rt:735:19
 cast-buf : tie.Need-cast-buf
 cast-buf c = search needs
 
--- src/lib.rt:735:9
 add-buf-2 : tie.Need-add-buf-2
 add-buf-2 c = search needs
 
--- src/lib.rt:735:5
 slice-write-buf-3 : tie.Need-slice-write-buf-3
 slice-write-buf-3 c = let a = c .before .before .before .args in simp length-set (omega (arith, ap length (id-two (a .tag) (a .id) (omega arith) (omega arith))))
 
--- src/lib.rt:736:19
 cast-buf-2 : tie.Need-cast-buf-2
 cast-buf-2 c = search needs
 
--- src/lib.rt:736:9
 add-buf-3 : tie.Need-add-buf-3
 add-buf-3 c = search needs
 
--- src/lib.rt:736:5
 slice-write-buf-4 : tie.Need-slice-write-buf-4
 slice-write-buf-4 c = let a = c .before .before .before .args in simp length-set (omega (arith, ap length (id-two (a .tag) (a .id) (omega arith) (omega arith))))
 
--- src/lib.rt:737:5
 add-result : tie.Need-add-result
 add-result c = search needs
 
--- src/lib.rt:723:1
 same-length-3 : tie.Need-same-length-3
 same-length-3 c = search needs
 
--- src/lib.rt:723:1
 returns-3 : tie.Need-returns-3
 returns-3 c = let a = c .before .before .before .args in wrote-as (sym (id-two (a .tag) (a .id) (omega arith) (omega arith))) (wrote-4 _ _ _ _ _ _)
 

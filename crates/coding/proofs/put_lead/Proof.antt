@@ -1,3 +1,5 @@
+-- `coding::put_lead` meets its contract.
+-- Assumes nothing.
 use borrow.Author.Needs.{needs}
 use mathlib.Core.Path.{sym, ap}
 use native.Mathlib.Omega.{arith}
@@ -5,66 +7,49 @@ use lib.ListN.{length, length-set}
 use Rattle.coding.proofs.Writing.{lead-short, lead-long, lead-length, lead-length-short, lead-length-long, wrote-2, wrote-3, wrote-as}
 use Rattle.coding.proofs.put_lead.Statement.{statement}
 use Rattle.coding.proofs.put_lead.Tie as tie
-use Rattle.coding.proofs.put_lead.Reads as reads
-use Rattle.coding.proofs.put_lead.Lts as lts
 
--- src/lib.rt:40:5
 slice-write-buf : tie.Need-slice-write-buf
 slice-write-buf c = omega (arith, lead-length (c .args .tag) (c .args .n))
 
--- src/lib.rt:42:23
 cast-buf : tie.Need-cast-buf
 cast-buf c = search needs
 
--- src/lib.rt:42:13
 add-buf : tie.Need-add-buf
 add-buf c = search needs
 
--- src/lib.rt:42:9
 slice-write-buf-2 : tie.Need-slice-write-buf-2
 slice-write-buf-2 c = simp length-set (omega (arith, lead-length-short (c .before .args .tag) (c .before .args .n) (omega arith)))
 
--- src/lib.rt:43:16
 add-result : tie.Need-add-result
 add-result c = search needs
 
--- src/lib.rt:43:9
 same-length : tie.Need-same-length
 same-length c = search needs
 
--- src/lib.rt:43:9
 returns : tie.Need-returns
 returns c = wrote-as (sym (lead-short (c .before .args .tag) (c .before .args .n) (omega arith))) (wrote-2 _ _ _ _)
 
--- src/lib.rt:45:9
 add-buf-2 : tie.Need-add-buf-2
 add-buf-2 c = search needs
 
--- src/lib.rt:45:5
 slice-write-buf-3 : tie.Need-slice-write-buf-3
 slice-write-buf-3 c = simp length-set (omega (arith, lead-length-long (c .before .args .tag) (c .before .args .n) (omega arith) (omega arith)))
 
--- src/lib.rt:46:19
 cast-buf-2 : tie.Need-cast-buf-2
 cast-buf-2 c = search needs
 
--- src/lib.rt:46:9
 add-buf-3 : tie.Need-add-buf-3
 add-buf-3 c = search needs
 
--- src/lib.rt:46:5
 slice-write-buf-4 : tie.Need-slice-write-buf-4
 slice-write-buf-4 c = simp length-set (omega (arith, lead-length-long (c .before .args .tag) (c .before .args .n) (omega arith) (omega arith)))
 
--- src/lib.rt:47:5
 add-result-2 : tie.Need-add-result-2
 add-result-2 c = search needs
 
--- src/lib.rt:36:1
 same-length-2 : tie.Need-same-length-2
 same-length-2 c = search needs
 
--- src/lib.rt:36:1
 returns-2 : tie.Need-returns-2
 returns-2 c = wrote-as (sym (lead-long (c .before .args .tag) (c .before .args .n) (omega arith) (omega arith))) (wrote-3 _ _ _ _ _)
 

@@ -1,3 +1,5 @@
+-- `coding::put_octets` meets its contract. The loop's invariant: the octets passed are stored. The measure is what is left.
+-- Assumes nothing.
 use Prim.Native.Nat.{ℕ, _+_, _-_, _≤_}
 use mathlib.Core.Path.{_≡_, subst}
 use native.Mathlib.Omega.{arith}
@@ -6,8 +8,6 @@ use Rattle.coding.specs.Written.{Wrote}
 use Rattle.coding.proofs.Writing.{wrote-none, wrote-octet, wrote-next, wrote-as}
 use Rattle.coding.proofs.put_octets.Statement.{statement}
 use Rattle.coding.proofs.put_octets.Tie as tie
-use Rattle.coding.proofs.put_octets.Reads as reads
-use Rattle.coding.proofs.put_octets.Lts as lts
 
 abbrev Inv-loop : tie.InvT-loop
 Inv-loop buf₀ at s n i₀ buf i = (i ≤ n) × Wrote buf₀ buf at (take i s) (at + i)
@@ -15,43 +15,33 @@ Inv-loop buf₀ at s n i₀ buf i = (i ≤ n) × Wrote buf₀ buf at (take i s) 
 abbrev μ-loop : tie.MeasureT-loop
 μ-loop buf₀ at s n i₀ buf i = n - i
 
--- src/lib.rt:115:5
 loop-holds : tie.Need-loop-holds Inv-loop μ-loop
 loop-holds c = (omega arith, wrote-none _ _)
 
--- src/lib.rt:116:23
 shared-slice-read-buf : tie.Need-shared-slice-read-buf Inv-loop μ-loop
 shared-slice-read-buf c = omega arith
 
--- src/lib.rt:116:13
 add-buf : tie.Need-add-buf Inv-loop μ-loop
 add-buf c = omega arith
 
--- src/lib.rt:116:9
 slice-write-buf : tie.Need-slice-write-buf Inv-loop μ-loop
 slice-write-buf c = omega arith
 
--- src/lib.rt:117:9
 add-i : tie.Need-add-i Inv-loop μ-loop
 add-i c = omega arith
 
--- src/lib.rt:115:5
 loop-less : tie.Need-loop-less Inv-loop μ-loop
 loop-less c = omega arith
 
--- src/lib.rt:115:5
 loop-again : tie.Need-loop-again Inv-loop μ-loop
 loop-again c = (omega arith, wrote-octet _ _ _ _ _ (omega arith) (c .before .before .loop .inv .1))
 
--- src/lib.rt:119:5
 add-result : tie.Need-add-result Inv-loop μ-loop
 add-result c = omega arith
 
--- src/lib.rt:110:1
 same-length : tie.Need-same-length Inv-loop μ-loop
 same-length c = c .before .loop .inv .1 .kept
 
--- src/lib.rt:110:1
 returns : tie.Need-returns Inv-loop μ-loop
 returns c =
     let a = c .before .before .args in

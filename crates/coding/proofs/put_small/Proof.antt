@@ -1,3 +1,5 @@
+-- `coding::put_small` meets its contract.
+-- Assumes nothing.
 use native.Mathlib.Omega.{arith}
 use mathlib.Core.Path.{sym}
 use Rattle.coding.proofs.Small.{small-number, small-length}
@@ -5,19 +7,13 @@ use Rattle.coding.proofs.Writing.{wrote-as}
 use borrow.Author.Needs.{needs}
 use Rattle.coding.proofs.put_small.Statement.{statement}
 use Rattle.coding.proofs.put_small.Tie as tie
-use Rattle.coding.proofs.put_small.Reads as reads
-use Rattle.coding.proofs.put_small.Lts as lts
-use Rattle.coding.proofs.put_one.Reads as put-one-reads
 
--- src/lib.rt:705:5
 put-one-requires : tie.Need-put-one-requires
 put-one-requires c κs = let a = c .before .before .args in omega (arith, small-length (a .tag) (a .x) (omega arith))
 
--- src/lib.rt:701:1
 same-length : tie.Need-same-length
 same-length c = search needs
 
--- src/lib.rt:701:1
 returns : tie.Need-returns
 returns c = let a = c .before .before .before .before .before .args in wrote-as (sym (small-number (a .tag) (a .x) (omega arith))) (c .before .before .put-one .ensures)
 

@@ -1,26 +1,20 @@
+-- `coding::put_string` meets its contract.
+-- Assumes nothing.
 use native.Mathlib.Omega.{arith}
 use Rattle.coding.proofs.Small.{string-length, wrote-string}
 use borrow.Author.Needs.{needs}
 use Rattle.coding.proofs.put_string.Statement.{statement}
 use Rattle.coding.proofs.put_string.Tie as tie
-use Rattle.coding.proofs.put_string.Reads as reads
-use Rattle.coding.proofs.put_string.Lts as lts
-use Rattle.coding.proofs.put_lead.Reads as put-lead-reads
-use Rattle.coding.proofs.put_octets.Reads as put-octets-reads
 
--- src/lib.rt:746:9
 put-lead-requires : tie.Need-put-lead-requires
 put-lead-requires c κs = let a = c .before .before .before .args in omega (arith, string-length (a .tag) (a .n) (a .s .now) (omega arith))
 
--- src/lib.rt:747:5
 put-octets-requires : tie.Need-put-octets-requires
 put-octets-requires c κs = let a = c .before .before .before .before .before .before .before .args in omega (arith, string-length (a .tag) (a .n) (a .s .now) (omega arith), c .before .before .before .put-lead .ensures .place)
 
--- src/lib.rt:741:1
 same-length : tie.Need-same-length
 same-length c = search needs
 
--- src/lib.rt:741:1
 returns : tie.Need-returns
 returns c = wrote-string _ _ (c .before .before .before .before .before .before .put-lead .ensures) (c .before .before .put-octets .ensures)
 

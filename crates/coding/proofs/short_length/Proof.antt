@@ -1,61 +1,47 @@
+-- `coding::short_length` meets its contract.
+-- Assumes nothing.
 use borrow.Author.Needs.{needs}
 use native.Mathlib.Omega.{arith}
 use Rattle.coding.proofs.Shortcut.{short-none, short-other, short-long, short-cut, short-some}
 use Rattle.coding.proofs.short_length.Statement.{statement}
 use Rattle.coding.proofs.short_length.Tie as tie
-use Rattle.coding.proofs.short_length.Reads as reads
-use Rattle.coding.proofs.short_length.Lts as lts
-use Rattle.coding.proofs.wide.Reads as wide-reads
 
--- src/lib.rt:119:9
 returns : tie.Need-returns
 returns c = short-none _ _ _ _ (omega arith)
 
--- src/lib.rt:121:8
 sub-if2 : tie.Need-sub-if2
 sub-if2 c = search needs
 
--- src/lib.rt:122:9
 returns-2 : tie.Need-returns-2
 returns-2 c = short-none _ _ _ _ (omega arith)
 
--- src/lib.rt:124:8
 shared-slice-read-if3 : tie.Need-shared-slice-read-if3
 shared-slice-read-if3 c = search needs
 
--- src/lib.rt:125:9
 returns-3 : tie.Need-returns-3
 returns-3 c = short-other _ _ _ _ (c .if3 .taken)
 
--- src/lib.rt:127:20
 add-wide : tie.Need-add-wide
 add-wide c = search needs
 
--- src/lib.rt:127:18
 shared-slice-read-wide : tie.Need-shared-slice-read-wide
 shared-slice-read-wide c = search needs
 
--- src/lib.rt:127:9
 wide-requires : tie.Need-wide-requires
 wide-requires c κs = search needs
 
--- src/lib.rt:129:9
 returns-4 : tie.Need-returns-4
 returns-4 c = short-long _ _ _ _ (omega arith)
 
--- src/lib.rt:131:8
 sub-if5 : tie.Need-sub-if5
 sub-if5 c = search needs
 
--- src/lib.rt:131:8
 sub-if5-2 : tie.Need-sub-if5-2
 sub-if5-2 c = search needs
 
--- src/lib.rt:132:9
 returns-5 : tie.Need-returns-5
 returns-5 c = short-cut _ _ _ _ (omega arith)
 
--- src/lib.rt:113:1
 returns-6 : tie.Need-returns-6
 returns-6 c = short-some _ _ _ _ (c .before .before .wide .ensures .0) (omega arith) (c .before .before .before .before .if3 .left) (omega arith)
 

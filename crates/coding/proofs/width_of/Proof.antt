@@ -1,3 +1,5 @@
+-- `coding::width_of` meets its contract.
+-- Assumes nothing.
 use Rattle.coding.proofs.width_of.Statement.{statement}
 use Rattle.coding.proofs.width_of.Tie as tie
 use native.Mathlib.Omega.{arith}

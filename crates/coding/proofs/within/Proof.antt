@@ -1,3 +1,5 @@
+-- `coding::within` meets its contract.
+-- Assumes nothing.
 use borrow.Author.Needs.{needs}
 use borrow.Author.Tests.{le-ltb, lt-ltb, le-leb, lt-leb, eq-eqb, ne-eqb}
 use Prim.Native.Nat.{_+_, _≤_, _<_}
@@ -6,27 +8,19 @@ use Rattle.coding.specs.Reader.{extent}
 use Rattle.coding.specs.Shown.{shown}
 use Rattle.coding.proofs.within.Statement.{statement}
 use Rattle.coding.proofs.within.Tie as tie
-use Rattle.coding.proofs.within.Reads as reads
-use Rattle.coding.proofs.within.Lts as lts
-use Rattle.coding.proofs.halted.Reads as halted-reads
 
--- src/lib.rt:59:13
 sub-if1 : tie.Need-sub-if1
 sub-if1 c = search needs
 
--- src/lib.rt:63:42
 add-t8 : tie.Need-add-t8
 add-t8 c = search needs
 
--- src/lib.rt:64:19
 add-t10 : tie.Need-add-t10
 add-t10 c = search needs
 
--- src/lib.rt:67:9
 halted-requires : tie.Need-halted-requires
 halted-requires c κs = search needs
 
--- src/lib.rt:54:1
 returns : tie.Need-returns
 unfolding extent shown
 returns c =
@@ -34,7 +28,6 @@ returns c =
     let h : a .start + a .n ≤ a .end = omega arith in
     (simp (le-leb _ _ h), omega arith)
 
--- src/lib.rt:54:1
 returns-2 : tie.Need-returns-2
 unfolding extent shown
 returns-2 c =

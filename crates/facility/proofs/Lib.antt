@@ -1,0 +1,3 @@
+pub mod Tiling
+pub mod Tiles
+pub mod Examples

@@ -1,0 +1,175 @@
+-- An accepted element is cut into components, and an element made of components is accepted.
+-- Assumes nothing.
+use Prim.Native.Nat.{ℕ, zero, suc, _+_, _-_, _≤_, _<_}
+use native.Mathlib.Omega.{arith}
+use native.Mathlib.Nat.{add-zero}
+use mathlib.Core.Path.{_≡_, refl, sym, ap, _∙_, subst}
+use mathlib.Core.Bool.{Bool, true, false}
+use mathlib.Core.List.{List, [], _∷_, _++_, append-assoc, append-nil}
+use lib.ListN.{length, getD, take, drop, length-append, take-append-drop, List·getD-append}
+use lib.Seq.{drop-length, take-append-seam, drop-drop, getD-take, getD-drop, getD-append-add}
+use lib.Dec.{ltb, eqb}
+use borrow.Author.Tests.{ltb-true, eqb-true, eqb-false, eq-eqb, ne-eqb, lt-ltb}
+use Rattle.coding.specs.declared.Extent.{Extent}
+use Rattle.coding.specs.Reader.{if_then_else, Ans, after, part, lengthAt, opened}
+use Rattle.coding.specs.Reader.Ans.{got, halt}
+use Rattle.coding.specs.Codec.{LengthForm, short, one, two, pad}
+use Rattle.coding.proofs.Basic.{never, chain, same-got, picked, unpicked, followed, and-left}
+use Rattle.coding.proofs.Header.{opened-sound, opened-complete, length-forward}
+use Rattle.coding.proofs.Parts.{part-length}
+use Rattle.facility.specs.Element.{tiled, led, answered, malformed, elementOf}
+use Rattle.facility.specs.Parts.{startsOf, firstOr, partsOf, joined, Tile, Tiles, placesOf}
+use Rattle.facility.proofs.Tiling.{opened-any}
+
+-- ---- length octets that stand elsewhere too
+
+pub moved : {s : List ℕ} {p k c : ℕ} (t : List ℕ) (q d : ℕ) → LengthForm s p k c → ((j : ℕ) → p + j < c → getD s (p + j) 0 ≡ getD t (q + j) 0) → q + c ≡ p + d
+    → LengthForm t q k d
+moved {s} {p} t q d (short l e r) same z =
+    let h : getD s p 0 ≡ getD t q 0 = simp add-zero at (same 0 (omega arith)) in
+    short (omega (arith, h)) (sym h ∙ e) (omega arith)
+moved {s} {p} t q d (one l e r) same z =
+    let h : getD s p 0 ≡ getD t q 0 = simp add-zero at (same 0 (omega arith)) in
+    one (sym h ∙ l) (sym (same 1 (omega arith)) ∙ e) (omega arith)
+moved {s} {p} t q d (two l e r) same z =
+    let h : getD s p 0 ≡ getD t q 0 = simp add-zero at (same 0 (omega arith)) in
+    two (sym h ∙ l) (omega (arith, same 1 (omega arith), same 2 (omega arith))) (omega arith)
+
+-- ---- an accepted element is cut into components
+
+part-rest : (s : List ℕ) (i n : ℕ) → i ≤ n → part s i n ++ drop n s ≡ drop i s
+unfolding part
+part-rest s i n h =
+    let e : i + (n - i) ≡ n = omega arith in
+    ap (λ (k : ℕ). take (n - i) (drop i s) ++ drop k s) (sym e) ∙ rw (← drop-drop (n - i) i s) (take-append-drop (n - i) (drop i s))
+
+part-at : (s : List ℕ) (i n j : ℕ) → i + j < n → getD s (i + j) 0 ≡ getD (part s i n) j 0
+unfolding part
+part-at s i n j h = let k : j < n - i = omega arith in rw (getD-take (n - i) (drop i s) j 0 k, getD-drop)
+
+part-tile : (s : List ℕ) (i : ℕ) {v : Extent} {n : ℕ} → i < length s → lengthAt i s (i + 1) (length s) ≡ got v n → (i ≤ n) × (n ≤ length s) × Tile (part s i n)
+part-tile s i {v} {n} h e =
+    let o = opened-sound (getD s i 0) s i (length s) v n (opened-any s i (length s) h ∙ e) in
+    let f = length-forward (o .0 .1) in
+    let size : length (part s i n) ≡ n - i = part-length s i n (o .2) in
+    let same : n - v .start ≡ length (part s i n) - (v .start - i) = omega (arith, o .0 .2) in
+    let at : (j : ℕ) → i + 1 + j < v .start → getD s (i + 1 + j) 0 ≡ getD (part s i n) (1 + j) 0 =
+    λ j l. let z : i + 1 + j ≡ i + (1 + j) = omega arith in ap (λ (k : ℕ). getD s k 0) z ∙ part-at s i n (1 + j) (omega (arith, o .0 .2)) in
+    let form = subst (λ (k : ℕ). LengthForm (part s i n) 1 k (v .start - i)) same (moved (part s i n) 1 (v .start - i) (o .0 .1) at (omega arith)) in
+    (omega (arith, o .0 .2), o .2, (v .start - i, form, omega (arith, o .0 .2)))
+
+-- what is cut from a place on
+record Cut (s : List ℕ) (i : ℕ) (xs : List ℕ) : Type 0 where
+  whole : joined (partsOf s xs) ≡ drop i s
+  fine : Tiles (partsOf s xs)
+  begins : firstOr (length s) xs ≡ i
+
+cut-here : (s : List ℕ) (i : ℕ) (ys : List ℕ) {v : Extent} {n : ℕ} → i < length s → lengthAt i s (i + 1) (length s) ≡ got v n → Cut s n ys → Cut s i (i ∷ ys)
+cut-here s i ys {v} {n} h e rest =
+    let t = part-tile s i h e in record {
+      whole = rw (rest .begins, rest .whole) (part-rest s i n (t .0));
+      fine = (rw (rest .begins) (t .2), rest .fine);
+      begins = refl;
+    }
+
+cut : (turns : ℕ) (s : List ℕ) (i : ℕ) (xs : List ℕ) {last : ℕ} → i ≤ length s → tiled turns s i (length s) ≡ got xs last → Cut s i xs
+unfolding tiled
+cut zero s i xs h e = absurd (never e)
+cut (suc turns) s i xs {last} h e = go (eqb i (length s)) refl e (λ n ys m. cut turns s n ys {last = m})
+  where
+    go : (b : Bool) → eqb i (length s) ≡ b
+        → if_then_else b (got [] i)
+        (after (lengthAt i s (i + 1) (length s)) (λ contents next. after (tiled turns s next (length s)) (λ starts last. got (i ∷ starts) last))) ≡ got xs last
+        → ((n : ℕ) (ys : List ℕ) (m : ℕ) → n ≤ length s → tiled turns s n (length s) ≡ got ys m → Cut s n ys)
+        → Cut s i xs
+    go true q r more =
+        let z : length s ≡ i = sym (eqb-true i (length s) q) in
+        same-got (λ ys m. Cut s i ys) r (record { whole = sym (subst (λ (k : ℕ). drop k s ≡ []) z (drop-length s)); fine = tt; begins = z })
+    go false q r more =
+        let a = chain _ _ r in
+        let b = chain _ _ (a .3) in
+        let l : i < length s = omega (arith, eqb-false i (length s) q) in
+        same-got (λ ys m. Cut s i ys) (b .3) (cut-here s i (b .0) l (a .2) (more (a .1) (b .0) (b .1) (part-tile s i l (a .2) .1) (b .2)))
+
+-- an answer of 0 is that of starts that were found
+answer-found : (b : Bool) (x : Ans (List ℕ)) → (if_then_else b (answered x) malformed) .number ≡ 0
+    → (b ≡ true) × ((xs : List ℕ) × (last : ℕ) × (x ≡ got xs last) × (startsOf (if_then_else b (answered x) malformed) ≡ xs))
+unfolding answered pad
+answer-found true (got xs last) e = (refl, (xs, last, refl, take-append-seam xs _))
+answer-found true (halt w p) e = absurd (omega (arith, e))
+answer-found false x e = absurd (omega (arith, e))
+
+led-long : (s : List ℕ) → led s ≡ true → 3 < length s
+unfolding led
+led-long s e = ltb-true 3 (length s) (and-left (ltb 3 (length s)) _ e)
+
+-- The parts of an accepted element from each start to the next, the last to the end, join to all that follows the third octet; and each is a
+-- tag, length octets, and as many octets as they say.
+pub tiles : (s : List ℕ) → elementOf s .number ≡ 0 → (joined (partsOf s (startsOf (elementOf s))) ≡ drop 3 s) × Tiles (partsOf s (startsOf (elementOf s)))
+unfolding elementOf
+tiles s e =
+    let a = answer-found (led s) (tiled (length s) s 3 (length s)) e in
+    let h = led-long s (a .0) in
+    let d = cut (length s) s 3 (a .1 .0) (omega (arith, h)) (a .1 .2) in
+    rw (a .1 .3) (d .whole, d .fine)
+
+-- ---- an element made of components is accepted
+
+tile-long : (p : List ℕ) → Tile p → 2 ≤ length p
+tile-long p (c, f, le) = omega (arith, length-forward f)
+
+tiles-long : (ps : List (List ℕ)) → Tiles ps → length ps ≤ length (joined ps)
+tiles-long [] t = omega arith
+tiles-long (p ∷ ps) t = omega (arith, tile-long p (t .0), tiles-long ps (t .1), length-append p (joined ps))
+
+-- a component that stands between other octets is opened there
+tile-there : (pre p post : List ℕ) → Tile p
+    → (v : Extent) × (lengthAt (length pre) (pre ++ (p ++ post)) (length pre + 1) (length (pre ++ (p ++ post))) ≡ got v (length pre + length p))
+tile-there pre p post (c, f, le) =
+    let s : List ℕ = pre ++ (p ++ post) in
+    let a : ℕ = length pre in
+    let size : length s ≡ a + (length p + length post) = simp length-append in
+    let at : (j : ℕ) → 1 + j < c → getD p (1 + j) 0 ≡ getD s (a + 1 + j) 0 =
+    λ j l.
+    let z : a + 1 + j ≡ a + (1 + j) = omega arith in
+    sym (ap (λ (k : ℕ). getD s k 0) z ∙ getD-append-add pre (p ++ post) (1 + j) 0 ∙ List·getD-append p post 0 (1 + j) (omega arith)) in
+    let g = length-forward f in
+    let same : length p - c ≡ a + length p - (a + c) = omega arith in
+    let form : LengthForm s (a + 1) (a + length p - (a + c)) (a + c) =
+    subst (λ (k : ℕ). LengthForm s (a + 1) k (a + c)) same (moved s (a + 1) (a + c) f at (omega arith)) in (
+      record { start = a + c; stop = a + length p },
+      sym (opened-any s a (length s) (omega arith)) ∙ opened-complete (getD s a 0) s a (a + c) (a + length p) (length s) (omega arith) (refl, form, omega arith),
+    )
+
+laid : (turns : ℕ) (pre : List ℕ) (ps : List (List ℕ)) → length ps < turns → Tiles ps
+    → tiled turns (pre ++ joined ps) (length pre) (length (pre ++ joined ps)) ≡ got (placesOf (length pre) ps) (length (pre ++ joined ps))
+unfolding tiled
+laid zero pre ps h t = absurd (omega arith)
+laid (suc turns) pre [] h t = rw append-nil (picked _ _ (eq-eqb (length pre) (length pre) refl))
+laid (suc turns) pre (p ∷ ps) h t =
+    let s : List ℕ = pre ++ (p ++ joined ps) in
+    let size : length s ≡ length pre + (length p + length (joined ps)) = simp length-append in
+    let ne : length pre ≡ length s → ⊥ = λ e. omega (arith, tile-long p (t .0)) in
+    let rest = rw (append-assoc pre p (joined ps), length-append pre p) at (laid turns (pre ++ p) ps (omega arith) (t .1)) in
+    unpicked _ _ (ne-eqb (length pre) (length s) ne) ∙ followed _ (tile-there pre p (joined ps) (t .0) .1) ∙ followed _ rest
+
+places-count : (a : ℕ) (ps : List (List ℕ)) → length (placesOf a ps) ≡ length ps
+places-count a [] = refl
+places-count a (p ∷ ps) = ap suc (places-count (a + length p) ps)
+
+led-so : (xs : List ℕ) → 0 < length xs → led (0x1c ∷ (1 + length xs) ∷ 0x91 ∷ xs) ≡ true
+unfolding led
+led-so xs h =
+    let long : 3 < length (0x1c ∷ (1 + length xs) ∷ 0x91 ∷ xs) = omega arith in
+    let same : 1 + length xs ≡ length (0x1c ∷ (1 + length xs) ∷ 0x91 ∷ xs) - 2 = omega arith in
+    simp (lt-ltb _ _ long, eq-eqb _ _ same)
+
+-- An element whose third octet is followed by components, one at least, is accepted, and its starts are where they begin.
+pub found : (ps : List (List ℕ)) → 0 < length ps → Tiles ps
+    → elementOf (0x1c ∷ (1 + length (joined ps)) ∷ 0x91 ∷ joined ps) ≡ record { number = 0; count = length ps; starts = pad 127 0 (placesOf 3 ps) }
+unfolding elementOf answered
+found ps h t =
+    let n : ℕ = length (joined ps) in
+    let head : List ℕ = 0x1c ∷ (1 + n) ∷ 0x91 ∷ [] in
+    let m = tiles-long ps t in
+    rw (led-so (joined ps) (omega arith), laid (length (head ++ joined ps)) head ps (omega arith) t) (ap (λ (k : ℕ). record { number = 0; count = k; starts = pad 127 0 (placesOf 3 ps) }) (places-count 3 ps))

@@ -1,0 +1,11 @@
+use mathlib.Core.Path.{refl}
+use Rattle.coding.specs.Codec.{pad}
+use Rattle.facility.proofs.refused.Statement.{statement}
+use Rattle.facility.proofs.refused.Tie as tie
+
+returns : tie.Need-returns
+unfolding pad
+returns c = refl
+
+pub refused-spec : {M : Type 1} → statement M
+refused-spec = tie.close (tie.spec returns)

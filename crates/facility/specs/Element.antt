@@ -1,0 +1,38 @@
+-- The Facility element: 1C, a one-octet length equal to the octets that follow it, 91, then components laid end to end.
+use Prim.Native.Nat.{ℕ, zero, suc, _+_, _-_}
+use mathlib.Core.List.{List, [], _∷_}
+use mathlib.Core.Bool.{Bool, _&&_}
+use lib.ListN.{length, getD}
+use lib.Dec.{ltb, eqb}
+use Rattle.coding.specs.Reader.{if_then_else, Reader, Ans, after, lengthAt}
+use Rattle.coding.specs.Reader.Ans.{got, halt}
+use Rattle.coding.specs.Reader.Fault.{limit}
+use Rattle.coding.specs.Codec.{pad}
+use Rattle.facility.specs.declared.Starts.{Starts}
+
+-- The places where components begin that are laid end to end up to the end. A component is a tag, which is one octet of any value,
+-- length octets in any form that is read, and contents inside the element. Each has an octet at least, so as many turns as octets are enough:
+-- `found` of proofs/Tiles.antt shows that no element is refused for want of turns.
+unfoldable pub tiled : ℕ → Reader (List ℕ)
+tiled zero s at end = halt limit at
+tiled (suc turns) s at end =
+    if_then_else (eqb at end) (got [] at)
+    (after (lengthAt at s (at + 1) end) (λ contents next.
+    after (tiled turns s next end) (λ starts last. got (at ∷ starts) last)))
+
+-- the first three octets are right, and something comes after them
+unfoldable pub led : List ℕ → Bool
+led s = ltb 3 (length s) && (eqb (getD s 0 0) 0x1c && (eqb (getD s 1 0) (length s - 2) && eqb (getD s 2 0) 0x91))
+
+-- 15 and no starts
+abbrev pub malformed : Starts
+malformed = record { number = 15; count = 0; starts = pad 127 0 [] }
+
+-- the starts in an array of 127 places, those past the count zero
+unfoldable pub answered : Ans (List ℕ) → Starts
+answered (got starts last) = record { number = 0; count = length starts; starts = pad 127 0 starts }
+answered (halt fault place) = malformed
+
+-- Fewer than three octets, another lead, length or third octet, none after it, or tag and length octets that do not tile to the end: 15.
+unfoldable pub elementOf : List ℕ → Starts
+elementOf s = if_then_else (led s) (answered (tiled (length s) s 3 (length s))) malformed

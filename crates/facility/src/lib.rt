@@ -1,0 +1,87 @@
+// The Facility information element: where its components begin.
+ghost use mathlib.Core.Path.{_≡_};
+ghost use mathlib.Core.Bool.{Bool, true, false};
+ghost use Prim.Native.Nat.{_≤_, _<_};
+ghost use lib.ListN.{length};
+ghost use Rattle.facility.specs.Element.{elementOf, malformed, answered, tiled, led};
+
+// What reading an element answers. number: 0, or 15 for a malformed one; then all else is zero.
+// The components begin at the first count of starts, counted with the lead octet 1C as 0; the places past them are zero.
+// An octet holds a start: an element has at most 257 octets, and a component at least two, so that none begins past 255.
+#[repr(C)]
+pub struct Starts {
+    pub number: u8,
+    pub count: u8,
+    pub starts: [u8; 127],
+}
+
+fn refused() -> Starts
+    ensures { λ r. ⌜ r ≡ malformed ⌝ }
+{
+    Starts {
+        number: 15,
+        count: 0,
+        starts: [0; 127],
+    }
+}
+
+fn wide(x: u8) -> usize
+    ensures { λ r. ⌜ r ≡ x ⌝ }
+    ensures small { λ r. ⌜ r < 256 ⌝ }
+{
+    x as usize
+}
+
+// Whether the first three octets are right and something comes after them.
+fn is_led(octets: &[u8]) -> bool
+    ensures { λ r. ⌜ r ≡ led (now (octets .entry)) ⌝ }
+    ensures short { λ r. ⌜ (r ≡ true → (4 ≤ length (now (octets .entry))) × (length (now (octets .entry)) ≤ 257)) ⌝ }
+{
+    if octets.len() < 4 {
+        return false;
+    }
+    if octets[0] != 0x1c {
+        return false;
+    }
+    if wide(octets[1]) != octets.len() - 2 {
+        return false;
+    }
+    octets[2] == 0x91
+}
+
+// The starts of the components, which begin after the third octet.
+fn starts_from(octets: &[u8]) -> Starts
+    requires { ⌜ (4 ≤ length (now octets)) × (length (now octets) ≤ 257) ⌝ }
+    ensures { λ r. ⌜ r ≡ answered (tiled (length (now (octets .entry))) (now (octets .entry)) 3 (length (now (octets .entry)))) ⌝ }
+    ensures few { λ r. ⌜ r .count ≤ 127 ⌝ }
+{
+    let end = octets.len();
+    let mut starts: [u8; 127] = [0; 127];
+    let mut count: usize = 0;
+    let mut at: usize = 3;
+    while at < end {
+        let tile = coding::open_at(octets, at, end, octets[at]);
+        if tile.fault != 0 {
+            return refused();
+        }
+        starts[count] = at as u8;
+        count += 1;
+        at = tile.next;
+    }
+    Starts {
+        number: 0,
+        count: count as u8,
+        starts,
+    }
+}
+
+// The components of a Facility element, each to be judged afterwards by itself.
+pub fn element(octets: &[u8]) -> Starts
+    ensures { λ r. ⌜ r ≡ elementOf (now (octets .entry)) ⌝ }
+    ensures few { λ r. ⌜ r .count ≤ 127 ⌝ }
+{
+    if is_led(octets) {
+        return starts_from(octets);
+    }
+    refused()
+}

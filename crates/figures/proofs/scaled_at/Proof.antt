@@ -1,0 +1,101 @@
+-- `figures::scaled_at` meets its contract: each return by the answers that led to it.
+use borrow.Author.Needs.{needs}
+use native.Mathlib.Omega.{arith}
+use mathlib.Core.Path.{_∙_}
+use Rattle.coding.specs.Reader.{constructed}
+use Rattle.coding.specs.Codec.{cons, shape, over, pair}
+use Rattle.coding.proofs.Reading.{flat, remains, shut, stay, step}
+use Rattle.types.specs.Charges.{scaled}
+use Rattle.figures.proofs.scaled_at.Statement.{statement}
+use Rattle.figures.proofs.scaled_at.Tie as tie
+
+open-at-requires : tie.Need-open-at-requires
+open-at-requires c κs = search needs
+
+no-scaled-requires : tie.Need-no-scaled-requires
+no-scaled-requires c κs = search needs
+
+returns : tie.Need-returns
+unfolding scaled cons shape over pair constructed
+returns c = (
+  simp flat
+      (c .no-scaled .ensures .0 ∙ stay _ _ _ _ (c .before .before .before .open-at .ensures .0) (c .before .if1 .taken)),
+  omega arith,
+)
+
+natural-at-requires : tie.Need-natural-at-requires
+natural-at-requires c κs = search needs
+
+no-scaled-requires-2 : tie.Need-no-scaled-requires-2
+no-scaled-requires-2 c κs = search needs
+
+returns-2 : tie.Need-returns-2
+unfolding scaled cons shape over pair constructed
+returns-2 c = (
+  simp flat
+      (c .no-scaled2 .ensures .0 ∙ step _ _ _ _ (c .before .before .before .before .before .before .open-at .ensures .0) (c .before .before .before .before .if1 .left)
+      (stay _ _ _ _ (c .before .before .before .natural-at .ensures .0) (c .before .if2 .taken))),
+  omega arith,
+)
+
+natural-at-requires-2 : tie.Need-natural-at-requires-2
+natural-at-requires-2 c κs = search needs
+
+no-scaled-requires-3 : tie.Need-no-scaled-requires-3
+no-scaled-requires-3 c κs = search needs
+
+returns-3 : tie.Need-returns-3
+unfolding scaled cons shape over pair constructed
+returns-3 c = (
+  simp flat
+      (c .no-scaled3 .ensures .0 ∙ step _ _ _ _ (c .before .before .before .before .before .before .before .before .before .open-at .ensures .0) (c .before .before .before .before .before .before .before .if1 .left)
+      (step _ _ _ _ (c .before .before .before .before .before .before .natural-at .ensures .0) (c .before .before .before .before .if2 .left)
+      (stay _ _ _ _ (c .before .before .before .natural-at2 .ensures .0) (c .before .if3 .taken)))),
+  omega arith,
+)
+
+no-scaled-requires-4 : tie.Need-no-scaled-requires-4
+no-scaled-requires-4 c κs = search needs
+
+returns-4 : tie.Need-returns-4
+unfolding scaled cons shape over pair constructed
+returns-4 c = (
+  simp flat
+      (c .no-scaled4 .ensures .0 ∙ step _ _ _ _ (c .before .before .before .before .before .before .before .before .before .before .before .before .open-at .ensures .0) (c .before .before .before .before .before .before .before .before .before .before .if1 .left)
+      (step _ _ _ _ (c .before .before .before .before .before .before .before .before .before .natural-at .ensures .0) (c .before .before .before .before .before .before .before .if2 .left)
+      (step _ _ _ _ (c .before .before .before .before .before .before .natural-at2 .ensures .0) (c .before .before .before .before .if3 .left)
+      (remains _ _ _ _ _ (c .before .if4 .taken))))),
+  omega arith,
+)
+
+cast-t9 : tie.Need-cast-t9
+cast-t9 c = search needs
+
+returns-5 : tie.Need-returns-5
+unfolding scaled cons shape over pair constructed
+returns-5 c = (
+  simp flat
+      (step _ _ _ _ (c .before .before .before .before .before .before .before .before .before .before .before .before .open-at .ensures .0) (c .before .before .before .before .before .before .before .before .before .before .if1 .left)
+      (step _ _ _ _ (c .before .before .before .before .before .before .before .before .before .natural-at .ensures .0) (c .before .before .before .before .before .before .before .if2 .left)
+      (step _ _ _ _ (c .before .before .before .before .before .before .natural-at2 .ensures .0) (c .before .before .before .before .if3 .left)
+      (shut _ _ _ _ _ (c .before .if4 .left))))),
+  omega arith,
+)
+
+pub scaled-at-spec : {M : Type 1} → statement M
+scaled-at-spec =
+    tie.close
+    (tie.spec
+    open-at-requires
+    no-scaled-requires
+    returns
+    natural-at-requires
+    no-scaled-requires-2
+    returns-2
+    natural-at-requires-2
+    no-scaled-requires-3
+    returns-3
+    no-scaled-requires-4
+    returns-4
+    cast-t9
+    returns-5)

@@ -1,0 +1,3 @@
+pub mod Amounts
+pub mod Identifiers
+pub mod Sets
