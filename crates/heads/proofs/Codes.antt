@@ -132,14 +132,28 @@ unknown-held u n m e h = go (ltb m 16777216) refl
 pub operation-below : (n : ℕ) → n < 30 → false ≡ has operations n
 unfolding has
 operation-below n l =
-    simp (ne-eqb n 30 (λ e. omega arith), ne-eqb n 31 (λ e. omega arith), ne-eqb n 32 (λ e. omega arith), ne-eqb n 33 (λ e. omega arith),
-    ne-eqb n 34 (λ e. omega arith), ne-eqb n 35 (λ e. omega arith), ne-eqb n 36 (λ e. omega arith))
+    simp (
+      ne-eqb n 30 (λ e. omega arith),
+      ne-eqb n 31 (λ e. omega arith),
+      ne-eqb n 32 (λ e. omega arith),
+      ne-eqb n 33 (λ e. omega arith),
+      ne-eqb n 34 (λ e. omega arith),
+      ne-eqb n 35 (λ e. omega arith),
+      ne-eqb n 36 (λ e. omega arith),
+    )
 
 pub operation-above : (n : ℕ) → 36 < n → false ≡ has operations n
 unfolding has
 operation-above n l =
-    simp (ne-eqb n 30 (λ e. omega arith), ne-eqb n 31 (λ e. omega arith), ne-eqb n 32 (λ e. omega arith), ne-eqb n 33 (λ e. omega arith),
-    ne-eqb n 34 (λ e. omega arith), ne-eqb n 35 (λ e. omega arith), ne-eqb n 36 (λ e. omega arith))
+    simp (
+      ne-eqb n 30 (λ e. omega arith),
+      ne-eqb n 31 (λ e. omega arith),
+      ne-eqb n 32 (λ e. omega arith),
+      ne-eqb n 33 (λ e. omega arith),
+      ne-eqb n 34 (λ e. omega arith),
+      ne-eqb n 35 (λ e. omega arith),
+      ne-eqb n 36 (λ e. omega arith),
+    )
 
 pub operation-known : (n : ℕ) → 30 ≤ n → n ≤ 36 → true ≡ has operations n
 unfolding has

@@ -18,7 +18,7 @@ problems-by c s at end = simp flat
 
 pub reject-by : (s : List ℕ) (start : ℕ) → contentsOf reject s start
     ≡ answered (after (caller .read s start (length s)) (λ c m.
-      after (problemsIn s m (length s)) (λ p n. closed (rejects c (p .tag) (p .detail)) n (length s) (length s))))
+    after (problemsIn s m (length s)) (λ p n. closed (rejects c (p .tag) (p .detail)) n (length s) (length s))))
 unfolding contentsOf reject leads
 reject-by s start =
     (λ i. answered (after (after (caller .read s start (length s)) (λ c m. problems-by c s m (length s) i)) (λ v last. closed v last (length s) (length s))))

@@ -21,10 +21,11 @@ no-head-requires c κs = search needs
 
 returns : tie.Need-returns
 unfolding restOf contentsOf invoke leads
-returns c =
-    (rw (c .no-head .ensures, c .before .number-of .ensures)
-    (simp flat (refuses _ _ _ (c .before .before .before .before .identifier-at .ensures .0) (c .before .before .if1 .taken))),
-    rw (c .no-head .ensures) (omega arith))
+returns c = (
+  rw (c .no-head .ensures, c .before .number-of .ensures)
+      (simp flat (refuses _ _ _ (c .before .before .before .before .identifier-at .ensures .0) (c .before .before .if1 .taken))),
+  rw (c .no-head .ensures) (omega arith),
+)
 
 value-at-requires : tie.Need-value-at-requires
 value-at-requires c κs = search needs
@@ -37,11 +38,12 @@ no-head-requires-2 c κs = search needs
 
 returns-2 : tie.Need-returns-2
 unfolding restOf contentsOf invoke leads
-returns-2 c =
-    (rw (c .no-head2 .ensures, c .before .number-of2 .ensures)
-    (simp flat (goes _ _ _ (c .before .before .before .before .before .before .before .identifier-at .ensures .0) (c .before .before .before .before .before .if1 .left)
-    (refuses _ _ _ (c .before .before .before .before .value-at .ensures .0) (c .before .before .if2 .taken)))),
-    rw (c .no-head2 .ensures) (omega arith))
+returns-2 c = (
+  rw (c .no-head2 .ensures, c .before .number-of2 .ensures)
+      (simp flat (goes _ _ _ (c .before .before .before .before .before .before .before .identifier-at .ensures .0) (c .before .before .before .before .before .if1 .left)
+      (refuses _ _ _ (c .before .before .before .before .value-at .ensures .0) (c .before .before .if2 .taken)))),
+  rw (c .no-head2 .ensures) (omega arith),
+)
 
 cast-id : tie.Need-cast-id
 cast-id c = search needs
@@ -51,9 +53,11 @@ cast-operation c = search needs
 
 returns-3 : tie.Need-returns-3
 unfolding restOf contentsOf invoke leads
-returns-3 c =
-    (simp flat (goes _ _ _ (c .before .before .before .before .before .before .before .identifier-at .ensures .0) (c .before .before .before .before .before .if1 .left)
-    (goes _ _ _ (c .before .before .before .before .value-at .ensures .0) (c .before .before .if2 .left) (tail-one _ _ _ refl refl))), omega arith)
+returns-3 c = (
+  simp flat (goes _ _ _ (c .before .before .before .before .before .before .before .identifier-at .ensures .0) (c .before .before .before .before .before .if1 .left)
+      (goes _ _ _ (c .before .before .before .before .value-at .ensures .0) (c .before .before .if2 .left) (tail-one _ _ _ refl refl))),
+  omega arith,
+)
 
 pub invoke-head-spec : {M : Type 1} → statement M
 invoke-head-spec =

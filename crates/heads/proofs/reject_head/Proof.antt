@@ -19,10 +19,11 @@ no-head-requires c κs = search needs
 
 returns : tie.Need-returns
 unfolding restOf
-returns c =
-    (rw (c .no-head .ensures, c .before .number-of .ensures, reject-by _ _)
-    (refuses _ _ _ (c .before .before .before .before .caller-at .ensures .0) (c .before .before .if1 .taken)),
-    rw (c .no-head .ensures) (omega arith))
+returns c = (
+  rw (c .no-head .ensures, c .before .number-of .ensures, reject-by _ _)
+      (refuses _ _ _ (c .before .before .before .before .caller-at .ensures .0) (c .before .before .if1 .taken)),
+  rw (c .no-head .ensures) (omega arith),
+)
 
 problems-at-requires : tie.Need-problems-at-requires
 problems-at-requires c κs = search needs
@@ -35,31 +36,35 @@ no-head-requires-2 c κs = search needs
 
 returns-2 : tie.Need-returns-2
 unfolding restOf
-returns-2 c =
-    (rw (c .no-head2 .ensures, c .before .number-of2 .ensures, reject-by _ _)
-    (goes _ _ _ (c .before .before .before .before .before .before .before .caller-at .ensures .0) (c .before .before .before .before .before .if1 .left)
-    (refuses _ _ _ (c .before .before .before .before .problems-at .ensures) (c .before .before .if2 .taken))),
-    rw (c .no-head2 .ensures) (omega arith))
+returns-2 c = (
+  rw (c .no-head2 .ensures, c .before .number-of2 .ensures, reject-by _ _)
+      (goes _ _ _ (c .before .before .before .before .before .before .before .caller-at .ensures .0) (c .before .before .before .before .before .if1 .left)
+      (refuses _ _ _ (c .before .before .before .before .problems-at .ensures) (c .before .before .if2 .taken))),
+  rw (c .no-head2 .ensures) (omega arith),
+)
 
 no-head-requires-3 : tie.Need-no-head-requires-3
 no-head-requires-3 c κs = search needs
 
 returns-3 : tie.Need-returns-3
 unfolding restOf
-returns-3 c =
-    (rw (c .no-head3 .ensures, reject-by _ _)
-    (goes _ _ _ (c .before .before .before .before .before .before .before .before .caller-at .ensures .0) (c .before .before .before .before .before .before .if1 .left)
-    (goes _ _ _ (c .before .before .before .before .before .problems-at .ensures) (c .before .before .before .if2 .left)
-    (leaves _ _ _ _ (c .before .if3 .taken)))),
-    rw (c .no-head3 .ensures) (omega arith))
+returns-3 c = (
+  rw (c .no-head3 .ensures, reject-by _ _)
+      (goes _ _ _ (c .before .before .before .before .before .before .before .before .caller-at .ensures .0) (c .before .before .before .before .before .before .if1 .left)
+      (goes _ _ _ (c .before .before .before .before .before .problems-at .ensures) (c .before .before .before .if2 .left)
+      (leaves _ _ _ _ (c .before .if3 .taken)))),
+  rw (c .no-head3 .ensures) (omega arith),
+)
 
 returns-4 : tie.Need-returns-4
 unfolding restOf
-returns-4 c =
-    (rw (reject-by _ _)
-    (goes _ _ _ (c .before .before .before .before .before .before .before .caller-at .ensures .0) (c .before .before .before .before .before .if1 .left)
-    (goes _ _ _ (c .before .before .before .before .problems-at .ensures) (c .before .before .if2 .left)
-    (ap accepted (sym (c .before .before .before .before .before .before .before .caller-at .ensures .1 _ _)) ∙ ends _ _ _ _ (c .if3 .left)))), omega arith)
+returns-4 c = (
+  rw (reject-by _ _)
+      (goes _ _ _ (c .before .before .before .before .before .before .before .caller-at .ensures .0) (c .before .before .before .before .before .if1 .left)
+      (goes _ _ _ (c .before .before .before .before .problems-at .ensures) (c .before .before .if2 .left)
+      (ap accepted (sym (c .before .before .before .before .before .before .before .caller-at .ensures .1 _ _)) ∙ ends _ _ _ _ (c .if3 .left)))),
+  omega arith,
+)
 
 pub reject-head-spec : {M : Type 1} → statement M
 reject-head-spec =

@@ -21,10 +21,11 @@ no-head-requires c κs = search needs
 
 returns : tie.Need-returns
 unfolding restOf tailOf contentsOf returnResult leads cons constructed
-returns c =
-    (rw (c .no-head .ensures, c .before .number-of .ensures)
-    (simp flat (refuses _ _ _ (c .before .before .before .before .identifier-at .ensures .0) (c .before .before .if1 .taken))),
-    rw (c .no-head .ensures) (omega arith))
+returns c = (
+  rw (c .no-head .ensures, c .before .number-of .ensures)
+      (simp flat (refuses _ _ _ (c .before .before .before .before .identifier-at .ensures .0) (c .before .before .if1 .taken))),
+  rw (c .no-head .ensures) (omega arith),
+)
 
 open-at-requires : tie.Need-open-at-requires
 open-at-requires c κs = search needs
@@ -37,11 +38,12 @@ no-head-requires-2 c κs = search needs
 
 returns-2 : tie.Need-returns-2
 unfolding restOf tailOf contentsOf returnResult leads cons constructed
-returns-2 c =
-    (rw (c .no-head2 .ensures, c .before .number-of2 .ensures)
-    (simp flat (goes _ _ _ (c .before .before .before .before .before .before .before .identifier-at .ensures .0) (c .before .before .before .before .before .if1 .left)
-    (refuses _ _ _ (c .before .before .before .before .open-at .ensures .0) (c .before .before .if2 .taken)))),
-    rw (c .no-head2 .ensures) (omega arith))
+returns-2 c = (
+  rw (c .no-head2 .ensures, c .before .number-of2 .ensures)
+      (simp flat (goes _ _ _ (c .before .before .before .before .before .before .before .identifier-at .ensures .0) (c .before .before .before .before .before .if1 .left)
+      (refuses _ _ _ (c .before .before .before .before .open-at .ensures .0) (c .before .before .if2 .taken)))),
+  rw (c .no-head2 .ensures) (omega arith),
+)
 
 value-at-requires : tie.Need-value-at-requires
 value-at-requires c κs = search needs
@@ -54,12 +56,13 @@ no-head-requires-3 c κs = search needs
 
 returns-3 : tie.Need-returns-3
 unfolding restOf tailOf contentsOf returnResult leads cons constructed
-returns-3 c =
-    (rw (c .no-head3 .ensures, c .before .number-of3 .ensures)
-    (simp flat (goes _ _ _ (c .before .before .before .before .before .before .before .before .before .before .identifier-at .ensures .0) (c .before .before .before .before .before .before .before .before .if1 .left)
-    (goes _ _ _ (c .before .before .before .before .before .before .before .open-at .ensures .0) (c .before .before .before .before .before .if2 .left)
-    (refuses _ _ _ (c .before .before .before .before .value-at .ensures .0) (c .before .before .if3 .taken))))),
-    rw (c .no-head3 .ensures) (omega arith))
+returns-3 c = (
+  rw (c .no-head3 .ensures, c .before .number-of3 .ensures)
+      (simp flat (goes _ _ _ (c .before .before .before .before .before .before .before .before .before .before .identifier-at .ensures .0) (c .before .before .before .before .before .before .before .before .if1 .left)
+      (goes _ _ _ (c .before .before .before .before .before .before .before .open-at .ensures .0) (c .before .before .before .before .before .if2 .left)
+      (refuses _ _ _ (c .before .before .before .before .value-at .ensures .0) (c .before .before .if3 .taken))))),
+  rw (c .no-head3 .ensures) (omega arith),
+)
 
 cast-id : tie.Need-cast-id
 cast-id c = search needs
@@ -69,10 +72,12 @@ cast-operation c = search needs
 
 returns-4 : tie.Need-returns-4
 unfolding restOf tailOf contentsOf returnResult leads cons constructed
-returns-4 c =
-    (simp flat (goes _ _ _ (c .before .before .before .before .before .before .before .before .before .before .identifier-at .ensures .0) (c .before .before .before .before .before .before .before .before .if1 .left)
-    (goes _ _ _ (c .before .before .before .before .before .before .before .open-at .ensures .0) (c .before .before .before .before .before .if2 .left)
-    (goes _ _ _ (c .before .before .before .before .value-at .ensures .0) (c .before .before .if3 .left) refl))), omega arith)
+returns-4 c = (
+  simp flat (goes _ _ _ (c .before .before .before .before .before .before .before .before .before .before .identifier-at .ensures .0) (c .before .before .before .before .before .before .before .before .if1 .left)
+      (goes _ _ _ (c .before .before .before .before .before .before .before .open-at .ensures .0) (c .before .before .before .before .before .if2 .left)
+      (goes _ _ _ (c .before .before .before .before .value-at .ensures .0) (c .before .before .if3 .left) refl))),
+  omega arith,
+)
 
 pub result-head-spec : {M : Type 1} → statement M
 result-head-spec =

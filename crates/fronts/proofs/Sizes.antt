@@ -1,0 +1,156 @@
+-- The octets of a front that may be written, and how many they are.
+-- Assumes nothing.
+use Prim.Native.Nat.{ℕ, _+_, _≤_, _<_}
+use native.Mathlib.Omega.{arith}
+use mathlib.Core.Path.{_≡_, refl, ap, sym, _∙_}
+use mathlib.Core.Bool.{Bool, true, false, _&&_, true≢false}
+use mathlib.Core.Logic.{_⊎_, inl, inr}
+use mathlib.Core.List.{List, [], _∷_, _++_}
+use lib.ListN.{length, length-append}
+use lib.Dec.{leb, eqb}
+use borrow.Author.Tests.{leb-true, eqb-true, eq-eqb, ne-eqb}
+use Rattle.coding.specs.Reader.{if_then_else}
+use Rattle.coding.specs.Codec.{has, prim}
+use Rattle.coding.specs.Leaves.{identifier}
+use Rattle.coding.specs.Written.{lead, fullNumber}
+use Rattle.coding.proofs.Basic.{and-left, and-right}
+use Rattle.coding.proofs.Small.{small-length, id-length, id-range, null-length}
+use Rattle.coding.proofs.Writing.{number-length, width-range}
+use Rattle.types.specs.Frames.{operations, errors}
+use Rattle.heads.proofs.Codes.{has-below}
+use Rattle.fronts.specs.declared.Front.{Front}
+use Rattle.fronts.specs.Fronts.{frontFine, frontOctets, idOctets, problemFine, sameFront, frontBy, called}
+
+pub operation-30 : (o : ℕ) → o ≡ 30 → has operations o ≡ true
+unfolding has
+operation-30 o e = rw e
+
+-- ---- by the frame
+
+module _ (f : Front) (n : ℕ) where
+  pub front-1 : f .frame ≡ 1
+      → frontOctets f n ≡ idOctets f ++ (fullNumber 0x02 (f .operation) ++ if_then_else (eqb (f .operation) 30) (fullNumber 0x0a (f .detail)) [])
+  unfolding frontOctets
+  front-1 e = rw (eq-eqb _ _ e)
+
+  pub front-2 : f .frame ≡ 2 → frontOctets f n ≡ idOctets f ++ (lead 0x30 (3 + n) ++ fullNumber 0x02 (f .operation))
+  unfolding frontOctets
+  front-2 e = rw (ne-eqb (f .frame) 1 (λ h. omega (arith, e, h)), eq-eqb _ _ e)
+
+  pub front-3 : f .frame ≡ 3 → frontOctets f n ≡ idOctets f ++ fullNumber 0x02 (f .error)
+  unfolding frontOctets
+  front-3 e = rw (ne-eqb (f .frame) 1 (λ h. omega (arith, e, h)), ne-eqb (f .frame) 2 (λ h. omega (arith, e, h)), eq-eqb _ _ e)
+
+  pub front-4 : (f .frame ≡ 1 → ⊥) → (f .frame ≡ 2 → ⊥) → (f .frame ≡ 3 → ⊥)
+      → frontOctets f n ≡ if_then_else (eqb (f .unnamed) 1) (lead 0x05 0) (idOctets f) ++ fullNumber (f .problem) (f .detail)
+  unfolding frontOctets
+  front-4 a b d = rw (ne-eqb _ _ a, ne-eqb _ _ b, ne-eqb _ _ d)
+
+-- ---- what may be written is small
+
+module _ (f : Front) (v : frontFine f ≡ true) where
+  pub small-1 : f .frame ≡ 1 → (f .operation < 128) × (f .detail < 128)
+  unfolding frontFine
+  small-1 e =
+      let w : has operations (f .operation)
+      && if_then_else (eqb (f .operation) 30) (sameFront (frontBy 1 0 (f .id) 30 0 0 (f .detail)) f && leb (f .detail) 2) (sameFront (frontBy 1 0 (f .id) (f .operation) 0 0 0) f)
+      ≡ true = rw (eq-eqb _ _ e) at v in
+      (has-below 128 operations (f .operation) refl (and-left (has operations (f .operation)) _ w), go (eqb (f .operation) 30) (and-right (has operations (f .operation)) _ w))
+    where
+      go : (b : Bool) → if_then_else b (sameFront (frontBy 1 0 (f .id) 30 0 0 (f .detail)) f && leb (f .detail) 2) (sameFront (frontBy 1 0 (f .id) (f .operation) 0 0 0) f) ≡ true
+          → f .detail < 128
+      go true h = omega (arith, leb-true (f .detail) 2 (and-right (sameFront (frontBy 1 0 (f .id) 30 0 0 (f .detail)) f) _ h))
+      go false h =
+          let a = and-right ((eqb 1 (f .frame) && eqb 0 (f .unnamed)) && (eqb (f .id) (f .id) && eqb (f .operation) (f .operation))) _ h in
+          omega (arith, eqb-true 0 (f .detail) (and-right (eqb 0 (f .error) && eqb 0 (f .problem)) _ a))
+
+  pub small-2 : f .frame ≡ 2 → f .operation < 128
+  unfolding frontFine
+  small-2 e =
+      let w : has (30 ∷ []) (f .operation) && sameFront (frontBy 2 0 (f .id) (f .operation) 0 0 0) f ≡ true =
+      rw (ne-eqb (f .frame) 1 (λ h. omega (arith, e, h)), eq-eqb _ _ e) at v in
+      has-below 128 (30 ∷ []) (f .operation) refl (and-left (has (30 ∷ []) (f .operation)) _ w)
+
+  pub small-3 : f .frame ≡ 3 → f .error < 128
+  unfolding frontFine
+  small-3 e =
+      let w : sameFront (frontBy 3 0 (f .id) 0 (f .error) 0 0) f && has errors (f .error) ≡ true =
+      rw (ne-eqb (f .frame) 1 (λ h. omega (arith, e, h)), ne-eqb (f .frame) 2 (λ h. omega (arith, e, h)), eq-eqb _ _ e) at v in
+      has-below 128 errors (f .error) refl (and-right (sameFront (frontBy 3 0 (f .id) 0 (f .error) 0 0) f) _ w)
+
+  small-problem : (p d : ℕ) → problemFine p d ≡ true → d < 128
+  small-problem p d h = go (eqb p 0x80) (eqb p 0x81) (eqb p 0x82) h
+    where
+      go : (a b e : Bool) → if_then_else a (leb d 2) (if_then_else b (leb d 7) (if_then_else e (leb d 2) (eqb 0x83 p && leb d 4))) ≡ true → d < 128
+      go true b e k = omega (arith, leb-true d 2 k)
+      go false true e k = omega (arith, leb-true d 7 k)
+      go false false true k = omega (arith, leb-true d 2 k)
+      go false false false k = omega (arith, leb-true d 4 (and-right (eqb 0x83 p) _ k))
+
+  pub reject-problem : (f .frame ≡ 1 → ⊥) → (f .frame ≡ 2 → ⊥) → (f .frame ≡ 3 → ⊥) → (f .frame ≡ 4) × (problemFine (f .problem) (f .detail) ≡ true)
+  unfolding frontFine
+  reject-problem a b d =
+      let w : if_then_else (eqb (f .frame) 4) (called f && (sameFront (frontBy 4 (f .unnamed) (f .id) 0 0 (f .problem) (f .detail)) f && problemFine (f .problem) (f .detail))) false ≡ true =
+      rw (ne-eqb _ _ a, ne-eqb _ _ b, ne-eqb _ _ d) at v in
+      go (eqb (f .frame) 4) refl w
+    where
+      go : (t : Bool) → eqb (f .frame) 4 ≡ t → if_then_else t (called f && (sameFront (frontBy 4 (f .unnamed) (f .id) 0 0 (f .problem) (f .detail)) f && problemFine (f .problem) (f .detail))) false ≡ true
+          → (f .frame ≡ 4) × (problemFine (f .problem) (f .detail) ≡ true)
+      go true q h = (eqb-true (f .frame) 4 q, and-right (sameFront (frontBy 4 (f .unnamed) (f .id) 0 0 (f .problem) (f .detail)) f) _ (and-right (called f) _ h))
+      go false q h = absurd (true≢false (sym h))
+
+  pub small-4 : (f .frame ≡ 1 → ⊥) → (f .frame ≡ 2 → ⊥) → (f .frame ≡ 3 → ⊥) → f .detail < 128
+  small-4 a b d = small-problem (f .problem) (f .detail) (reject-problem a b d .1)
+
+  -- the problem's tag
+  pub problem-tag : (f .frame ≡ 1 → ⊥) → (f .frame ≡ 2 → ⊥) → (f .frame ≡ 3 → ⊥) → (f .problem ≡ 0x80) ⊎ ((f .problem ≡ 0x81) ⊎ ((f .problem ≡ 0x82) ⊎ (f .problem ≡ 0x83)))
+  problem-tag a b d = go (eqb (f .problem) 0x80) (eqb (f .problem) 0x81) (eqb (f .problem) 0x82) refl refl refl (reject-problem a b d .1)
+    where
+      go : (x y z : Bool) → eqb (f .problem) 0x80 ≡ x → eqb (f .problem) 0x81 ≡ y → eqb (f .problem) 0x82 ≡ z
+          → if_then_else x (leb (f .detail) 2) (if_then_else y (leb (f .detail) 7) (if_then_else z (leb (f .detail) 2) (eqb 0x83 (f .problem) && leb (f .detail) 4))) ≡ true
+          → (f .problem ≡ 0x80) ⊎ ((f .problem ≡ 0x81) ⊎ ((f .problem ≡ 0x82) ⊎ (f .problem ≡ 0x83)))
+      go true y z q r s h = inl (eqb-true (f .problem) 0x80 q)
+      go false true z q r s h = inr (inl (eqb-true (f .problem) 0x81 r))
+      go false false true q r s h = inr (inr (inl (eqb-true (f .problem) 0x82 s)))
+      go false false false q r s h = inr (inr (inr (sym (eqb-true 0x83 (f .problem) (and-left (eqb 0x83 (f .problem)) _ h)))))
+
+-- ---- how many octets
+
+pub id-many : (f : Front) → (length (idOctets f) ≡ 2 + length (identifier .write (f .id)))
+id-many f = id-length 0x02 (f .id)
+
+pub two-parts : (xs ys : List ℕ) {a b : ℕ} → length xs ≡ a → length ys ≡ b → length (xs ++ ys) ≡ a + b
+two-parts xs ys p q = omega (arith, length-append xs ys, p, q)
+
+-- at least five, whatever is in it
+pub front-least : (f : Front) (n : ℕ) → 5 ≤ length (frontOctets f n)
+unfolding frontOctets
+front-least f n = go (eqb (f .frame) 1) (eqb (f .frame) 2) (eqb (f .frame) 3) (eqb (f .unnamed) 1)
+  where
+    whole : (a b d e : Bool) → List ℕ
+    whole a b d e =
+        if_then_else a (idOctets f ++ (fullNumber 0x02 (f .operation) ++ if_then_else (eqb (f .operation) 30) (fullNumber 0x0a (f .detail)) []))
+        (if_then_else b (idOctets f ++ (lead 0x30 (3 + n) ++ fullNumber 0x02 (f .operation)))
+        (if_then_else d (idOctets f ++ fullNumber 0x02 (f .error)) (if_then_else e (lead 0x05 0) (idOctets f) ++ fullNumber (f .problem) (f .detail))))
+
+    id3 : 3 ≤ length (idOctets f)
+    id3 = omega (arith, id-many f, id-range (f .id))
+
+    num3 : (t x : ℕ) → 3 ≤ length (fullNumber t x)
+    num3 t x = omega (arith, number-length t x, width-range x)
+
+    go : (a b d e : Bool) → 5 ≤ length (whole a b d e)
+    go true b d e =
+        let r : List ℕ = if_then_else (eqb (f .operation) 30) (fullNumber 0x0a (f .detail)) [] in
+        omega (arith, length-append (idOctets f) (fullNumber 0x02 (f .operation) ++ r), length-append (fullNumber 0x02 (f .operation)) r, id3, num3 0x02 (f .operation))
+    go false true d e =
+        omega (
+          arith,
+          length-append (idOctets f) (lead 0x30 (3 + n) ++ fullNumber 0x02 (f .operation)),
+          length-append (lead 0x30 (3 + n)) (fullNumber 0x02 (f .operation)),
+          id3,
+          num3 0x02 (f .operation),
+        )
+    go false false true e = omega (arith, length-append (idOctets f) (fullNumber 0x02 (f .error)), id3, num3 0x02 (f .error))
+    go false false false true = omega (arith, length-append (lead 0x05 0) (fullNumber (f .problem) (f .detail)), null-length 0x05, num3 (f .problem) (f .detail))
+    go false false false false = omega (arith, length-append (idOctets f) (fullNumber (f .problem) (f .detail)), id3, num3 (f .problem) (f .detail))

@@ -1,0 +1,46 @@
+use borrow.Author.Needs.{needs}
+use borrow.Author.Tests.{eq-eqb, ne-eqb, lt-ltb, le-ltb}
+use native.Mathlib.Omega.{arith}
+use mathlib.Core.Path.{_≡_, sym, ap, _∙_}
+use mathlib.Core.List.{List, [], _++_, append-nil}
+use lib.ListN.{length, length-append}
+use lib.Dec.{eqb}
+use Rattle.coding.specs.Reader.{if_then_else}
+use Rattle.coding.specs.Written.{lead, fullNumber}
+use Rattle.coding.proofs.Writing.{wrote-both, wrote-as}
+use Rattle.fronts.specs.Fronts.{idOctets, frontOctets}
+use Rattle.fronts.proofs.put_caller.Statement.{statement}
+use Rattle.fronts.proofs.put_caller.Tie as tie
+
+put-null-requires : tie.Need-put-null-requires
+put-null-requires c κs =
+    let e : if_then_else (eqb (c .before .before .before .before .args .f .unnamed) 1) (lead 0x05 0) (idOctets (c .before .before .before .before .args .f)) ≡ lead 0x05 0 = rw (eq-eqb _ _ (c .before .if1 .taken)) in omega (arith, ap length e, c .before .before .before .before .pre)
+
+same-length : tie.Need-same-length
+same-length c = search needs
+
+returns : tie.Need-returns
+returns c =
+    rw (eq-eqb _ _ (c .before .before .before .before .if1 .taken)) (c .before .before .put-null .ensures)
+
+put-id-requires : tie.Need-put-id-requires
+put-id-requires c κs =
+    let e : if_then_else (eqb (c .before .before .before .before .args .f .unnamed) 1) (lead 0x05 0) (idOctets (c .before .before .before .before .args .f)) ≡ idOctets (c .before .before .before .before .args .f) = rw (ne-eqb _ _ (c .before .if1 .left)) in omega (arith, ap length e, c .before .before .before .before .pre)
+
+same-length-2 : tie.Need-same-length-2
+same-length-2 c = search needs
+
+returns-2 : tie.Need-returns-2
+returns-2 c =
+    rw (ne-eqb _ _ (c .before .before .before .before .if1 .left)) (c .before .before .put-id .ensures)
+
+pub put-caller-spec : {M : Type 1} → statement M
+put-caller-spec =
+    tie.close
+    (tie.spec
+    put-null-requires
+    same-length
+    returns
+    put-id-requires
+    same-length-2
+    returns-2)

@@ -1,0 +1,71 @@
+-- A loop that reads entries into the two arrays, for any type of entry and any rows.
+-- Assumes nothing.
+use Prim.Native.Nat.{ℕ, _+_, _-_, _*_, _≤_, _<_}
+use native.Mathlib.Omega.{arith}
+use mathlib.Core.Path.{_≡_, refl, sym, ap, ap₂, _∙_}
+use mathlib.Core.List.{List, [], _∷_, _++_}
+use lib.ListN.{length, getD, replicate, length-append, length-take, length-replicate}
+use lib.Seq.{sets}
+use Rattle.coding.specs.Reader.{Ans, Reader, after, listOf}
+use Rattle.coding.specs.Reader.Ans.{got, halt}
+use Rattle.coding.specs.Codec.{pad}
+use Rattle.coding.specs.Rows.{rows}
+use Rattle.coding.specs.Shown.{shown}
+use Rattle.coding.proofs.Reading.{gives}
+use Rattle.coding.proofs.Rows.{rows-more-at}
+use Rattle.coding.proofs.Lists.{Going, going-start, going-more, list-done, list-fault, list-limit, list-strange}
+use Rattle.types.specs.declared.Charge.{Charge}
+use Rattle.types.specs.declared.Rate.{Rate}
+use Rattle.types.specs.Rates.{rateOctets}
+use Rattle.types.specs.Arguments.{noCharge, listFigure}
+use Rattle.lists.specs.Readers.{whole, Zero, figureRead}
+
+-- the entries read so far are those that the arrays hold, as many as counted, and the next would be at i
+pub record Kept {A : Type 0} (most : ℕ) (entry : Reader A) (low small : A → List ℕ) (s : List ℕ) (at end : ℕ) (numbers octets : List ℕ) (count i : ℕ) : Type 0 where
+  pub known : List A
+  pub going : Going 0x30 most entry s at end known i
+  pub laid : numbers ≡ pad 32 0 (rows low known)
+  pub marked : octets ≡ pad 192 0 (rows small known)
+  pub counted : length known ≡ count
+
+module _ {A : Type 0} (most : ℕ) (entry : Reader A) (low small : A → List ℕ) (s : List ℕ) (at end : ℕ) where
+  pub kept-start : {numbers octets : List ℕ} → at < end → Zero numbers octets → Kept most entry low small s at end numbers octets 0 at
+  unfolding pad rows
+  kept-start h z = record { known = []; going = going-start _ _ _ _ _ _ h; laid = z .numbers-zero; marked = z .octets-zero; counted = refl }
+
+  module _ {numbers octets : List ℕ} {count i : ℕ} (kept : Kept most entry low small s at end numbers octets count i) where
+    -- an entry more, its rows stored after the others
+    pub kept-more : (m n p q : ℕ) (z : A) → ((x : A) → length (low x) ≡ m) → ((x : A) → length (small x) ≡ n) → p ≡ m * count → q ≡ n * count →
+        m * count + m ≤ 32 → n * count + n ≤ 192 → i < end → count < most → {numbers' octets' : List ℕ} {k j next : ℕ} {v : A} →
+        (k, j, v, next) ≡ shown z (entry s i end) → k ≡ 0 → numbers' ≡ sets numbers p (low v) → octets' ≡ sets octets q (small v) →
+        Kept most entry low small s at end numbers' octets' (count + 1) next
+    kept-more m n p q z wide thick ep eq room space h l {v = v} e k0 en eo = record {
+      known = kept .known ++ (v ∷ []);
+      going = going-more _ _ _ _ _ _ (kept .known) _ z (kept .going) h (omega (arith, kept .counted)) e k0;
+      laid = en ∙ ap₂ (λ (l : List ℕ) (j : ℕ). sets l j (low v)) (kept .laid) ep ∙ rows-more-at low m wide 32 (kept .known) v count (kept .counted) room;
+      marked = eo ∙ ap₂ (λ (l : List ℕ) (j : ℕ). sets l j (small v)) (kept .marked) eq ∙ rows-more-at small n thick 192 (kept .known) v count (kept .counted) space;
+      counted = simp length-append (omega (arith, kept .counted));
+    }
+
+    module _ (f : List A → ℕ → Ans Charge) where
+      pub kept-done : (kind : ℕ) → end ≤ i →
+          ((xs : List A) (n : ℕ) → f xs n ≡ got (record { figure = listFigure kind (length xs); entries = record { numbers = pad 32 0 (rows low xs); octets = pad 192 0 (rows small xs) } }) n) →
+          whole (figureRead (listFigure kind count) i) numbers octets ≡ shown noCharge (after (listOf 0x30 most entry s at end) f)
+      kept-done kind h e =
+          list-done _ _ _ _ _ _ f _ (kept .known) _ (kept .going) h
+          (rw (e, kept .laid, kept .marked, ← kept .counted) (gives _ _ _))
+
+      pub kept-fault : (z : A) {k p n : ℕ} {v : A} → i < end → count < most → (k, p, v, n) ≡ shown z (entry s i end) → (k ≡ 0 → ⊥) →
+          (k, p, noCharge, 0) ≡ shown noCharge (after (listOf 0x30 most entry s at end) f)
+      kept-fault z h l e k0 = list-fault _ _ _ _ _ _ f _ (kept .known) _ (kept .going) z h (omega (arith, kept .counted)) e k0
+
+      pub kept-limit : i < end → most ≤ count → getD s i 0 ≡ 0x30 → (45, i, noCharge, 0) ≡ shown noCharge (after (listOf 0x30 most entry s at end) f)
+      kept-limit h l e = list-limit _ _ _ _ _ _ f _ (kept .known) _ (kept .going) h (omega (arith, kept .counted)) e
+
+      pub kept-strange : i < end → most ≤ count → (getD s i 0 ≡ 0x30 → ⊥) → (41, i, noCharge, 0) ≡ shown noCharge (after (listOf 0x30 most entry s at end) f)
+      kept-strange h l e = list-strange _ _ _ _ _ _ f _ (kept .known) _ (kept .going) h (omega (arith, kept .counted)) e
+
+-- a row of a rate's octets has 18, whatever its currency is
+pub rate-wide : (r : Rate) → length (rateOctets r) ≡ 18
+unfolding pad
+rate-wide r = simp (length-take, length-append, length-replicate) (omega arith)

@@ -1,0 +1,26 @@
+-- `rates::keep_text` meets its contract: an array of ten places is its own first ten.
+use Prim.Native.Nat.{_≤_}
+use native.Mathlib.Omega.{arith}
+use borrow.Author.Needs.{needs}
+use mathlib.Core.Path.{sym, ap, _∙_}
+use lib.ListN.{length}
+use lib.Seq.{sets, take-append-le}
+use Rattle.coding.specs.Codec.{pad}
+use Rattle.rates.proofs.keep_text.Statement.{statement}
+use Rattle.rates.proofs.keep_text.Tie as tie
+
+slice-aggregate-put-octets : tie.Need-slice-aggregate-put-octets
+slice-aggregate-put-octets c = search needs
+
+put-octets-requires : tie.Need-put-octets-requires
+put-octets-requires c κs = search needs
+
+returns : tie.Need-returns
+unfolding pad
+returns c =
+    let a = c .before .before .before .args in
+    let h : 10 ≤ length (a .t3) = omega arith in
+    c .put-octets .ensures .stored ∙ ap (sets (a .octets .now) (a .at)) (sym (take-append-le 10 (a .t3) _ h))
+
+pub keep-text-spec : {M : Type 1} → statement M
+keep-text-spec = tie.close (tie.spec slice-aggregate-put-octets put-octets-requires returns)
