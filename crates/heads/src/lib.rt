@@ -493,9 +493,10 @@ fn reject_head(s: &[u8], start: usize) -> Head
 }
 
 // The component's own element: its first octet, its length, its end, and nothing after it.
-fn enter(s: &[u8]) -> coding::Opened
+pub fn enter(s: &[u8]) -> coding::Opened
     ensures { λ r. ⌜ (r .fault, r .place, r .value, r .next) ≡ shown (record { start = 0; stop = 0 }) (enteredAny (0xa1 ∷ 0xa2 ∷ 0xa3 ∷ 0xa4 ∷ []) outside (named 5) (now (s .entry)) 0 (length (now (s .entry)))) ⌝ }
     ensures there { λ r. ⌜ ((r .fault ≡ 0) → (0 < length (now (s .entry)))) ⌝ }
+    ensures inside { λ r. ⌜ r .value .stop ≤ length (now (s .entry)) ⌝ }
 {
     let n = s.len();
     if n == 0 {

@@ -29,7 +29,7 @@ returns-2 c =
     (rw (c .no-head2 .ensures, c .before .number-of .ensures) (read-refused _ (c .before .before .before .before .before .if1 .left) _ (c .before .before .before .before .enter .ensures .0) (c .before .before .if2 .taken)), rw (c .no-head2 .ensures) (omega arith))
 
 shared-slice-read-tag : tie.Need-shared-slice-read-tag
-shared-slice-read-tag c = omega (arith, c .before .before .before .enter .ensures .1 (c .before .if2 .left))
+shared-slice-read-tag c = omega (arith, c .before .before .before .enter .ensures .1 .0 (c .before .if2 .left))
 
 invoke-head-requires : tie.Need-invoke-head-requires
 invoke-head-requires c κs = search needs

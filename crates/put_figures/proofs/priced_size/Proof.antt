@@ -1,0 +1,80 @@
+use Prim.Native.Nat.{_+_}
+use mathlib.Core.Path.{sym, _∙_}
+use native.Mathlib.Omega.{arith}
+use borrow.Author.Needs.{needs}
+use Rattle.put_figures.proofs.Frames.{fine-small, fine-association, priced-during-length, priced-ending-length}
+use Rattle.put_figures.proofs.priced_size.Statement.{statement}
+use Rattle.put_figures.proofs.priced_size.Tie as tie
+use Rattle.put_figures.proofs.priced_size.Reads as reads
+use Rattle.put_figures.proofs.priced_size.Lts as lts
+use Rattle.put_figures.proofs.association_size.Reads as association-size-reads
+use Rattle.put_figures.proofs.marks_size.Reads as marks-size-reads
+use Rattle.put_figures.proofs.sized.Reads as sized-reads
+
+-- src/lib.rt:527:19
+sized-requires : tie.Need-sized-requires
+sized-requires c κs = search needs
+
+-- src/lib.rt:527:30
+marks-size-requires : tie.Need-marks-size-requires
+marks-size-requires c κs =
+    let s = c .before .before in
+    let q = fine-small (s .args .operation) (s .args .f) (s .pre .0) in
+    omega arith
+
+-- src/lib.rt:527:19
+add-sized : tie.Need-add-sized
+add-sized c = search needs
+
+-- src/lib.rt:527:9
+sized-requires-2 : tie.Need-sized-requires-2
+sized-requires-2 c κs = search needs
+
+-- src/lib.rt:529:9
+returns : tie.Need-returns
+returns c =
+    let s = c .before .before .before .before .before in
+    let k = c .before .before .before .sized .result + c .before .before .marks-size .result in (
+      λ xs e. c .before .sized2 .ensures .0 0x30
+          ∙ sym (priced-during-length (s .args .operation) (s .args .f) xs (s .args .n) k e (omega (arith, c .before .before .before .sized .ensures .0 0xa1)) (c .if1 .taken)),
+      omega arith,
+    )
+
+-- src/lib.rt:531:15
+association-size-requires : tie.Need-association-size-requires
+association-size-requires c κs =
+    let s = c .before .before .before .before .before in
+    fine-association (s .args .operation) (s .args .f) (s .pre .0)
+
+-- src/lib.rt:531:11
+add-sized-2 : tie.Need-add-sized-2
+add-sized-2 c = search needs
+
+-- src/lib.rt:531:5
+sized-requires-3 : tie.Need-sized-requires-3
+sized-requires-3 c κs = search needs
+
+-- src/lib.rt:521:1
+returns-2 : tie.Need-returns-2
+returns-2 c =
+    let s = c .before .before .before .before .before .before .before in
+    let d = c .before .before .before in
+    let k = d .before .before .sized .result + d .before .marks-size .result in (
+      λ xs e. c .sized3 .ensures .0 0x30
+          ∙ sym (priced-ending-length (s .args .operation) (s .args .f) xs (s .args .n) k e (omega (arith, d .before .before .sized .ensures .0 0xa1)) (c .before .before .if1 .left) (d .sized2 .result + c .before .association-size .result) (omega (arith, d .sized2 .ensures .0 0x30))),
+      omega arith,
+    )
+
+pub priced-size-spec : {M : Type 1} → statement M
+priced-size-spec =
+    tie.close
+    (tie.spec
+    sized-requires
+    marks-size-requires
+    add-sized
+    sized-requires-2
+    returns
+    association-size-requires
+    add-sized-2
+    sized-requires-3
+    returns-2)

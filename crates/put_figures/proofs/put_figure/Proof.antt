@@ -1,0 +1,173 @@
+use Prim.Native.Nat.{_+_}
+use mathlib.Core.Path.{_≡_, sym, ap}
+use native.Mathlib.Omega.{arith}
+use lib.ListN.{length}
+use borrow.Author.Needs.{needs}
+use Rattle.coding.proofs.Writing.{wrote-as}
+use Rattle.types.specs.Arguments.{plain, chargeOf}
+use Rattle.types.specs.Charges.{money}
+use Rattle.put_figures.specs.Octets.{before, after}
+use Rattle.put_figures.proofs.Frames.{fine-small, fine-money, parts-length, wrote-parts, before-length, after-length}
+use Rattle.put_figures.proofs.Plain.{figure-fine, figure-none, figure-free, figure-arranged, figure-kind, figure-parts}
+use Rattle.put_figures.proofs.put_figure.Statement.{statement}
+use Rattle.put_figures.proofs.put_figure.Tie as tie
+use Rattle.put_figures.proofs.put_figure.Reads as reads
+use Rattle.put_figures.proofs.put_figure.Lts as lts
+use Rattle.coding.proofs.put_null.Reads as put-null-reads
+use Rattle.coding.proofs.put_small.Reads as put-small-reads
+use Rattle.put_figures.proofs.money_size.Reads as money-size-reads
+use Rattle.put_figures.proofs.put_after.Reads as put-after-reads
+use Rattle.put_figures.proofs.put_before.Reads as put-before-reads
+use Rattle.put_figures.proofs.put_free.Reads as put-free-reads
+use Rattle.put_figures.proofs.put_money.Reads as put-money-reads
+
+-- src/lib.rt:715:9
+put-null-requires : tie.Need-put-null-requires
+put-null-requires c κs =
+    let s = c .before .before .before .before .before in
+    let o = s .args .operation in
+    let f = s .args .f in
+    let p = s .pre in
+    omega (arith, ap length (figure-none o f (p .0) (p .1 .0) (p .1 .1 .0) (omega arith)), p .1 .1 .1)
+
+-- src/lib.rt:715:9
+same-length : tie.Need-same-length
+same-length c = search needs
+
+-- src/lib.rt:715:9
+returns : tie.Need-returns
+returns c =
+    let s = c .before .before .before .before .before .before .before .before in
+    let o = s .args .operation in
+    let f = s .args .f in
+    let p = s .pre in
+    wrote-as (sym (figure-none o f (p .0) (p .1 .0) (p .1 .1 .0) (omega arith))) (c .before .before .put-null .ensures)
+
+-- src/lib.rt:718:9
+put-small-requires : tie.Need-put-small-requires
+put-small-requires c κs =
+    let s = c .before .before .before .before .before .before .before in
+    let o = s .args .operation in
+    let f = s .args .f in
+    let p = s .pre in
+    let z = fine-small o f (figure-fine o f (p .0) (p .1 .0) (p .1 .1 .0)) in
+    omega (arith, z .arrangement, ap length (figure-arranged o f (p .0) (p .1 .0) (p .1 .1 .0) (omega arith)), p .1 .1 .1)
+
+-- src/lib.rt:718:9
+same-length-2 : tie.Need-same-length-2
+same-length-2 c = search needs
+
+-- src/lib.rt:718:9
+returns-2 : tie.Need-returns-2
+returns-2 c =
+    let s = c .before .before .before .before .before .before .before .before .before .before in
+    let o = s .args .operation in
+    let f = s .args .f in
+    let p = s .pre in
+    wrote-as (sym (figure-arranged o f (p .0) (p .1 .0) (p .1 .1 .0) (omega arith))) (c .before .before .put-small .ensures)
+
+-- src/lib.rt:721:9
+put-free-requires : tie.Need-put-free-requires
+put-free-requires c κs =
+    let s = c .before .before .before .before .before .before .before .before .before in
+    let o = s .args .operation in
+    let f = s .args .f in
+    let p = s .pre in
+    (figure-fine o f (p .0) (p .1 .0) (p .1 .1 .0), omega (arith, ap length (figure-free o f (p .0) (p .1 .0) (p .1 .1 .0) (omega arith)), p .1 .1 .1))
+
+-- src/lib.rt:721:9
+same-length-3 : tie.Need-same-length-3
+same-length-3 c = search needs
+
+-- src/lib.rt:721:9
+returns-3 : tie.Need-returns-3
+returns-3 c =
+    let s = c .before .before .before .before .before .before .before .before .before .before .before .before in
+    let o = s .args .operation in
+    let f = s .args .f in
+    let p = s .pre in
+    wrote-as (sym (figure-free o f (p .0) (p .1 .0) (p .1 .1 .0) (omega arith))) (c .before .before .put-free .ensures)
+
+-- src/lib.rt:723:47
+money-size-requires : tie.Need-money-size-requires
+money-size-requires c κs =
+    let s = c .before .before .before .before .before .before .before .before .before in
+    let o = s .args .operation in
+    let f = s .args .f in
+    let p = s .pre in
+    fine-money o f (figure-fine o f (p .0) (p .1 .0) (p .1 .1 .0)) (figure-kind o f (p .0) (p .1 .0) (p .1 .1 .0) (c .before .before .before .before .before .if1 .left) (c .before .if3 .left) (c .before .before .before .if2 .left))
+
+-- src/lib.rt:723:9
+put-before-requires : tie.Need-put-before-requires
+put-before-requires c κs =
+    let s = c .before .before .before .before .before .before .before .before .before .before in
+    let o = s .args .operation in
+    let f = s .args .f in
+    let p = s .pre in
+    let x = money .write (f .money) in
+    let n = c .money-size .result in
+    let e : n ≡ length x = c .money-size .ensures .0 in
+    let q : length ((chargeOf o) .write (plain f)) ≡ length (before o f n) + (length x + length (after o f)) =
+    parts-length o f n (money .write (f .money)) e (figure-parts o f (p .0) (p .1 .0) (p .1 .1 .0) (c .before .before .before .before .before .before .if1 .left) (c .before .before .if3 .left) (c .before .before .before .before .if2 .left)) in
+    ((figure-fine o f (p .0) (p .1 .0) (p .1 .1 .0), omega (arith, before-length o f n, after-length o f (figure-fine o f (p .0) (p .1 .0) (p .1 .1 .0)), c .money-size .ensures)), omega (arith, q, e, p .1 .1 .1))
+
+-- src/lib.rt:724:9
+put-money-requires : tie.Need-put-money-requires
+put-money-requires c κs =
+    let s = c .before .before .before .before .before .before .before .before .before .before .before .before .before .before in
+    let o = s .args .operation in
+    let f = s .args .f in
+    let p = s .pre in
+    let x = money .write (f .money) in
+    let n = c .before .before .before .before .money-size .result in
+    let e : n ≡ length x = c .before .before .before .before .money-size .ensures .0 in
+    let q : length ((chargeOf o) .write (plain f)) ≡ length (before o f n) + (length x + length (after o f)) =
+    parts-length o f n (money .write (f .money)) e (figure-parts o f (p .0) (p .1 .0) (p .1 .1 .0) (c .before .before .before .before .before .before .before .before .before .before .if1 .left) (c .before .before .before .before .before .before .if3 .left) (c .before .before .before .before .before .before .before .before .if2 .left)) in
+    (fine-money o f (figure-fine o f (p .0) (p .1 .0) (p .1 .1 .0)) (figure-kind o f (p .0) (p .1 .0) (p .1 .1 .0) (c .before .before .before .before .before .before .before .before .before .before .if1 .left) (c .before .before .before .before .before .before .if3 .left) (c .before .before .before .before .before .before .before .before .if2 .left)), omega (arith, q, e, p .1 .1 .1, c .before .before .before .put-before .ensures))
+
+-- src/lib.rt:725:5
+put-after-requires : tie.Need-put-after-requires
+put-after-requires c κs =
+    let s = c .before .before .before .before .before .before .before .before .before .before .before .before .before .before .before .before .before .before in
+    let o = s .args .operation in
+    let f = s .args .f in
+    let p = s .pre in
+    let x = money .write (f .money) in
+    let n = c .before .before .before .before .before .before .before .before .money-size .result in
+    let e : n ≡ length x = c .before .before .before .before .before .before .before .before .money-size .ensures .0 in
+    let q : length ((chargeOf o) .write (plain f)) ≡ length (before o f n) + (length x + length (after o f)) =
+    parts-length o f n (money .write (f .money)) e (figure-parts o f (p .0) (p .1 .0) (p .1 .1 .0) (c .before .before .before .before .before .before .before .before .before .before .before .before .before .before .if1 .left) (c .before .before .before .before .before .before .before .before .before .before .if3 .left) (c .before .before .before .before .before .before .before .before .before .before .before .before .if2 .left)) in
+    (figure-fine o f (p .0) (p .1 .0) (p .1 .1 .0), omega (arith, q, e, p .1 .1 .1, c .before .before .before .before .before .before .before .put-before .ensures, c .before .before .before .put-money .ensures))
+
+-- src/lib.rt:706:1
+same-length-4 : tie.Need-same-length-4
+same-length-4 c = search needs
+
+-- src/lib.rt:706:1
+returns-4 : tie.Need-returns-4
+returns-4 c =
+    let s = c .before .before .before .before .before .before .before .before .before .before .before .before .before .before .before .before .before .before .before .before .before in
+    let o = s .args .operation in
+    let f = s .args .f in
+    let p = s .pre in
+    wrote-parts o f (c .before .before .before .before .before .before .before .before .before .before .before .money-size .result) (money .write (f .money)) (c .before .before .before .before .before .before .before .before .before .before .before .money-size .ensures .0) (figure-parts o f (p .0) (p .1 .0) (p .1 .1 .0) (c .before .before .before .before .before .before .before .before .before .before .before .before .before .before .before .before .before .if1 .left) (c .before .before .before .before .before .before .before .before .before .before .before .before .before .if3 .left) (c .before .before .before .before .before .before .before .before .before .before .before .before .before .before .before .if2 .left)) (c .before .before .before .before .before .before .before .before .before .before .put-before .ensures) (c .before .before .before .before .before .before .put-money .ensures) (c .before .before .put-after .ensures)
+
+pub put-figure-spec : {M : Type 1} → statement M
+put-figure-spec =
+    tie.close
+    (tie.spec
+    put-null-requires
+    same-length
+    returns
+    put-small-requires
+    same-length-2
+    returns-2
+    put-free-requires
+    same-length-3
+    returns-3
+    money-size-requires
+    put-before-requires
+    put-money-requires
+    put-after-requires
+    same-length-4
+    returns-4)

@@ -1,0 +1,71 @@
+use Prim.Native.Nat.{_+_}
+use native.Mathlib.Omega.{arith}
+use borrow.Author.Needs.{needs}
+use Rattle.coding.proofs.Small.{string-length}
+use Rattle.coding.proofs.Writing.{lead-length-short}
+use Rattle.put_figures.proofs.Sizes.{plain-room, association-plain-length, wrote-plain}
+use Rattle.put_figures.proofs.put_plain.Statement.{statement}
+use Rattle.put_figures.proofs.put_plain.Tie as tie
+use Rattle.put_figures.proofs.put_plain.Reads as reads
+use Rattle.put_figures.proofs.put_plain.Lts as lts
+use Rattle.coding.proofs.put_lead.Reads as put-lead-reads
+use Rattle.coding.proofs.put_string.Reads as put-string-reads
+
+-- src/lib.rt:612:13
+cast-n : tie.Need-cast-n
+cast-n c = search needs
+
+-- src/lib.rt:614:45
+add-put-lead : tie.Need-add-put-lead
+add-put-lead c = search needs
+
+-- src/lib.rt:614:9
+put-lead-requires : tie.Need-put-lead-requires
+put-lead-requires c κs =
+    let s = c .before .before .before .before in
+    let a = s .args .a in
+    let k = s .pre .1 in
+    let r = plain-room a (s .pre .0 .0) (k .0) (k .1) (k .2) in
+    let n = a .count in
+    let q = association-plain-length a (r .0) (r .1) (k .0) (k .1) (k .2) in
+    omega (arith, r, q, lead-length-short 0xa0 (2 + n) (omega (arith, r)), s .pre .0)
+
+-- src/lib.rt:615:38
+slice-aggregate-put-string : tie.Need-slice-aggregate-put-string
+slice-aggregate-put-string c = search needs
+
+-- src/lib.rt:615:5
+put-string-requires : tie.Need-put-string-requires
+put-string-requires c κs =
+    let s = c .before .before .before .before .before .before .before .before .before in
+    let a = s .args .a in
+    let k = s .pre .1 in
+    let r = plain-room a (s .pre .0 .0) (k .0) (k .1) (k .2) in
+    let n = a .count in
+    let q = association-plain-length a (r .0) (r .1) (k .0) (k .1) (k .2) in
+    omega (arith, r, q, lead-length-short 0xa0 (2 + n) (omega (arith, r)), string-length 0x80 n (a .digits) (r .1), lead-length-short 0x80 n (omega (arith, r)), s .pre .0, (c .before .before .before .before .put-lead) .ensures)
+
+-- src/lib.rt:607:1
+same-length : tie.Need-same-length
+same-length c = search needs
+
+-- src/lib.rt:607:1
+returns : tie.Need-returns
+returns c =
+    let s = c .before .before .before .before .before .before .before .before .before .before .before .before in
+    let a = s .args .a in
+    let k = s .pre .1 in
+    let r = plain-room a (s .pre .0 .0) (k .0) (k .1) (k .2) in
+    wrote-plain a (r .0) (r .1) (k .0) (k .1) (k .2) (c .before .before .before .before .before .before .before .put-lead .ensures) (c .before .before .put-string .ensures)
+
+pub put-plain-spec : {M : Type 1} → statement M
+put-plain-spec =
+    tie.close
+    (tie.spec
+    cast-n
+    add-put-lead
+    put-lead-requires
+    slice-aggregate-put-string
+    put-string-requires
+    same-length
+    returns)

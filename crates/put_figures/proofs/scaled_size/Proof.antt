@@ -1,0 +1,28 @@
+use native.Mathlib.Omega.{arith}
+use borrow.Author.Needs.{needs}
+use Rattle.coding.proofs.Writing.{width-range}
+use Rattle.put_figures.proofs.Sizes.{scaled-length}
+use Rattle.put_figures.proofs.scaled_size.Statement.{statement}
+use Rattle.put_figures.proofs.scaled_size.Tie as tie
+use Rattle.put_figures.proofs.scaled_size.Reads as reads
+use Rattle.put_figures.proofs.scaled_size.Lts as lts
+use Rattle.coding.proofs.width_of.Reads as width-of-reads
+
+-- src/lib.rt:467:9
+width-of-requires : tie.Need-width-of-requires
+width-of-requires c κs = search needs
+
+-- src/lib.rt:467:5
+add-result : tie.Need-add-result
+add-result c =
+    let s = c .before .args .s in
+    omega (arith, c .width-of .ensures, width-range (s .number))
+
+-- src/lib.rt:462:1
+returns : tie.Need-returns
+returns c =
+    let s = c .before .args .s in
+    (λ tag. omega (arith, c .width-of .ensures, scaled-length tag s (omega arith)), omega (arith, c .width-of .ensures, width-range (s .number)))
+
+pub scaled-size-spec : {M : Type 1} → statement M
+scaled-size-spec = tie.close (tie.spec width-of-requires add-result returns)

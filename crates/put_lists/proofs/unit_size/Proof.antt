@@ -1,0 +1,35 @@
+-- `put_lists::unit_size` meets its contract.
+-- Assumes nothing.
+use Prim.Native.Nat.{_+_}
+use native.Mathlib.Omega.{arith}
+use borrow.Author.Needs.{needs}
+use Rattle.coding.proofs.Writing.{lead-length-short}
+use Rattle.put_lists.proofs.Written.{unit-type, unit-room}
+use Rattle.put_lists.proofs.unit_size.Statement.{statement}
+use Rattle.put_lists.proofs.unit_size.Tie as tie
+
+-- `put_lists::unit_size` meets its contract.
+-- Assumes nothing.
+
+number-size-requires : tie.Need-number-size-requires
+number-size-requires c κs = search needs
+
+add-result : tie.Need-add-result
+add-result c = search needs
+
+type-size-requires : tie.Need-type-size-requires
+type-size-requires c κs = unit-type (c .before .args .u) (c .before .pre)
+
+add-result-2 : tie.Need-add-result-2
+add-result-2 c = search needs
+
+returns : tie.Need-returns
+returns c =
+    let n = c .before .number-size .ensures in
+    let t = c .type-size .ensures in
+    let k = c .before .number-size .result + c .type-size .result in
+    omega (arith, n, t, lead-length-short 0x30 k (omega (arith, n, t)), unit-room (c .before .before .args .u) k (omega (arith, n, t)))
+
+pub unit-size-spec : {M : Type 1} → statement M
+unit-size-spec =
+    tie.close (tie.spec number-size-requires add-result type-size-requires add-result-2 returns)

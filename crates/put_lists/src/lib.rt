@@ -1,0 +1,302 @@
+// Charges that may hold a list: which may be written, how many octets they take, and their octets.
+//
+// A list stands in two arrays, which are lent and never copied in a loop.
+use types::Charge;
+use types::Entries;
+use types::Figure;
+use types::Units;
+
+ghost use mathlib.Core.Path.{_≡_};
+ghost use mathlib.Core.Bool.{Bool, true, _&&_};
+ghost use Prim.Native.Nat.{ℕ, _+_, _*_, _≤_, _<_};
+ghost use lib.ListN.{length};
+ghost use Rattle.coding.specs.Codec.{all, writeAll};
+ghost use Rattle.coding.specs.Written.{Wrote};
+ghost use Rattle.types.specs.Entries.{unit, unitAt, unitList};
+ghost use Rattle.types.specs.Rates.{rate, rateList};
+ghost use Rattle.types.specs.Arguments.{chargeOf};
+ghost use Rattle.put_figures.specs.Fine.{figureFine, unitsFine, ratesFine, entriesFine};
+ghost use Rattle.put_rates.specs.Entry.{laid};
+ghost use Rattle.put_lists.specs.Octets.{numberOctets, typeOctets, charged, unitsCharge, ratesCharge};
+
+// ---- an entry of units
+
+pub fn unit_of(numbers: &[u32; 32], octets: &[u8; 192], i: usize) -> Units
+    requires { ⌜ i < 32 ⌝ }
+    ensures { λ r. ⌜ r ≡ unitAt (laid (now (numbers .entry)) (now (octets .entry))) i ⌝ }
+{
+    Units {
+        number: numbers[i],
+        known: octets[2 * i],
+        kind: octets[2 * i + 1],
+    }
+}
+
+pub fn unit_fine(u: Units) -> bool
+    ensures { λ r. ⌜ r ≡ unit .valid u ⌝ }
+{
+    if 16 < u.kind {
+        return false;
+    }
+    if u.known == 1 {
+        return u.number <= 16777215;
+    }
+    if u.known != 0 {
+        return false;
+    }
+    u.number == 0
+}
+
+fn number_size(u: Units) -> usize
+    ensures { λ r. ⌜ r ≡ length (numberOctets u) ⌝ }
+    ensures few { λ r. ⌜ (2 ≤ r) × (r ≤ 6) ⌝ }
+{
+    if u.known == 1 {
+        return 2 + coding::width_of(u.number);
+    }
+    2
+}
+
+fn type_size(u: Units) -> usize
+    requires { ⌜ u .kind < 128 ⌝ }
+    ensures { λ r. ⌜ r ≡ length (typeOctets u) ⌝ }
+    ensures few { λ r. ⌜ r ≤ 3 ⌝ }
+{
+    if u.kind == 0 {
+        return 0;
+    }
+    3
+}
+
+pub fn unit_size(u: Units) -> usize
+    requires { ⌜ unit .valid u ≡ true ⌝ }
+    ensures { λ r. ⌜ r ≡ length (unit .write u) ⌝ }
+    ensures few { λ r. ⌜ r ≤ 11 ⌝ }
+{
+    2 + number_size(u) + type_size(u)
+}
+
+fn put_number(buf: &mut [u8], at: usize, u: Units) -> usize
+    requires { ⌜ at + length (numberOctets u) ≤ length (now buf) ⌝ }
+    ensures { λ r. ⌜ Wrote (now (buf .entry)) (now (buf .exit)) at (numberOctets u) r ⌝ }
+{
+    if u.known == 1 {
+        return coding::put_number(buf, at, 0x02, u.number);
+    }
+    coding::put_null(buf, at, 0x05)
+}
+
+fn put_type(buf: &mut [u8], at: usize, u: Units) -> usize
+    requires { ⌜ (u .kind < 128) × (at + length (typeOctets u) ≤ length (now buf)) ⌝ }
+    ensures { λ r. ⌜ Wrote (now (buf .entry)) (now (buf .exit)) at (typeOctets u) r ⌝ }
+{
+    if u.kind == 0 {
+        return at;
+    }
+    coding::put_small(buf, at, 0x02, u.kind)
+}
+
+pub fn put_unit(buf: &mut [u8], at: usize, u: Units) -> usize
+    requires { ⌜ unit .valid u ≡ true ⌝ }
+    requires { ⌜ at + length (unit .write u) ≤ length (now buf) ⌝ }
+    ensures { λ r. ⌜ Wrote (now (buf .entry)) (now (buf .exit)) at (unit .write u) r ⌝ }
+{
+    let n = number_size(u) + type_size(u);
+    let p = coding::put_lead(buf, at, 0x30, n);
+    let q = put_number(buf, p, u);
+    put_type(buf, q, u)
+}
+
+// ---- lists of units
+
+// Whether the first n entries may be written.
+fn units_valid(numbers: &[u32; 32], octets: &[u8; 192], n: usize) -> bool
+    requires { ⌜ n ≤ 32 ⌝ }
+    ensures { λ r. ⌜ r ≡ all (unit .valid) (unitList (laid (now (numbers .entry)) (now (octets .entry))) n) ⌝ }
+{
+    let mut i = 0;
+    while i < n {
+        let u = unit_of(numbers, octets, i);
+        if !unit_fine(u) {
+            return false;
+        }
+        i += 1;
+    }
+    true
+}
+
+fn units_fine(numbers: &[u32; 32], octets: &[u8; 192], count: u8) -> bool
+    requires { ⌜ (length (now numbers) ≡ 32) × (length (now octets) ≡ 192) ⌝ }
+    ensures { λ r. ⌜ r ≡ unitsFine (laid (now (numbers .entry)) (now (octets .entry))) count ⌝ }
+{
+    let n = count as usize;
+    if n == 0 {
+        return false;
+    }
+    if 32 < n {
+        return false;
+    }
+    if !put_rates::unused_zero(numbers, octets, n, 2 * n) {
+        return false;
+    }
+    units_valid(numbers, octets, n)
+}
+
+// The octets of the first n entries.
+fn units_size(numbers: &[u32; 32], octets: &[u8; 192], n: usize) -> usize
+    requires { ⌜ n ≤ 32 ⌝ }
+    requires { ⌜ all (unit .valid) (unitList (laid (now numbers) (now octets)) n) ≡ true ⌝ }
+    ensures { λ r. ⌜ r ≡ length (writeAll (unit .write) (unitList (laid (now (numbers .entry)) (now (octets .entry))) n)) ⌝ }
+    ensures few { λ r. ⌜ r ≤ 352 ⌝ }
+{
+    let mut size = 0;
+    let mut i = 0;
+    while i < n {
+        let u = unit_of(numbers, octets, i);
+        size += unit_size(u);
+        i += 1;
+    }
+    size
+}
+
+fn put_units(buf: &mut [u8], at: usize, numbers: &[u32; 32], octets: &[u8; 192], n: usize) -> usize
+    requires { ⌜ n ≤ 32 ⌝ }
+    requires { ⌜ all (unit .valid) (unitList (laid (now numbers) (now octets)) n) ≡ true ⌝ }
+    requires { ⌜ at + length (writeAll (unit .write) (unitList (laid (now numbers) (now octets)) n)) ≤ length (now buf) ⌝ }
+    ensures { λ r. ⌜ Wrote (now (buf .entry)) (now (buf .exit)) at (writeAll (unit .write) (unitList (laid (now (numbers .entry)) (now (octets .entry))) n)) r ⌝ }
+{
+    let mut p = at;
+    let mut i = 0;
+    while i < n {
+        let u = unit_of(numbers, octets, i);
+        p = put_unit(buf, p, u);
+        i += 1;
+    }
+    p
+}
+
+// ---- charges
+
+fn entries_fine(f: Figure, e: Entries) -> bool
+    ensures { λ r. ⌜ r ≡ entriesFine (charged f e) ⌝ }
+{
+    if f.kind == 3 {
+        let numbers = e.numbers;
+        let octets = e.octets;
+        return units_fine(&numbers, &octets, f.count);
+    }
+    if f.kind == 4 {
+        let numbers = e.numbers;
+        let octets = e.octets;
+        return put_rates::rates_fine(&numbers, &octets, f.count);
+    }
+    if f.count != 0 {
+        return false;
+    }
+    put_figures::no_entries(e)
+}
+
+// Whether a charge may be written as the argument or result of an operation.
+pub fn charge_fine(c: Charge, operation: u8) -> bool
+    requires { ⌜ (30 ≤ operation) × (operation ≤ 36) ⌝ }
+    ensures { λ r. ⌜ r ≡ (chargeOf operation) .valid c ⌝ }
+{
+    let f = c.figure;
+    let e = c.entries;
+    if !put_figures::parts_fine(f, operation) {
+        return false;
+    }
+    entries_fine(f, e)
+}
+
+// The octets of a list of units.
+fn units_octets(e: Entries, count: u8) -> usize
+    requires { ⌜ unitsFine e count ≡ true ⌝ }
+    ensures { λ r. ⌜ r ≡ length (writeAll (unit .write) (unitList e count)) ⌝ }
+    ensures few { λ r. ⌜ r ≤ 352 ⌝ }
+{
+    let numbers = e.numbers;
+    let octets = e.octets;
+    units_size(&numbers, &octets, count as usize)
+}
+
+// The octets of a list of rates.
+fn rates_octets(e: Entries, count: u8) -> usize
+    requires { ⌜ ratesFine e count ≡ true ⌝ }
+    ensures { λ r. ⌜ r ≡ length (writeAll (rate .write) (rateList e count)) ⌝ }
+    ensures few { λ r. ⌜ r ≤ 550 ⌝ }
+{
+    let numbers = e.numbers;
+    let octets = e.octets;
+    put_rates::rates_size(&numbers, &octets, count as usize)
+}
+
+// The octets of a valid charge, which may be too many for a component.
+pub fn charge_size(c: Charge, operation: u8) -> usize
+    requires { ⌜ (30 ≤ operation) × (operation ≤ 36) ⌝ }
+    requires { ⌜ (chargeOf operation) .valid c ≡ true ⌝ }
+    ensures { λ r. ⌜ r ≡ length ((chargeOf operation) .write c) ⌝ }
+    ensures few { λ r. ⌜ r ≤ 600 ⌝ }
+{
+    let f = c.figure;
+    if f.kind == 3 {
+        let e = c.entries;
+        return put_figures::priced_size(f, operation, units_octets(e, f.count));
+    }
+    if f.kind == 4 {
+        let e = c.entries;
+        return put_figures::sized(rates_octets(e, f.count));
+    }
+    put_figures::figure_size(f, operation)
+}
+
+// A figure whose A1 holds units.
+fn put_units_charge(buf: &mut [u8], at: usize, f: Figure, e: Entries, operation: u8) -> usize
+    requires { ⌜ (figureFine operation f ≡ true) × (unitsFine e (f .count) ≡ true) ⌝ }
+    requires { ⌜ length (unitsCharge operation f e) ≤ 254 ⌝ }
+    requires { ⌜ at + length (unitsCharge operation f e) ≤ length (now buf) ⌝ }
+    ensures { λ r. ⌜ Wrote (now (buf .entry)) (now (buf .exit)) at (unitsCharge operation f e) r ⌝ }
+{
+    let numbers = e.numbers;
+    let octets = e.octets;
+    let n = f.count as usize;
+    let size = units_size(&numbers, &octets, n);
+    let p = put_figures::put_before(buf, at, f, operation, size);
+    let q = put_units(buf, p, &numbers, &octets, n);
+    put_figures::put_after(buf, q, f, operation)
+}
+
+// A 30 that holds rates.
+fn put_rates_charge(buf: &mut [u8], at: usize, e: Entries, count: u8) -> usize
+    requires { ⌜ ratesFine e count ≡ true ⌝ }
+    requires { ⌜ length (ratesCharge e count) ≤ 254 ⌝ }
+    requires { ⌜ at + length (ratesCharge e count) ≤ length (now buf) ⌝ }
+    ensures { λ r. ⌜ Wrote (now (buf .entry)) (now (buf .exit)) at (ratesCharge e count) r ⌝ }
+{
+    let numbers = e.numbers;
+    let octets = e.octets;
+    let n = count as usize;
+    let size = put_rates::rates_size(&numbers, &octets, n);
+    let p = coding::put_lead(buf, at, 0x30, size);
+    put_rates::put_rates(buf, p, &numbers, &octets, n)
+}
+
+// A valid charge of at most 254 octets.
+pub fn put_charge(buf: &mut [u8], at: usize, c: Charge, operation: u8) -> usize
+    requires { ⌜ (30 ≤ operation) × (operation ≤ 36) ⌝ }
+    requires { ⌜ (chargeOf operation) .valid c ≡ true ⌝ }
+    requires { ⌜ length ((chargeOf operation) .write c) ≤ 254 ⌝ }
+    requires { ⌜ at + length ((chargeOf operation) .write c) ≤ length (now buf) ⌝ }
+    ensures { λ r. ⌜ Wrote (now (buf .entry)) (now (buf .exit)) at ((chargeOf operation) .write c) r ⌝ }
+{
+    let f = c.figure;
+    if f.kind == 3 {
+        let e = c.entries;
+        return put_units_charge(buf, at, f, e, operation);
+    }
+    if f.kind == 4 {
+        let e = c.entries;
+        return put_rates_charge(buf, at, e, f.count);
+    }
+    put_figures::put_figure(buf, at, f, operation)
+}

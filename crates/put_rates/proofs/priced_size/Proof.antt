@@ -1,0 +1,33 @@
+-- `put_rates::priced_size` meets its contract.
+-- Assumes nothing.
+use mathlib.Core.Path.{ap, _∙_}
+use native.Mathlib.Omega.{arith}
+use lib.ListN.{length}
+use borrow.Author.Needs.{needs}
+use Rattle.types.specs.declared.Money.{Money}
+use Rattle.types.specs.Charges.{money}
+use Rattle.put_rates.proofs.Octets.{rate-parts, priced-length}
+use Rattle.put_rates.proofs.priced_size.Statement.{statement}
+use Rattle.put_rates.proofs.priced_size.Tie as tie
+
+money-of-requires : tie.Need-money-of-requires
+money-of-requires c κs = search needs
+
+money-size-requires : tie.Need-money-size-requires
+money-size-requires c κs = ap (money .valid) (c .money-of .ensures) ∙ rate-parts (c .before .args .r) (c .before .pre .0) .amount (c .before .pre .1)
+
+terms-size-requires : tie.Need-terms-size-requires
+terms-size-requires c κs = search needs
+
+add-result : tie.Need-add-result
+add-result c = search needs
+
+returns : tie.Need-returns
+returns c =
+    let m = c .before .money-size .ensures in
+    omega (arith, c .terms-size .ensures, m, ap (λ (x : Money). length (money .write x)) (c .before .before .money-of .ensures), priced-length (c .before .before .before .args .r))
+
+pub priced-size-spec : {M : Type 1} → statement M
+priced-size-spec =
+    tie.close
+    (tie.spec money-of-requires money-size-requires terms-size-requires add-result returns)

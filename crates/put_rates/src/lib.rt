@@ -1,0 +1,431 @@
+// Lists of rates: which may be written, how many octets they take, and their octets. What any list in the two arrays needs stands first.
+use types::Currency;
+use types::Money;
+use types::Rate;
+use types::Scaled;
+
+ghost use mathlib.Core.Path.{_≡_};
+ghost use mathlib.Core.Bool.{Bool, true, _&&_};
+ghost use Prim.Native.Nat.{ℕ, _+_, _*_, _≤_, _<_};
+ghost use lib.ListN.{length, getD, take, drop};
+ghost use Rattle.coding.specs.Codec.{all, writeAll};
+ghost use Rattle.coding.specs.Written.{Wrote};
+ghost use Rattle.types.specs.Charges.{noMoney};
+ghost use Rattle.types.specs.Rates.{moneyOf, timeOf, rate, rateAt, rateList};
+ghost use Rattle.types.specs.Arguments.{sameMoney};
+ghost use Rattle.put_figures.specs.Fine.{ratesFine};
+ghost use Rattle.put_rates.specs.Entry.{laid, cleared, unusedZero};
+ghost use Rattle.put_rates.specs.Prices.{detailFine, unstepped, stepFine, timesFine, amountFine, stepOctets, termOctets, pricedOctets, priceOctets};
+
+// ---- what is not used is zero
+
+fn clear_numbers(numbers: &mut [u32; 32], n: usize)
+    requires { ⌜ n ≤ 32 ⌝ }
+    ensures { λ _. ⌜ now (numbers .exit) ≡ cleared n (now (numbers .entry)) ⌝ }
+{
+    let mut i = 0;
+    while i < n {
+        numbers[i] = 0;
+        i += 1;
+    }
+}
+
+fn clear_octets(octets: &mut [u8; 192], n: usize)
+    requires { ⌜ n ≤ 192 ⌝ }
+    ensures { λ _. ⌜ now (octets .exit) ≡ cleared n (now (octets .entry)) ⌝ }
+{
+    let mut i = 0;
+    while i < n {
+        octets[i] = 0;
+        i += 1;
+    }
+}
+
+// Whether all is zero past the first n numbers and m octets. What is used is set to zero in copies: whole arrays are then tested, many places at a time.
+pub fn unused_zero(numbers: &[u32; 32], octets: &[u8; 192], n: usize, m: usize) -> bool
+    requires { ⌜ (n ≤ 32) × (m ≤ 192) ⌝ }
+    ensures { λ r. ⌜ r ≡ unusedZero (now (numbers .entry)) (now (octets .entry)) n m ⌝ }
+{
+    let mut a = *numbers;
+    let mut b = *octets;
+    clear_numbers(&mut a, n);
+    clear_octets(&mut b, m);
+    put_figures::no_entries(types::Entries {
+        numbers: a,
+        octets: b,
+    })
+}
+
+// ---- a rate taken out of the arrays
+
+// The currency of the row that begins at a place.
+fn currency_of(octets: &[u8; 192], row: usize) -> Currency
+    requires { ⌜ (row + 18 ≤ 192) × (length (now octets) ≡ 192) ⌝ }
+    ensures { λ r. ⌜ r .count ≡ getD (now (octets .entry)) (row + 7) 0 ⌝ }
+    ensures places { λ r. ⌜ r .octets ≡ take 10 (drop (row + 8) (now (octets .entry))) ⌝ }
+{
+    let mut places: [u8; 10] = [0; 10];
+    let mut j = 0;
+    while j < 10 {
+        places[j] = octets[row + 8 + j];
+        j += 1;
+    }
+    Currency {
+        count: octets[row + 7],
+        octets: places,
+    }
+}
+
+pub fn rate_of(numbers: &[u32; 32], octets: &[u8; 192], i: usize) -> Rate
+    requires { ⌜ (i < 10) × (length (now octets) ≡ 192) ⌝ }
+    ensures { λ r. ⌜ r ≡ rateAt (laid (now (numbers .entry)) (now (octets .entry))) i ⌝ }
+{
+    let row = 18 * i;
+    let first = 3 * i;
+    let currency = currency_of(octets, row);
+    Rate {
+        item: octets[row],
+        kind: octets[row + 1],
+        detail: octets[row + 2],
+        stepped: octets[row + 3],
+        scale: octets[row + 4],
+        stepscale: octets[row + 5],
+        multiplier: octets[row + 6],
+        currency,
+        number: numbers[first],
+        time: numbers[first + 1],
+        step: numbers[first + 2],
+    }
+}
+
+// ---- which rates may be written
+
+fn money_of(r: Rate) -> Money
+    ensures { λ m. ⌜ m ≡ moneyOf r ⌝ }
+{
+    let currency = r.currency;
+    Money {
+        currency,
+        multiplier: r.multiplier,
+        number: r.number,
+    }
+}
+
+// The type of a duration, the unit of a volume, a code; no other kind has one.
+fn detail_fine(kind: u8, detail: u8) -> bool
+    ensures { λ r. ⌜ r ≡ detailFine kind detail ⌝ }
+{
+    if kind == 1 {
+        return detail <= 1;
+    }
+    if kind == 3 {
+        return detail <= 2;
+    }
+    if kind == 4 {
+        if detail < 1 {
+            return false;
+        }
+        return detail <= 10;
+    }
+    if kind < 2 {
+        return false;
+    }
+    if 6 < kind {
+        return false;
+    }
+    detail == 0
+}
+
+fn no_step(r: Rate) -> bool
+    ensures { λ b. ⌜ b ≡ unstepped r ⌝ }
+{
+    if r.stepped != 0 {
+        return false;
+    }
+    if r.stepscale != 0 {
+        return false;
+    }
+    r.step == 0
+}
+
+fn step_fine(r: Rate) -> bool
+    ensures { λ b. ⌜ b ≡ stepFine r ⌝ }
+{
+    if r.stepped == 1 {
+        return put_figures::scaled_fine(Scaled {
+            number: r.step,
+            scale: r.stepscale,
+        });
+    }
+    no_step(r)
+}
+
+// A duration has a time, and a step or none; the others have neither.
+fn times_fine(r: Rate) -> bool
+    ensures { λ b. ⌜ b ≡ timesFine r ⌝ }
+{
+    if r.kind == 1 {
+        if !put_figures::scaled_fine(Scaled {
+            number: r.time,
+            scale: r.scale,
+        }) {
+            return false;
+        }
+        return step_fine(r);
+    }
+    if r.scale != 0 {
+        return false;
+    }
+    if r.time != 0 {
+        return false;
+    }
+    no_step(r)
+}
+
+fn no_amount(r: Rate) -> bool
+    ensures { λ b. ⌜ b ≡ sameMoney noMoney (moneyOf r) ⌝ }
+{
+    let c = r.currency;
+    let octets = c.octets;
+    if c.count != 0 {
+        return false;
+    }
+    if r.multiplier != 0 {
+        return false;
+    }
+    if r.number != 0 {
+        return false;
+    }
+    coding::below(&octets, 0, 10, 1)
+}
+
+// Durations, flat rates and volumes have an amount.
+fn amount_fine(r: Rate) -> bool
+    ensures { λ b. ⌜ b ≡ amountFine r ⌝ }
+{
+    if r.kind <= 3 {
+        let m = money_of(r);
+        return put_figures::money_fine(m);
+    }
+    no_amount(r)
+}
+
+pub fn rate_fine(r: Rate) -> bool
+    ensures { λ b. ⌜ b ≡ rate .valid r ⌝ }
+{
+    if 4 < r.item {
+        return false;
+    }
+    if !detail_fine(r.kind, r.detail) {
+        return false;
+    }
+    if !times_fine(r) {
+        return false;
+    }
+    amount_fine(r)
+}
+
+// ---- the octets of a rate
+
+fn step_size(r: Rate) -> usize
+    requires { ⌜ rate .valid r ≡ true ⌝ }
+    ensures { λ n. ⌜ n ≡ length (stepOctets r) ⌝ }
+    ensures few { λ n. ⌜ n ≤ 11 ⌝ }
+{
+    if r.stepped == 1 {
+        return put_figures::scaled_size(Scaled {
+            number: r.step,
+            scale: r.stepscale,
+        });
+    }
+    0
+}
+
+// What comes after the amount.
+fn terms_size(r: Rate) -> usize
+    requires { ⌜ rate .valid r ≡ true ⌝ }
+    ensures { λ n. ⌜ n ≡ length (termOctets r) ⌝ }
+    ensures few { λ n. ⌜ n ≤ 25 ⌝ }
+{
+    if r.kind == 2 {
+        return 0;
+    }
+    if r.kind == 3 {
+        return 3;
+    }
+    let t = Scaled {
+        number: r.time,
+        scale: r.scale,
+    };
+    3 + put_figures::scaled_size(t) + step_size(r)
+}
+
+// The amount, and what comes after it.
+fn priced_size(r: Rate) -> usize
+    requires { ⌜ (rate .valid r ≡ true) × (r .kind ≤ 3) ⌝ }
+    ensures { λ n. ⌜ n ≡ length (pricedOctets r) ⌝ }
+    ensures few { λ n. ⌜ n ≤ 48 ⌝ }
+{
+    let m = money_of(r);
+    put_figures::money_size(m) + terms_size(r)
+}
+
+fn price_size(r: Rate) -> usize
+    requires { ⌜ rate .valid r ≡ true ⌝ }
+    ensures { λ n. ⌜ n ≡ length (priceOctets r) ⌝ }
+    ensures few { λ n. ⌜ n ≤ 50 ⌝ }
+{
+    if r.kind <= 3 {
+        return 2 + priced_size(r);
+    }
+    if r.kind == 4 {
+        return 3;
+    }
+    2
+}
+
+pub fn rate_size(r: Rate) -> usize
+    requires { ⌜ rate .valid r ≡ true ⌝ }
+    ensures { λ n. ⌜ n ≡ length (rate .write r) ⌝ }
+    ensures few { λ n. ⌜ n ≤ 55 ⌝ }
+{
+    5 + price_size(r)
+}
+
+fn put_step(buf: &mut [u8], at: usize, r: Rate) -> usize
+    requires { ⌜ (rate .valid r ≡ true) × (at + length (stepOctets r) ≤ length (now buf)) ⌝ }
+    ensures { λ n. ⌜ Wrote (now (buf .entry)) (now (buf .exit)) at (stepOctets r) n ⌝ }
+{
+    let t = Scaled {
+        number: r.step,
+        scale: r.stepscale,
+    };
+    if r.stepped == 1 {
+        return put_figures::put_scaled(buf, at, 0xa5, t);
+    }
+    at
+}
+
+fn put_terms(buf: &mut [u8], at: usize, r: Rate) -> usize
+    requires { ⌜ (rate .valid r ≡ true) × (at + length (termOctets r) ≤ length (now buf)) ⌝ }
+    ensures { λ n. ⌜ Wrote (now (buf .entry)) (now (buf .exit)) at (termOctets r) n ⌝ }
+{
+    let t = Scaled {
+        number: r.time,
+        scale: r.scale,
+    };
+    if r.kind == 2 {
+        return at;
+    }
+    if r.kind == 3 {
+        return coding::put_small(buf, at, 0x83, r.detail);
+    }
+    let p = coding::put_small(buf, at, 0x83, r.detail);
+    let q = put_figures::put_scaled(buf, p, 0xa4, t);
+    put_step(buf, q, r)
+}
+
+fn put_priced(buf: &mut [u8], at: usize, r: Rate) -> usize
+    requires { ⌜ (rate .valid r ≡ true) × (r .kind ≤ 3) × (at + length (priceOctets r) ≤ length (now buf)) ⌝ }
+    ensures { λ n. ⌜ Wrote (now (buf .entry)) (now (buf .exit)) at (priceOctets r) n ⌝ }
+{
+    let m = money_of(r);
+    let n = priced_size(r);
+    let p = coding::put_lead(buf, at, 0xa0 + r.kind, n);
+    let q = put_figures::put_money(buf, p, m);
+    put_terms(buf, q, r)
+}
+
+fn put_price(buf: &mut [u8], at: usize, r: Rate) -> usize
+    requires { ⌜ (rate .valid r ≡ true) × (at + length (priceOctets r) ≤ length (now buf)) ⌝ }
+    ensures { λ n. ⌜ Wrote (now (buf .entry)) (now (buf .exit)) at (priceOctets r) n ⌝ }
+{
+    if r.kind <= 3 {
+        return put_priced(buf, at, r);
+    }
+    if r.kind == 4 {
+        return coding::put_small(buf, at, 0x02, r.detail);
+    }
+    if r.kind == 5 {
+        return coding::put_null(buf, at, 0x84);
+    }
+    coding::put_null(buf, at, 0x85)
+}
+
+pub fn put_rate(buf: &mut [u8], at: usize, r: Rate) -> usize
+    requires { ⌜ (rate .valid r ≡ true) × (at + length (rate .write r) ≤ length (now buf)) ⌝ }
+    ensures { λ n. ⌜ Wrote (now (buf .entry)) (now (buf .exit)) at (rate .write r) n ⌝ }
+{
+    let n = price_size(r);
+    let p = coding::put_lead(buf, at, 0x30, 3 + n);
+    let q = coding::put_small(buf, p, 0x0a, r.item);
+    put_price(buf, q, r)
+}
+
+// ---- lists of rates
+
+// Whether the first n entries may be written.
+fn rates_valid(numbers: &[u32; 32], octets: &[u8; 192], n: usize) -> bool
+    requires { ⌜ (n ≤ 10) × (length (now octets) ≡ 192) ⌝ }
+    ensures { λ r. ⌜ r ≡ all (rate .valid) (rateList (laid (now (numbers .entry)) (now (octets .entry))) n) ⌝ }
+{
+    let mut i = 0;
+    while i < n {
+        let r = rate_of(numbers, octets, i);
+        if !rate_fine(r) {
+            return false;
+        }
+        i += 1;
+    }
+    true
+}
+
+pub fn rates_fine(numbers: &[u32; 32], octets: &[u8; 192], count: u8) -> bool
+    requires { ⌜ (length (now numbers) ≡ 32) × (length (now octets) ≡ 192) ⌝ }
+    ensures { λ r. ⌜ r ≡ ratesFine (laid (now (numbers .entry)) (now (octets .entry))) count ⌝ }
+{
+    let n = count as usize;
+    if n == 0 {
+        return false;
+    }
+    if 10 < n {
+        return false;
+    }
+    if !unused_zero(numbers, octets, 3 * n, 18 * n) {
+        return false;
+    }
+    rates_valid(numbers, octets, n)
+}
+
+// The octets of the first n entries.
+pub fn rates_size(numbers: &[u32; 32], octets: &[u8; 192], n: usize) -> usize
+    requires { ⌜ (n ≤ 10) × (length (now octets) ≡ 192) ⌝ }
+    requires { ⌜ all (rate .valid) (rateList (laid (now numbers) (now octets)) n) ≡ true ⌝ }
+    ensures { λ r. ⌜ r ≡ length (writeAll (rate .write) (rateList (laid (now (numbers .entry)) (now (octets .entry))) n)) ⌝ }
+    ensures few { λ r. ⌜ r ≤ 550 ⌝ }
+{
+    let mut size = 0;
+    let mut i = 0;
+    while i < n {
+        let r = rate_of(numbers, octets, i);
+        size += rate_size(r);
+        i += 1;
+    }
+    size
+}
+
+pub fn put_rates(buf: &mut [u8], at: usize, numbers: &[u32; 32], octets: &[u8; 192], n: usize) -> usize
+    requires { ⌜ (n ≤ 10) × (length (now octets) ≡ 192) ⌝ }
+    requires { ⌜ all (rate .valid) (rateList (laid (now numbers) (now octets)) n) ≡ true ⌝ }
+    requires { ⌜ at + length (writeAll (rate .write) (rateList (laid (now numbers) (now octets)) n)) ≤ length (now buf) ⌝ }
+    ensures { λ r. ⌜ Wrote (now (buf .entry)) (now (buf .exit)) at (writeAll (rate .write) (rateList (laid (now (numbers .entry)) (now (octets .entry))) n)) r ⌝ }
+{
+    let mut p = at;
+    let mut i = 0;
+    while i < n {
+        let r = rate_of(numbers, octets, i);
+        p = put_rate(buf, p, r);
+        i += 1;
+    }
+    p
+}

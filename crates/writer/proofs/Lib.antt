@@ -1,0 +1,5 @@
+pub mod Shuffles
+pub mod Valid
+pub mod Octets
+pub mod Outcomes
+pub mod Fits
