@@ -3,3 +3,4 @@ pub mod Valid
 pub mod Octets
 pub mod Outcomes
 pub mod Fits
+pub mod Theorems

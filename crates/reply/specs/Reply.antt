@@ -1,0 +1,54 @@
+-- The reject sent in reply to a component that is refused.
+use Prim.Native.Nat.{ℕ}
+use mathlib.Core.List.{List, [], _∷_}
+use mathlib.Core.Bool.{Bool, true, false, _&&_, _||_}
+use mathlib.Core.Logic.{_⊎_, inl, inr}
+use lib.ListN.{length, getD}
+use lib.Dec.{ltb, eqb}
+use Rattle.coding.specs.Reader.{Ans, if_then_else, after, enteredAny, has}
+use Rattle.coding.specs.Reader.Ans.{got, halt}
+use Rattle.coding.specs.Reader.Fault.{named}
+use Rattle.coding.specs.Codec.{prim}
+use Rattle.coding.specs.Leaves.{identifier}
+use Rattle.types.specs.declared.Record.{Record}
+use Rattle.types.specs.Frames.{outside, rejects, readOf}
+use Rattle.writer.specs.declared.Written.{Written}
+use Rattle.writer.specs.Outcome.{done, writeOf, leftOf}
+
+-- the first octet, or 0 where there is none
+abbrev pub firstOf : List ℕ → ℕ
+firstOf s = getD s 0 0
+
+-- the component's identifier, which stands first in its contents; 0 where none can be read
+abbrev pub valueOr0 : Ans ℕ → ℕ
+valueOr0 (got i n) = i
+valueOr0 (halt w p) = 0
+
+unfoldable pub identifierOf : List ℕ → ℕ
+identifierOf s =
+    valueOr0 (after (enteredAny (0xa1 ∷ 0xa2 ∷ 0xa3 ∷ 0xa4 ∷ []) outside (named 5) s 0 (length s)) (λ x next. (prim 0x02 identifier) .read s (x .start) (x .stop)))
+
+-- none for an accepted component or where the first octet is A4
+unfoldable pub isSilent : List ℕ → Bool
+isSilent s = eqb (readOf s .number) 0 || eqb (firstOf s) 0xa4
+
+-- with NULL: refusals 1, 2, 3, 5 general 2; 4 general 0; 6 general 1
+-- with the identifier: 7 invoke 1 (in a result: result 2); 8 error 2; 9 invoke 2 (in a result: result 2)
+abbrev pub replyBy : ℕ → ℕ → ℕ → Record
+replyBy n first i =
+    if_then_else (eqb n 4) (rejects (inl tt) 0x80 0)
+    (if_then_else (eqb n 6) (rejects (inl tt) 0x80 1)
+    (if_then_else (eqb n 8) (rejects (inr i) 0x83 2)
+    (if_then_else (eqb n 7) (if_then_else (eqb first 0xa2) (rejects (inr i) 0x82 2) (rejects (inr i) 0x81 1))
+    (if_then_else (eqb n 9) (if_then_else (eqb first 0xa2) (rejects (inr i) 0x82 2) (rejects (inr i) 0x81 2))
+    (rejects (inl tt) 0x80 2)))))
+
+unfoldable pub replyTo : List ℕ → Record
+replyTo s = replyBy (readOf s .number) (firstOf s) (identifierOf s)
+
+-- the answer, and what is left in a lent buffer
+unfoldable pub replyOf : List ℕ → ℕ → Written
+replyOf s room = if_then_else (isSilent s) (done 0) (writeOf (replyTo s) room)
+
+unfoldable pub replyLeft : List ℕ → List ℕ → List ℕ
+replyLeft s before = if_then_else (isSilent s) before (leftOf (replyTo s) before)

@@ -1,0 +1,144 @@
+// The reject sent in reply to a component that is refused.
+ghost use mathlib.Core.Path.{_≡_};
+ghost use mathlib.Core.Bool.{Bool, true, false};
+ghost use mathlib.Core.Logic.{_⊎_, inl, inr};
+ghost use Prim.Native.Nat.{_≤_, _<_};
+ghost use lib.ListN.{length};
+ghost use Rattle.types.specs.Frames.{rejects};
+ghost use Rattle.reply.specs.Reply.{firstOf, identifierOf, replyBy, replyOf, replyLeft};
+
+fn first_of(octets: &[u8]) -> u8
+    ensures { λ r. ⌜ r ≡ firstOf (now (octets .entry)) ⌝ }
+{
+    if octets.len() == 0 {
+        return 0;
+    }
+    octets[0]
+}
+
+// The identifier of a component whose contents can be entered; 0 where none can be read.
+fn identifier_of(octets: &[u8]) -> u16
+    ensures { λ r. ⌜ r ≡ identifierOf (now (octets .entry)) ⌝ }
+{
+    let e = heads::enter(octets);
+    if e.fault != 0 {
+        return 0;
+    }
+    let i = coding::identifier_at(octets, e.value.start, e.value.stop, 0x02);
+    i.value as u16
+}
+
+const NO_CHARGE: types::Charge = types::Charge {
+    figure: types::Figure {
+        money: types::Money {
+            currency: types::Currency {
+                count: 0,
+                octets: [0; 10],
+            },
+            multiplier: 0,
+            number: 0,
+        },
+        association: types::Association {
+            id: 0,
+            count: 0,
+            kind: 0,
+            plan: 0,
+            digits: [0; 20],
+        },
+        kind: 0,
+        total: 0,
+        billed: 0,
+        billing: 0,
+        arrangement: 0,
+        count: 0,
+    },
+    entries: types::Entries {
+        numbers: [0; 32],
+        octets: [0; 192],
+    },
+};
+
+fn unnamed(problem: u8, detail: u8) -> types::Record
+    ensures { λ r. ⌜ r ≡ rejects (inl tt) problem detail ⌝ }
+{
+    types::Record {
+        frame: 4,
+        unnamed: 1,
+        id: 0,
+        operation: 0,
+        error: 0,
+        problem,
+        detail,
+        charge: NO_CHARGE,
+    }
+}
+
+fn named(id: u16, problem: u8, detail: u8) -> types::Record
+    ensures { λ r. ⌜ r ≡ rejects (inr id) problem detail ⌝ }
+{
+    types::Record {
+        frame: 4,
+        unnamed: 0,
+        id,
+        operation: 0,
+        error: 0,
+        problem,
+        detail,
+        charge: NO_CHARGE,
+    }
+}
+
+// The reject for a refusal, by the component's first octet and its identifier.
+fn reject_for(number: u32, first: u8, id: u16) -> types::Record
+    ensures { λ r. ⌜ r ≡ replyBy number first id ⌝ }
+{
+    if number == 4 {
+        return unnamed(0x80, 0);
+    }
+    if number == 6 {
+        return unnamed(0x80, 1);
+    }
+    if number == 8 {
+        return named(id, 0x83, 2);
+    }
+    if number == 7 {
+        if first == 0xa2 {
+            return named(id, 0x82, 2);
+        }
+        return named(id, 0x81, 1);
+    }
+    if number == 9 {
+        if first == 0xa2 {
+            return named(id, 0x82, 2);
+        }
+        return named(id, 0x81, 2);
+    }
+    unnamed(0x80, 2)
+}
+
+// Writes the reject that a component's refusal calls for into a lent buffer; where none is due, 0 octets.
+pub fn reply(octets: &[u8], buf: &mut [u8]) -> writer::Written
+    ensures { λ r. ⌜ r ≡ replyOf (now (octets .entry)) (length (now (buf .entry))) ⌝ }
+    ensures left { λ r. ⌜ now (buf .exit) ≡ replyLeft (now (octets .entry)) (now (buf .entry)) ⌝ }
+{
+    let a = component::read(octets);
+    let number = a.number;
+    if number == 0 {
+        return nothing();
+    }
+    let first = first_of(octets);
+    if first == 0xa4 {
+        return nothing();
+    }
+    let r = reject_for(number, first, identifier_of(octets));
+    writer::write(r, buf)
+}
+
+fn nothing() -> writer::Written
+    ensures { λ r. ⌜ r ≡ record { number = 0; count = 0 } ⌝ }
+{
+    writer::Written {
+        number: 0,
+        count: 0,
+    }
+}
