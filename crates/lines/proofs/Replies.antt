@@ -1,0 +1,80 @@
+-- The answer to octets that are read: a refusal, or a record whose shortest form always can be written.
+-- Assumes nothing.
+use Prim.Native.Nat.{ℕ, _+_, _≤_, _<_}
+use mathlib.Core.Path.{_≡_, refl, sym, ap, _∙_, subst}
+use mathlib.Core.List.{List, [], _∷_, _++_}
+use mathlib.Core.Bool.{Bool, true, false, _&&_}
+use mathlib.Core.Logic.{_⊎_, inl, inr}
+use native.Mathlib.Omega.{arith}
+use lib.ListN.{length, take, drop, length-append}
+use lib.Seq.{take-append-seam}
+use lib.Dec.{leb, eqb}
+use borrow.Author.Tests.{le-leb, ne-eqb}
+use Rattle.coding.specs.Reader.{if_then_else}
+use Rattle.coding.specs.Codec.{Run}
+use Rattle.coding.proofs.Laws.{Octets}
+use Rattle.types.specs.declared.Record.{Record}
+use Rattle.types.specs.declared.Answer.{Answer}
+use Rattle.types.specs.Frames.{component, readOf, accepted}
+use Rattle.types.proofs.Theorems.{answers, read-fits}
+use Rattle.writer.specs.declared.Written.{Written}
+use Rattle.writer.specs.Outcome.{writeOf, leftOf, done}
+use Rattle.lines.specs.Text.{hexText, refusedText}
+use Rattle.lines.specs.Lines.{replyTo}
+
+module _ (s : List ℕ) (a : Answer) (e : a ≡ readOf s) where
+  -- a refusal's number has one digit
+  pub number-below : a .number < 10
+  number-below =
+      elim (answers s) [
+        | inl x ↦ let f : a .number ≡ 0 = ap (λ (z : Answer). z .number) (e ∙ x .1) in omega arith
+        | inr x ↦ let f : a .number ≡ x .0 = ap (λ (z : Answer). z .number) (e ∙ x .3) in omega (arith, x .2)
+      ]
+
+  pub reply-refused : (a .number ≡ 0 → ⊥) → refusedText (a .number) ≡ replyTo s
+  unfolding replyTo
+  reply-refused h = rw (← e) (rw (ne-eqb (a .number) 0 h))
+
+  pub reply-accepted : a .number ≡ 0 → hexText (component .write (a .value)) ≡ replyTo s
+  unfolding replyTo
+  reply-accepted h = rw (← e) (rw h)
+
+  -- the record that was read is the answer's
+  read-value : a .number ≡ 0 → readOf s ≡ accepted (a .value)
+  read-value h = sym e ∙ ap (λ (n : ℕ). record { number = n; value = a .value }) h
+
+  -- and the writer never refuses it
+  module _ (o : Octets s) (h : a .number ≡ 0) (w : Written) (p q : List ℕ) (k : 254 ≤ length p)
+      (f : w ≡ writeOf (a .value) (length p)) (g : q ≡ leftOf (a .value) p) where
+    form-fits : (component .valid (a .value) ≡ true) × (length (component .write (a .value)) ≤ 254)
+    form-fits = let r = read-fits s (a .value) o (read-value h) in (r .0, omega (arith, r .1, r .2))
+
+    form-written : w ≡ done (length (component .write (a .value)))
+    unfolding writeOf
+    form-written =
+        let l : length (component .write (a .value)) ≤ length p = omega (arith, form-fits .1) in
+        f ∙ rw (form-fits .0, le-leb _ 254 (form-fits .1), le-leb _ (length p) l)
+
+    form-left : q ≡ component .write (a .value) ++ drop (length (component .write (a .value))) p
+    unfolding leftOf
+    form-left =
+        let l : length (component .write (a .value)) ≤ length p = omega (arith, form-fits .1) in
+        g ∙ rw (form-fits .0, le-leb _ 254 (form-fits .1), le-leb _ (length p) l)
+
+    pub form-number : w .number ≡ 0
+    form-number = ap (λ (z : Written). z .number) form-written
+
+    form-count : w .count ≡ length (component .write (a .value))
+    form-count = ap (λ (z : Written). z .count) form-written
+
+    pub form-room : (w .count ≤ length q) × (w .count ≤ 254)
+    form-room =
+        let x = component .write (a .value) in
+        let l : length q ≡ length x + length (drop (length x) p) = ap length form-left ∙ length-append x (drop (length x) p) in
+        (omega (arith, form-count), omega (arith, form-count, form-fits .1))
+
+    pub form-text : hexText (take (w .count) q) ≡ replyTo s
+    form-text =
+        let x = component .write (a .value) in
+        let l : take (w .count) q ≡ x = rw (form-count, form-left) (take-append-seam x (drop (length x) p)) in
+        ap hexText l ∙ reply-accepted h

@@ -1,0 +1,255 @@
+-- The machine's steps: digits, whole octets, and characters heard one after the other.
+-- Assumes nothing.
+use Prim.Native.Nat.{ℕ, suc, _+_, _-_, _*_, _≤_, _<_}
+use mathlib.Core.Path.{_≡_, refl, sym, ap, _∙_, subst}
+use mathlib.Core.List.{List, [], _∷_, _++_}
+use mathlib.Core.Bool.{Bool, true, false, _&&_}
+use native.Mathlib.Omega.{arith}
+use native.Mathlib.Nat.{sub-zero}
+use lib.ListN.{length, getD, set}
+use lib.Seq.{take-all}
+use lib.Dec.{leb, ltb, eqb}
+use borrow.Author.Tests.{le-leb, lt-leb, lt-ltb, le-ltb, ne-eqb, eq-eqb, eqb-true}
+use Rattle.coding.specs.Reader.{if_then_else, part}
+use Rattle.coding.proofs.Parts.{part-none, part-cons, part-more, part-split}
+use Rattle.lines.specs.declared.input.Line.{Line}
+use Rattle.lines.specs.declared.input.Went.{Went}
+use Rattle.lines.specs.Lines.{digitOf}
+use Rattle.lines.specs.Machine.{State, state, madeLine, newLine, badLine, stepLine, stepOctets, octetOf, spacedLine, answerText, turn, turns, Heard}
+
+-- ---- a digit's value, by the ranges of characters
+
+pub digit-below : (c : ℕ) → c < 48 → digitOf c ≡ 16
+unfolding digitOf
+digit-below c h =
+    let h₁ : c < 65 = omega arith in
+    let h₂ : c < 97 = omega arith in
+    simp (lt-leb 48 c h, lt-leb 65 c h₁, lt-leb 97 c h₂)
+
+pub digit-number : (c : ℕ) → 48 ≤ c → c ≤ 57 → digitOf c ≡ c - 48
+unfolding digitOf
+digit-number c h k = simp (le-leb 48 c h, le-leb c 57 k)
+
+pub digit-between : (c : ℕ) → 57 < c → c < 65 → digitOf c ≡ 16
+unfolding digitOf
+digit-between c h k =
+    let h₁ : 48 ≤ c = omega arith in
+    let h₂ : c < 97 = omega arith in
+    simp (le-leb 48 c h₁, lt-leb c 57 h, lt-leb 65 c k, lt-leb 97 c h₂)
+
+pub digit-capital : (c : ℕ) → 65 ≤ c → c ≤ 70 → digitOf c ≡ c - 55
+unfolding digitOf
+digit-capital c h k =
+    let h₁ : 48 ≤ c = omega arith in
+    let h₂ : 57 < c = omega arith in
+    simp (le-leb 48 c h₁, lt-leb c 57 h₂, le-leb 65 c h, le-leb c 70 k)
+
+pub digit-above : (c : ℕ) → 70 < c → c < 97 → digitOf c ≡ 16
+unfolding digitOf
+digit-above c h k =
+    let h₁ : 48 ≤ c = omega arith in
+    let h₂ : 57 < c = omega arith in
+    let h₃ : 65 ≤ c = omega arith in
+    simp (le-leb 48 c h₁, lt-leb c 57 h₂, le-leb 65 c h₃, lt-leb c 70 h, lt-leb 97 c k)
+
+pub digit-small : (c : ℕ) → 97 ≤ c → c ≤ 102 → digitOf c ≡ c - 87
+unfolding digitOf
+digit-small c h k =
+    let h₁ : 48 ≤ c = omega arith in
+    let h₂ : 57 < c = omega arith in
+    let h₃ : 65 ≤ c = omega arith in
+    let h₄ : 70 < c = omega arith in
+    simp (le-leb 48 c h₁, lt-leb c 57 h₂, le-leb 65 c h₃, lt-leb c 70 h₄, le-leb 97 c h, le-leb c 102 k)
+
+pub digit-last : (c : ℕ) → 102 < c → digitOf c ≡ 16
+unfolding digitOf
+digit-last c h =
+    let h₁ : 48 ≤ c = omega arith in
+    let h₂ : 57 < c = omega arith in
+    let h₃ : 65 ≤ c = omega arith in
+    let h₄ : 70 < c = omega arith in
+    let h₅ : 97 ≤ c = omega arith in
+    simp (le-leb 48 c h₁, lt-leb c 57 h₂, le-leb 65 c h₃, lt-leb c 70 h₄, le-leb 97 c h₅, lt-leb c 102 h)
+
+-- a digit ends no line
+pub digit-open : (c : ℕ) → digitOf c < 16 → c ≡ 10 → ⊥
+unfolding digitOf
+digit-open c h e =
+    let k : digitOf c ≡ 16 = ap digitOf e in
+    omega arith
+
+-- ---- one step
+
+pub turn-open : (l : Line) (o t : List ℕ) (c : ℕ) → (c ≡ 10 → ⊥) → turn (state l o t) c ≡ state (stepLine l c) (stepOctets l c o) t
+unfolding turn
+turn-open l o t c h = rw (ne-eqb c 10 h)
+
+-- by what the line awaits, and what comes
+pub step-none : (l : Line) (c : ℕ) → (l .phase ≡ 4 → ⊥) → (l .phase ≡ 3 → ⊥) → 16 ≤ digitOf c → stepLine l c ≡ badLine
+unfolding stepLine
+step-none l c p q d = simp (ne-eqb (l .phase) 4 p, ne-eqb (l .phase) 3 q, le-leb 16 (digitOf c) d)
+
+pub held-none : (l : Line) (c : ℕ) (o : List ℕ) → 16 ≤ digitOf c → stepOctets l c o ≡ o
+unfolding stepOctets
+held-none l c o d = rw (le-leb 16 (digitOf c) d) (go (eqb (l .phase) 2))
+  where
+    go : (b : Bool) → if_then_else b o o ≡ o
+    go true = refl
+    go false = refl
+
+pub step-first : (l : Line) (c : ℕ) → (l .phase ≡ 4 → ⊥) → (l .phase ≡ 3 → ⊥) → (l .phase ≡ 2 → ⊥) → digitOf c < 16
+    → stepLine l c ≡ madeLine (l .count) 2 (digitOf c)
+unfolding stepLine
+step-first l c p q r d = simp (ne-eqb (l .phase) 4 p, ne-eqb (l .phase) 3 q, ne-eqb (l .phase) 2 r, lt-leb 16 (digitOf c) d)
+
+pub held-other : (l : Line) (c : ℕ) (o : List ℕ) → (l .phase ≡ 2 → ⊥) → stepOctets l c o ≡ o
+unfolding stepOctets
+held-other l c o r = simp (ne-eqb (l .phase) 2 r)
+
+pub step-second : (l : Line) (c : ℕ) → l .phase ≡ 2 → l .count < 254 → digitOf c < 16 → stepLine l c ≡ madeLine (l .count + 1) 3 0
+unfolding stepLine
+step-second l c p n d = rw p (simp (lt-leb 16 (digitOf c) d, lt-ltb (l .count) 254 n))
+
+pub held-second : (l : Line) (c : ℕ) (o : List ℕ) → l .phase ≡ 2 → l .count < 254 → digitOf c < 16
+    → stepOctets l c o ≡ set o (l .count) (octetOf (l .high) (digitOf c))
+unfolding stepOctets
+held-second l c o p n d = rw p (simp (lt-leb 16 (digitOf c) d, lt-ltb (l .count) 254 n))
+
+pub step-full : (l : Line) (c : ℕ) → l .phase ≡ 2 → 254 ≤ l .count → digitOf c < 16 → stepLine l c ≡ madeLine 255 3 0
+unfolding stepLine
+step-full l c p n d = rw p (simp (lt-leb 16 (digitOf c) d, le-ltb (l .count) 254 n))
+
+pub held-full : (l : Line) (c : ℕ) (o : List ℕ) → l .phase ≡ 2 → 254 ≤ l .count → stepOctets l c o ≡ o
+unfolding stepOctets
+held-full l c o p n = rw (p, le-ltb (l .count) 254 n) (go (leb 16 (digitOf c)))
+  where
+    go : (b : Bool) → if_then_else b o o ≡ o
+    go true = refl
+    go false = refl
+
+pub step-space : (l : Line) (c : ℕ) → l .phase ≡ 3 → c ≡ 32 → stepLine l c ≡ madeLine (l .count) 1 0
+unfolding stepLine
+step-space l c p e = rw (p, e)
+
+pub step-gap : (l : Line) (c : ℕ) → l .phase ≡ 3 → (c ≡ 32 → ⊥) → stepLine l c ≡ badLine
+unfolding stepLine
+step-gap l c p e = rw (p, ne-eqb c 32 e)
+
+pub step-bad : (l : Line) (c : ℕ) → l .phase ≡ 4 → stepLine l c ≡ l
+unfolding stepLine
+step-bad l c p = rw (eq-eqb (l .phase) 4 p)
+
+-- two digits
+turns-octet : (l : Line) (o t : List ℕ) (a b : ℕ) → l .phase ≤ 1 → l .count < 254 → digitOf a < 16 → digitOf b < 16
+    → turn (turn (state l o t) a) b ≡ state (madeLine (l .count + 1) 3 0) (set o (l .count) (octetOf (digitOf a) (digitOf b))) t
+turns-octet l o t a b h k d e =
+    let m = madeLine (l .count) 2 (digitOf a) in
+    let p : l .phase ≡ 4 → ⊥ = λ x. omega arith in
+    let q : l .phase ≡ 3 → ⊥ = λ x. omega arith in
+    let r : l .phase ≡ 2 → ⊥ = λ x. omega arith in
+    let first : turn (state l o t) a ≡ state m o t =
+    turn-open l o t a (digit-open a d) ∙ rw (step-first l a p q r d, held-other l a o r) in
+    ap (λ x. turn x b) first ∙ turn-open m o t b (digit-open b e) ∙ rw (step-second m b refl k e, held-second m b o refl k e)
+
+-- ---- characters one after the other
+
+pub turns-append : (s r : List ℕ) (q : State) → turns q (s ++ r) ≡ turns (turns q s) r
+unfolding turns
+turns-append [] r q = refl
+turns-append (c ∷ s) r q = turns-append s r (turn q c)
+
+-- one more
+pub turns-more : (s : List ℕ) (i k : ℕ) (q : State) {p : State} → i ≤ k → k < length s → turns q (part s i k) ≡ p → turns q (part s i (k + 1)) ≡ turn p (getD s k 0)
+unfolding turns
+turns-more s i k q {p} h l e =
+    ap (turns q) (part-more s i k h l) ∙ turns-append (part s i k) (getD s k 0 ∷ []) q ∙ ap (λ r. turn r (getD s k 0)) e
+
+-- a part after another
+pub turns-both : (s : List ℕ) (i k j : ℕ) (q : State) {p r : State} → i ≤ k → k ≤ j → turns q (part s i k) ≡ p → turns p (part s k j) ≡ r → turns q (part s i j) ≡ r
+turns-both s i k j q {p} {r} h l e f =
+    ap (turns q) (part-split s i k j h l) ∙ turns-append (part s i k) (part s k j) q ∙ ap (λ x. turns x (part s k j)) e ∙ f
+
+-- none
+pub turns-none : (s : List ℕ) (i : ℕ) (q : State) → turns q (part s i i) ≡ q
+unfolding turns
+turns-none s i q = let h : i ≤ i = omega arith in ap (turns q) (part-none s i i h)
+
+-- all of them
+pub turns-all : (s : List ℕ) (at : ℕ) (q : State) {p : State} → length s ≤ at → turns q (part s 0 at) ≡ p → turns q s ≡ p
+unfolding part
+turns-all s at q h e = ap (turns q) (sym (rw sub-zero (take-all at s h))) ∙ e
+
+-- characters heard after those of a line that was left open
+pub heard-on : (s : List ℕ) (from : ℕ) (l : Line) (o : List ℕ) (w : Went) (p : List ℕ) → Heard s from l o w p → w .ended ≡ false
+    → (at : ℕ) (m : Line) (q : List ℕ) → w .at ≤ at → ((t : List ℕ) → turns (state (w .line) p t) (part s (w .at) at) ≡ state m q t)
+    → (t : List ℕ) → turns (state l o t) (part s from at) ≡ state m q t
+heard-on s from l o w p h e at m q i f t =
+    turns-both s from (w .at) at (state l o t) (h .onward) i (h .heard t ∙ rw e) (f t)
+
+-- three
+turns-three : (s : List ℕ) (at : ℕ) (q : State) → at + 3 ≤ length s → turns q (part s at (at + 3)) ≡ turn (turn (turn q (getD s at 0)) (getD s (at + 1) 0)) (getD s (at + 2) 0)
+turns-three s at q h =
+    let h₀ : at ≤ at = omega arith in
+    let h₁ : at ≤ at + 1 = omega arith in
+    let h₂ : at ≤ at + 2 = omega arith in
+    let e₁ : turns q (part s at (at + 1)) ≡ turn q (getD s at 0) = turns-more s at at q h₀ (omega arith) (turns-none s at q) in
+    let e₂ : turns q (part s at (at + 1 + 1)) ≡ turn (turn q (getD s at 0)) (getD s (at + 1) 0) = turns-more s at (at + 1) q h₁ (omega arith) e₁ in
+    let n₂ : at + 1 + 1 ≡ at + 2 = omega arith in
+    let e₃ : turns q (part s at (at + 2 + 1)) ≡ turn (turn (turn q (getD s at 0)) (getD s (at + 1) 0)) (getD s (at + 2) 0) =
+    turns-more s at (at + 2) q h₂ (omega arith) (rw n₂ at e₂) in
+    let n₃ : at + 2 + 1 ≡ at + 3 = omega arith in
+    rw n₃ at e₃
+
+-- ---- whole octets
+
+abbrev pub Taken : List ℕ → ℕ → ℕ → ℕ → Line → List ℕ → List ℕ → Type 0
+Taken s from at k l o p = (t : List ℕ) → turns (state l o t) (part s from at) ≡ state (spacedLine l k) p t
+
+spaced-phase : (l : Line) (k : ℕ) → l .phase ≤ 1 → spacedLine l k .phase ≤ 1
+spaced-phase l k h = go (eqb k 0)
+  where
+    go : (b : Bool) → (if_then_else b l (madeLine (l .count + k) 1 0)) .phase ≤ 1
+    go true = h
+    go false = omega arith
+
+spaced-count : (l : Line) (k : ℕ) → spacedLine l k .count ≡ l .count + k
+spaced-count l k = go (eqb k 0) refl
+  where
+    go : (b : Bool) → eqb k 0 ≡ b → (if_then_else b l (madeLine (l .count + k) 1 0)) .count ≡ l .count + k
+    go true e = let z : k ≡ 0 = eqb-true k 0 e in omega arith
+    go false e = refl
+
+-- nothing is taken yet
+pub taken-none : (s : List ℕ) (from : ℕ) (l : Line) (o : List ℕ) → Taken s from from 0 l o o
+taken-none s from l o t = turns-none s from (state l o t)
+
+module _ (s : List ℕ) (from at k : ℕ) (l : Line) (o p : List ℕ) (h : l .phase ≤ 1) (n : l .count + k < 254) (i : from ≤ at) (j : at + 3 ≤ length s)
+    (a : digitOf (getD s at 0) < 16) (b : digitOf (getD s (at + 1) 0) < 16) (e : Taken s from at k l o p) where
+  -- the two digits at a place, and the character after them
+  taken-octet : (t : List ℕ) → turns (state l o t) (part s from (at + 3))
+      ≡ turn (state (madeLine (l .count + k + 1) 3 0) (set p (l .count + k) (octetOf (digitOf (getD s at 0)) (digitOf (getD s (at + 1) 0)))) t) (getD s (at + 2) 0)
+  taken-octet t =
+      let q = spacedLine l k in
+      let c : q .count ≡ l .count + k = spaced-count l k in
+      let m : at ≤ at + 3 = omega arith in
+      turns-both s from at (at + 3) (state l o t) i m (e t)
+      (turns-three s at (state q p t) j
+      ∙ ap (λ x. turn x (getD s (at + 2) 0))
+      (turns-octet q p t (getD s at 0) (getD s (at + 1) 0) (spaced-phase l k h) (omega arith) a b ∙ rw c))
+
+  -- with a space
+  pub taken-more : getD s (at + 2) 0 ≡ 32
+      → Taken s from (at + 3) (k + 1) l o (set p (l .count + k) (octetOf (digitOf (getD s at 0)) (digitOf (getD s (at + 1) 0))))
+  unfolding turn stepLine stepOctets
+  taken-more c t =
+      let z : k + 1 ≡ 0 → ⊥ = λ f. omega arith in
+      let m : l .count + k + 1 ≡ l .count + (k + 1) = omega arith in
+      taken-octet t ∙ rw (c, m, ne-eqb (k + 1) 0 z)
+
+  -- with the line's end
+  pub taken-last : getD s (at + 2) 0 ≡ 10 → (t : List ℕ)
+      → turns (state l o t) (part s from (at + 3))
+      ≡ state newLine (set p (l .count + k) (octetOf (digitOf (getD s at 0)) (digitOf (getD s (at + 1) 0))))
+      (t ++ answerText (madeLine (l .count + k + 1) 3 0) (set p (l .count + k) (octetOf (digitOf (getD s at 0)) (digitOf (getD s (at + 1) 0)))))
+  unfolding turn
+  taken-last c t = taken-octet t ∙ rw c

@@ -1,0 +1,33 @@
+-- The text of octets, put one after the other, and a text that stands at the start of a buffer.
+-- Assumes nothing.
+use Prim.Native.Nat.{ℕ, _+_, _-_, _/_, _%_, _≤_, _<_}
+use mathlib.Core.Path.{_≡_, refl, sym, ap, _∙_}
+use mathlib.Core.List.{List, [], _∷_, _++_, append-assoc, append-nil}
+use native.Mathlib.Omega.{arith}
+use native.Mathlib.Nat.{sub-zero}
+use lib.ListN.{length, getD, take, drop}
+use Rattle.coding.specs.Reader.{part}
+use Rattle.coding.proofs.Parts.{part-none, part-cons}
+use Rattle.lines.specs.Text.{glyph, hexText, mark}
+
+-- an octet's two digits and what comes after them
+abbrev digits : ℕ → ℕ → List ℕ
+digits x m = glyph (x / 16) ∷ glyph (x % 16) ∷ m ∷ []
+
+module _ (os : List ℕ) (i n : ℕ) (l : n ≤ length os) (pre : List ℕ) (e : pre ++ hexText (part os i n) ≡ hexText (part os 0 n)) where
+  -- an octet that others follow
+  pub hex-more : i + 1 < n → (pre ++ digits (getD os i 0) 32) ++ hexText (part os (i + 1) n) ≡ hexText (part os 0 n)
+  unfolding hexText
+  hex-more h =
+      let p : part os i n ≡ getD os i 0 ∷ part os (i + 1) n = part-cons os i n (omega arith) l in
+      let q : part os (i + 1) n ≡ getD os (i + 1) 0 ∷ part os (i + 1 + 1) n = part-cons os (i + 1) n h l in
+      append-assoc pre (digits (getD os i 0) 32) (hexText (part os (i + 1) n)) ∙ rw q (rw (p, q) at e)
+
+  -- the last one
+  pub hex-last : i + 1 ≡ n → pre ++ digits (getD os i 0) 10 ≡ hexText (take n os)
+  unfolding hexText part
+  hex-last h =
+      let p : part os i n ≡ getD os i 0 ∷ part os (i + 1) n = part-cons os i n (omega arith) l in
+      let q : part os (i + 1) n ≡ [] = part-none os (i + 1) n (omega arith) in
+      let w : part os 0 n ≡ take n os = rw sub-zero in
+      rw (p, q) at e ∙ ap hexText w

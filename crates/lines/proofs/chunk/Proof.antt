@@ -1,0 +1,60 @@
+-- `lines::chunk` meets its contract. The loop's invariant: the characters passed have left what is at hand. The measure is what is left.
+-- Assumes nothing.
+use native.Mathlib.Omega.{arith}
+use borrow.Author.Needs.{needs}
+use Prim.Native.Nat.{ℕ, _≤_, _-_}
+use mathlib.Core.Path.{_≡_, sym, ap, _∙_}
+use mathlib.Core.List.{List, []}
+use mathlib.Core.Bool.{true≢false}
+use lib.ListN.{length}
+use Rattle.coding.specs.Reader.{part}
+use Rattle.lines.specs.Machine.{state, turns}
+use Rattle.lines.proofs.Steps.{turns-none, turns-both, turns-all}
+use Rattle.lines.proofs.chunk.Statement.{statement}
+use Rattle.lines.proofs.chunk.Tie as tie
+
+abbrev Inv-loop : tie.InvT-loop
+Inv-loop s octets₀ out₀ line₀ at₀ octets out line at =
+    (at ≤ length s) × (text : List ℕ) × (turns (state line₀ octets₀ []) (part s 0 at) ≡ state line octets text)
+
+abbrev μ-loop : tie.MeasureT-loop
+μ-loop s octets₀ out₀ line₀ at₀ octets out line at = length s - at
+
+loop-holds : tie.Need-loop-holds Inv-loop μ-loop
+loop-holds c = (omega arith, [], turns-none _ _ _)
+
+run-requires : tie.Need-run-requires Inv-loop μ-loop
+run-requires c κs = search needs
+
+put-requires : tie.Need-put-requires Inv-loop μ-loop
+put-requires c κs = search needs
+
+returns : tie.Need-returns Inv-loop μ-loop
+returns c = λ e. absurd (true≢false (sym e))
+
+loop-less : tie.Need-loop-less Inv-loop μ-loop
+loop-less c = search needs
+
+loop-again : tie.Need-loop-again Inv-loop μ-loop
+loop-again c = (
+  c .before .before .before .before .before .run .ensures .inside,
+  _,
+  turns-both _ _ _ _ _ (omega arith) (omega (arith, c .before .before .before .before .before .run .ensures .onward)) (c .before .before .before .before .before .before .before .before .before .loop .inv .2) (c .before .before .before .before .before .run .ensures .ran _),
+)
+
+returns-2 : tie.Need-returns-2 Inv-loop μ-loop
+returns-2 c = λ e. (_, turns-all _ _ _ (omega arith) (c .before .loop .inv .2))
+
+pub chunk-spec : {M : Type 1} → statement M
+chunk-spec =
+    tie.close
+    (tie.spec
+    Inv-loop
+    μ-loop
+    loop-holds
+    run-requires
+    put-requires
+    returns
+    loop-less
+    loop-again
+    returns-2)

@@ -1,0 +1,154 @@
+// Reads lines of two-digit hex octets parted by single spaces, and prints for each the shortest form of the component that it
+// holds, `refused N`, or `bad line`.
+//
+// Proved: every function is safe and ends. The answers that `run` puts into its buffer are those of the machine of
+// specs/Machine.antt, and that machine's text for an input is `outputOf` it (specs/Lines.antt; proofs/Meaning.antt), however
+// the input comes in parts and however long its lines are.
+// Not proved, since no contract can say what is read or written: that each part of the input is handed on once, that `once`
+// closes a last line, and that the answers go out whole and in order. tests/lines.sh compares that with the second program.
+mod input;
+mod output;
+
+use input::Line;
+use libc::STDIN_FILENO;
+use libc::STDOUT_FILENO;
+ghost use mathlib.Core.Path.{_≡_};
+ghost use mathlib.Core.Bool.{true};
+ghost use Prim.Native.Nat.{_+_, _≤_, _<_};
+ghost use lib.ListN.{length};
+ghost use Rattle.coding.specs.Written.{Wrote};
+ghost use Rattle.lines.specs.Lines.{replyTo};
+ghost use Rattle.lines.specs.Machine.{answerText, Ran, Carried};
+
+// The answer to the octets of a line.
+fn answer_to(octets: &[u8], out: &mut [u8; 65536], from: usize) -> usize
+    requires { ⌜ from ≤ 64774 ⌝ }
+    ensures { λ r. ⌜ Wrote (now (out .entry)) (now (out .exit)) from (replyTo (now (octets .entry))) r ⌝ }
+    ensures { λ r. ⌜ r ≤ from + 762 ⌝ }
+{
+    let a = component::read(octets);
+    let number = a.number;
+    if number != 0 {
+        return output::put_refused(number, out, from);
+    }
+    let value = a.value;
+    let mut form = [0u8; 254];
+    let w = writer::write(value, &mut form);
+    let refusal = w.number;
+    if refusal != 0 {
+        return output::put_refused(refusal, out, from);
+    }
+    let n = w.count as usize;
+    output::put_octets(&form, n, out, from)
+}
+
+// The answer to a line that ends here.
+fn answer(l: Line, octets: &[u8], out: &mut [u8; 65536], from: usize) -> usize
+    requires { ⌜ from ≤ 64774 ⌝ }
+    ensures { λ r. ⌜ Wrote (now (out .entry)) (now (out .exit)) from (answerText l (now (octets .entry))) r ⌝ }
+    ensures { λ r. ⌜ r ≤ from + 762 ⌝ }
+{
+    if !input::is_whole(l) {
+        return output::put_bad(out, from);
+    }
+    let n = l.count;
+    if octets.len() < n {
+        return output::put_refused(3, out, from);
+    }
+    answer_to(&octets[..n], out, from)
+}
+
+struct Done {
+    line: Line,
+    at: usize,
+    used: usize,
+}
+
+// Goes through a text from a place on, and puts the answers to the lines that end in it into out, until the text ends or out
+// may not have the room for one more.
+fn run(s: &[u8], from: usize, l: Line, octets: &mut [u8; 254], out: &mut [u8; 65536]) -> Done
+    requires { ⌜ from < length (now s) ⌝ }
+    ensures { λ r. ⌜ Ran (now (s .entry)) from l (now (octets .entry)) r (now (octets .exit)) (now (out .entry)) (now (out .exit)) ⌝ }
+{
+    let mut at = from;
+    let mut line = l;
+    let mut used = 0;
+    while at < s.len() && used <= 64774 {
+        let w = input::take_line(s, at, line, octets);
+        at = w.at;
+        line = w.line;
+        if w.ended {
+            used = answer(line, octets, out, used);
+            line = input::new_line();
+        }
+    }
+    Done { line, at, used }
+}
+
+fn put(out: &[u8], used: usize) -> bool {
+    if used <= out.len() {
+        return io::write_all(STDOUT_FILENO, &out[..used]);
+    }
+    false
+}
+
+// The line that is not ended, and whether to go on.
+struct Left {
+    line: Line,
+    more: bool,
+}
+
+// Answers the lines that end in a text, and has written all answers when it returns. A write that fails ends the program.
+fn chunk(s: &[u8], l: Line, octets: &mut [u8; 254], out: &mut [u8; 65536]) -> Left
+    ensures { λ r. ⌜ (r .more ≡ true → Carried (now (s .entry)) l (now (octets .entry)) (r .line) (now (octets .exit))) ⌝ }
+{
+    let mut line = l;
+    let mut at = 0;
+    while at < s.len() {
+        let d = run(s, at, line, octets, out);
+        let used = d.used;
+        line = d.line;
+        at = d.at;
+        if !put(out, used) {
+            return Left { line, more: false };
+        }
+    }
+    Left { line, more: true }
+}
+
+// Reads once and answers what came. Where no more comes, a line that nothing ended is answered if it has a character.
+fn once(l: Line, octets: &mut [u8; 254], buf: &mut [u8], out: &mut [u8; 65536]) -> Left {
+    let got = libc::read(STDIN_FILENO, buf);
+    if got <= 0 {
+        if l.phase != 0 {
+            chunk(b"\n", l, octets, out);
+        }
+        return Left {
+            line: l,
+            more: false,
+        };
+    }
+    let n = io::count(got, buf);
+    chunk(&buf[..n], l, octets, out)
+}
+
+// No input takes as many reads as a u64 counts: the counter is there for the proof that the loop ends.
+fn all(octets: &mut [u8; 254], buf: &mut [u8; 65536], out: &mut [u8; 65536]) {
+    let mut line = input::new_line();
+    let mut turns = u64::MAX;
+    while turns > 0 {
+        let left = once(line, octets, buf, out);
+        line = left.line;
+        if !left.more {
+            break;
+        }
+        turns -= 1;
+    }
+}
+
+fn main() {
+    let mut octets = [0u8; 254];
+    let mut buf = io::large_buffer();
+    let mut out = io::large_buffer();
+    all(&mut octets, &mut buf, &mut out);
+}
