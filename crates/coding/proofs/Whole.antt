@@ -66,3 +66,7 @@ module _ {A : Type 0} (f : Run A) (F : RunLaws f) where
   -- no octets that mean the value are fewer than those written
   pub none-shorter : (bs : List ℕ) (x : A) → Octets bs → Encodes f x bs → length (f .write x) ≤ length bs
   none-shorter bs x os m = omega (arith, F .shortest bs 0 (length bs) x os m)
+
+-- a statement that is an equation leaves one outcome: two results that meet it are equal
+pub one-outcome : {A : Type 0} {x y z : A} → x ≡ z → y ≡ z → x ≡ y
+one-outcome p q = p ∙ sym q

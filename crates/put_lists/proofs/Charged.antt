@@ -2,7 +2,6 @@
 -- Assumes nothing.
 use Prim.Native.Nat.{ℕ, _+_, _≤_}
 use mathlib.Core.Path.{_≡_, sym, ap, _∙_}
-use mathlib.Core.List.{List, _++_}
 use mathlib.Core.Bool.{true, _&&_}
 use native.Mathlib.Omega.{arith}
 use lib.ListN.{length, length-append}
@@ -10,21 +9,19 @@ use lib.Dec.{ltb, leb, eqb}
 use borrow.Author.Tests.{eq-eqb, ne-eqb, leb-true}
 use Rattle.coding.specs.Codec.{Run, all, writeAll, some·more}
 use Rattle.coding.specs.Rows.{table}
-use Rattle.coding.specs.Written.{Wrote, lead}
+use Rattle.coding.specs.Written.{lead}
 use Rattle.coding.proofs.Basic.{and-left, and-right}
 use Rattle.coding.proofs.Rows.{table-length}
-use Rattle.coding.proofs.Writing.{wrote-as, wrote-both}
-use Rattle.types.specs.declared.Figure.{Figure}
 use Rattle.types.specs.declared.Entries.{Entries}
 use Rattle.types.specs.declared.Charge.{Charge}
 use Rattle.types.specs.Entries.{noEntries, unit, unitAt, unitRows, unitList}
 use Rattle.types.specs.Rates.{rate, rateAt, rateRows, rateList}
 use Rattle.types.specs.Arguments.{sameEntries, chargeOf}
 use Rattle.put_figures.specs.Fine.{figureFine, unitsFine, ratesFine, entriesFine}
-use Rattle.put_figures.specs.Octets.{framed, ended, written, contents, before, after}
+use Rattle.put_figures.specs.Octets.{written, contents}
 use Rattle.put_figures.proofs.Valid.{charge-fine}
 use Rattle.put_figures.proofs.Forms.{charge-write}
-use Rattle.put_figures.proofs.Frames.{fine-marks, ended-split}
+use Rattle.put_figures.proofs.Frames.{fine-marks}
 use Rattle.put_lists.specs.Octets.{unitsCharge, ratesCharge}
 
 -- ---- the list, by the kind
@@ -100,18 +97,7 @@ module _ (o : ℕ) (g : (30 ≤ o) × (o ≤ 36)) (c : Charge) (v : (chargeOf o)
         ne-eqb (c .figure .kind) 3 (λ z. omega arith),
       )
 
--- ---- as they are put
-
--- the octets that an A1 holds, with what stands before and after them
-pub wrote-held : {a b c d : List ℕ} {x y z r : ℕ} (o : ℕ) (f : Figure) (n : ℕ) (xs : List ℕ) → n ≡ length xs → Wrote a b x (before o f n) y
-    → Wrote b c y xs z → Wrote c d z (after o f) r → Wrote a d x (ended o f (framed o f xs)) r
-wrote-held o f n xs e s t u = wrote-as (sym (ended-split o f xs)) (wrote-both (wrote-as (ap (before o f) e) s) (wrote-both t u))
-
-pub held-length : (o : ℕ) (f : Figure) (n : ℕ) (xs : List ℕ) → n ≡ length xs → length (ended o f (framed o f xs)) ≡ length (before o f n) + n + length (after o f)
-held-length o f n xs e =
-    ap length (ended-split o f xs)
-    ∙ length-append (before o f (length xs)) (xs ++ after o f)
-    ∙ omega (arith, length-append xs (after o f), ap (λ (k : ℕ). length (before o f k)) e)
+-- ---- how many they are
 
 pub rates-length : (e : Entries) (n k : ℕ) → k ≡ length (writeAll (rate .write) (rateList e n)) → length (ratesCharge e n) ≡ length (lead 0x30 k) + k
 rates-length e n k q =

@@ -1,3 +1,3 @@
-pub mod Written
+pub mod Entry
 pub mod Listed
 pub mod Charged

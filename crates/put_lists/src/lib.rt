@@ -5,10 +5,9 @@ use types::Charge;
 use types::Entries;
 use types::Figure;
 use types::Units;
-
 ghost use mathlib.Core.Path.{_≡_};
-ghost use mathlib.Core.Bool.{Bool, true, _&&_};
-ghost use Prim.Native.Nat.{ℕ, _+_, _*_, _≤_, _<_};
+ghost use mathlib.Core.Bool.{true};
+ghost use Prim.Native.Nat.{_+_, _≤_, _<_};
 ghost use lib.ListN.{length};
 ghost use Rattle.coding.specs.Codec.{all, writeAll};
 ghost use Rattle.coding.specs.Written.{Wrote};
@@ -16,12 +15,12 @@ ghost use Rattle.types.specs.Entries.{unit, unitAt, unitList};
 ghost use Rattle.types.specs.Rates.{rate, rateList};
 ghost use Rattle.types.specs.Arguments.{chargeOf};
 ghost use Rattle.put_figures.specs.Fine.{figureFine, unitsFine, ratesFine, entriesFine};
-ghost use Rattle.put_rates.specs.Entry.{laid};
+ghost use Rattle.put_rates.specs.Arrays.{laid};
 ghost use Rattle.put_lists.specs.Octets.{numberOctets, typeOctets, charged, unitsCharge, ratesCharge};
 
 // ---- an entry of units
 
-pub fn unit_of(numbers: &[u32; 32], octets: &[u8; 192], i: usize) -> Units
+fn unit_of(numbers: &[u32; 32], octets: &[u8; 192], i: usize) -> Units
     requires { ⌜ i < 32 ⌝ }
     ensures { λ r. ⌜ r ≡ unitAt (laid (now (numbers .entry)) (now (octets .entry))) i ⌝ }
 {
@@ -32,7 +31,7 @@ pub fn unit_of(numbers: &[u32; 32], octets: &[u8; 192], i: usize) -> Units
     }
 }
 
-pub fn unit_fine(u: Units) -> bool
+fn unit_fine(u: Units) -> bool
     ensures { λ r. ⌜ r ≡ unit .valid u ⌝ }
 {
     if 16 < u.kind {
@@ -68,7 +67,7 @@ fn type_size(u: Units) -> usize
     3
 }
 
-pub fn unit_size(u: Units) -> usize
+fn unit_size(u: Units) -> usize
     requires { ⌜ unit .valid u ≡ true ⌝ }
     ensures { λ r. ⌜ r ≡ length (unit .write u) ⌝ }
     ensures few { λ r. ⌜ r ≤ 11 ⌝ }
@@ -96,7 +95,7 @@ fn put_type(buf: &mut [u8], at: usize, u: Units) -> usize
     coding::put_small(buf, at, 0x02, u.kind)
 }
 
-pub fn put_unit(buf: &mut [u8], at: usize, u: Units) -> usize
+fn put_unit(buf: &mut [u8], at: usize, u: Units) -> usize
     requires { ⌜ unit .valid u ≡ true ⌝ }
     requires { ⌜ at + length (unit .write u) ≤ length (now buf) ⌝ }
     ensures { λ r. ⌜ Wrote (now (buf .entry)) (now (buf .exit)) at (unit .write u) r ⌝ }
@@ -177,6 +176,7 @@ fn put_units(buf: &mut [u8], at: usize, numbers: &[u32; 32], octets: &[u8; 192],
 
 // ---- charges
 
+// Whether a list fits the kind of its charge.
 fn entries_fine(f: Figure, e: Entries) -> bool
     ensures { λ r. ⌜ r ≡ entriesFine (charged f e) ⌝ }
 {

@@ -225,7 +225,7 @@ module _ (r : Rate) where
       ap length (rate-write r (v .least)) ∙ element-length 0x30 w
       ∙ ap₂ (λ (x y : ℕ). length (lead 0x30 x) + y) (rate-contents v k e) (length-append (fullNumber 0x0a (r .item)) (priceOctets r) ∙ ap (λ (x : ℕ). length (fullNumber 0x0a (r .item)) + x) (sym e))
 
--- ---- as they are put
+  -- ---- as they are put
 
   pub wrote-terms : {a b c d : List ℕ} {x y z n : ℕ} → (r .kind ≡ 2 → ⊥) → (r .kind ≡ 3 → ⊥) → Wrote a b x (fullNumber 0x83 (r .detail)) y
       → Wrote b c y ((scaled 0xa4) .write (timeOf r)) z → Wrote c d z (stepOctets r) n → Wrote a d x (termOctets r) n

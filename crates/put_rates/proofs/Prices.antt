@@ -20,10 +20,11 @@ use Rattle.types.specs.declared.Rate.{Rate}
 use Rattle.types.specs.Charges.{flag, noMoney, scaled, money}
 use Rattle.types.specs.Rates.{scaledOr0, moneyOf, timeOf, stepOf, duration, flatRate, volume, coded, plainRate, price, itemised, rate}
 use Rattle.types.specs.Arguments.{sameMoney}
+use Rattle.put_figures.proofs.Tests.{no-money-is}
 use Rattle.put_figures.proofs.Truth.{same-truth, and-assoc, and-true, and-false, kinds}
 use Rattle.put_rates.specs.Prices.{detailFine, unstepped, stepFine, timesFine, amountFine, priceFine}
 
-eqb-self : (n : ℕ) → eqb n n ≡ true
+pub eqb-self : (n : ℕ) → eqb n n ≡ true
 eqb-self n = eqbEqual .self n
 
 list-self : (xs : List ℕ) → sameList eqb xs xs ≡ true
@@ -42,9 +43,6 @@ and-past false false c = refl
 ruleset ands = (and-assoc, and-past, and-comm, and-true, and-false)
 
 -- ---- the orders in which a type's tests are met and those in which they are made
-
-amount-order : (c o m n : Bool) → (c && o) && (m && n) ≡ (c && (m && n)) && o
-amount-order c o m n = simp ands
 
 duration-order : (s y z x v d t : Bool) → (s && ((y && true) && (z && true))) && (v && (d && (t && x))) ≡ d && ((t && ((s && (y && z)) && x)) && v)
 duration-order s y z x v d t = simp ands
@@ -83,8 +81,7 @@ no-amount-is m e =
     let os = m .currency .octets in
     let w : every (λ x. ltb x 1) (take 10 os) ≡ sameList eqb (replicate 10 0) os =
     ap (every (λ x. ltb x 1)) (take-all 10 os (omega (arith, e))) ∙ zero-octets os ∙ ap (λ (k : ℕ). sameList eqb (replicate k 0) os) e in
-    amount-order (eqb 0 (m .currency .count)) (sameList eqb (replicate 10 0) os) (eqb 0 (m .multiplier)) (eqb 0 (m .number))
-    ∙ ap (λ (t : Bool). (eqb 0 (m .currency .count) && (eqb 0 (m .multiplier) && eqb 0 (m .number))) && t) (sym w)
+    no-money-is m ∙ ap (λ (t : Bool). (eqb 0 (m .currency .count) && (eqb 0 (m .multiplier) && eqb 0 (m .number))) && t) (sym w)
 
 -- ---- by the kind
 

@@ -7,19 +7,20 @@ use mathlib.Core.Bool.{Bool, true, false, not, _&&_}
 use native.Mathlib.Omega.{arith}
 use native.Mathlib.Nat.{mul-zero, mul-suc}
 use native.Mathlib.Numerals.{add-one}
-use lib.ListN.{length, getD, set, take, drop, replicate, length-append, length-replicate, take-append-drop, replicate-append-replicate}
-use lib.Seq.{sets, sets-eq, take-add, drop-cons, length-take-le}
+use lib.ListN.{length, getD, take, drop, replicate, length-append, length-drop, take-append-drop}
+use lib.Seq.{take-add, drop-cons, length-take-le, getD-drop}
 use lib.Dec.{ltb, eqb}
 use borrow.Author.Tests.{eq-eqb, le-leb, lt-leb, lt-ltb, not-true, not-false}
 use Rattle.coding.specs.Codec.{Run, all, writeAll, some·more, sameList, pad}
 use Rattle.coding.specs.Written.{Wrote}
 use Rattle.coding.specs.Rows.{rows, table}
 use Rattle.coding.proofs.Basic.{and-left, and-right, and-both, and-no}
-use Rattle.coding.proofs.Writing.{sets-append, wrote-as, wrote-both}
+use Rattle.coding.proofs.Writing.{wrote-as, wrote-both}
 use Rattle.coding.proofs.Rows.{table-length, table-more, rows-append}
 use Rattle.put_figures.proofs.Truth.{and-false}
+use Rattle.put_figures.proofs.Tests.{zeros-more, zeros-whole}
 use Rattle.types.specs.Arguments.{sameEntries}
-use Rattle.put_rates.specs.Entry.{laid, cleared, unusedZero}
+use Rattle.put_rates.specs.Arrays.{laid, zeroPast, unusedZero}
 
 -- ---- a loop that tests the entries: x is entry i, taken out of the arrays
 
@@ -80,32 +81,29 @@ module _ {A : Type 0} (w : A → List ℕ) where
 
 -- ---- arrays
 
--- one more place set to zero
-pub clear-more : (a : List ℕ) (i : ℕ) → set (cleared i a) i 0 ≡ cleared (i + 1) a
-clear-more a i =
-    let e : i ≡ 0 + length (replicate {A = ℕ} i 0) = omega (arith, length-replicate {A = ℕ} i 0) in
-    ap (λ (k : ℕ). set (cleared i a) k 0) e ∙ sym (sets-append (replicate i 0) (0 ∷ []) a 0) ∙ ap (sets a 0) (replicate-append-replicate i 1 0)
-
-cleared-is : (a : List ℕ) (m : ℕ) → m ≤ length a → cleared m a ≡ replicate m 0 ++ drop m a
-cleared-is a m h =
-    let l = length-replicate {A = ℕ} m 0 in
-    let e : 0 + length (replicate {A = ℕ} m 0) ≡ m = omega (arith, l) in
-    sets-eq (replicate m 0) a 0 (omega (arith, l)) ∙ ap (λ (k : ℕ). replicate m 0 ++ drop k a) e
-
 same-append : (xs ys zs : List ℕ) → sameList eqb (xs ++ ys) (xs ++ zs) ≡ sameList eqb ys zs
 same-append [] ys zs = refl
 same-append (x ∷ xs) ys zs = rw (eq-eqb x x refl) (same-append xs ys zs)
 
--- an array holds the first entries' octets and then zeros, or is zero once those are set to zero: the same test
-clear-same : (n m : ℕ) (a : List ℕ) → length a ≡ n → m ≤ n → sameList eqb (pad n 0 (take m a)) a ≡ sameList eqb (replicate n 0) (cleared m a)
+-- an array whose first m places are as they are and whose others are zero
+past-same : (n m : ℕ) (a : List ℕ) → length a ≡ n → m ≤ n → sameList eqb (pad n 0 (take m a)) a ≡ zeroPast m a
 unfolding pad
-clear-same n m a e h =
-    let l : n - length (take m a) ≡ n - m = ap (λ (k : ℕ). n - k) (length-take-le m a (omega arith)) in
-    let s : m + (n - m) ≡ n = omega arith in
+past-same n m a e h =
+    let l : n - length (take m a) ≡ length a - m = omega (arith, e, length-take-le m a (omega arith)) in
     ap₂ (λ (k : ℕ) (t : List ℕ). sameList eqb (take m a ++ replicate k 0) t) l (sym (take-append-drop m a))
-    ∙ same-append (take m a) (replicate (n - m) 0) (drop m a)
-    ∙ sym (same-append (replicate m 0) (replicate (n - m) 0) (drop m a))
-    ∙ ap₂ (λ (x y : List ℕ). sameList eqb x y) (replicate-append-replicate m (n - m) 0 ∙ ap (λ (k : ℕ). replicate k 0) s) (sym (cleared-is a m (omega arith)))
+    ∙ same-append (take m a) (replicate (length a - m) 0) (drop m a)
+
+-- a loop that tests whether all is zero past the first m places: j of those are tested
+abbrev pub ZeroTo : ℕ → List ℕ → ℕ → Bool → Type 0
+ZeroTo m a j b = b ≡ sameList eqb (replicate j 0) (take j (drop m a))
+
+module _ (m n : ℕ) (a : List ℕ) (e : length a ≡ n) where
+  pub zero-more : (j : ℕ) (b r : Bool) → j < n - m → ZeroTo m a j b → r ≡ b && eqb 0 (getD a (m + j) 0) → ZeroTo m a (j + 1) r
+  zero-more j b r h z q =
+      zeros-more (drop m a) j b r (omega (arith, e, length-drop m a)) z (q ∙ ap (λ (x : ℕ). b && eqb 0 x) (sym (getD-drop m a j 0)))
+
+  pub zero-done : (j : ℕ) (b : Bool) → j ≡ n - m → ZeroTo m a j b → b ≡ zeroPast m a
+  zero-done j b h z = zeros-whole (drop m a) j (length a - m) b (omega (arith, e)) (length-drop m a) z
 
 -- k places of an array from a place on
 unfoldable pub picks : ℕ → ℕ → List ℕ → List ℕ
@@ -130,8 +128,8 @@ module _ {A : Type 0} (row : A → List ℕ) (k : ℕ) (a : List ℕ) (g : ℕ �
       ∙ ap (λ (m : ℕ). take m a) (sym (mul-suc k c))
 
   pub rows-same : (n c m : ℕ) → length a ≡ n → k * c ≡ m → m ≤ n → ((i : ℕ) → i < c → row (g i) ≡ take k (drop (k * i) a))
-      → sameList eqb (pad n 0 (rows row (table c g))) a ≡ sameList eqb (replicate n 0) (cleared m a)
-  rows-same n c m e f h r = ap (λ (xs : List ℕ). sameList eqb (pad n 0 xs) a) (rows-taken c r ∙ ap (λ (j : ℕ). take j a) f) ∙ clear-same n m a e h
+      → sameList eqb (pad n 0 (rows row (table c g))) a ≡ zeroPast m a
+  rows-same n c m e f h r = ap (λ (xs : List ℕ). sameList eqb (pad n 0 xs) a) (rows-taken c r ∙ ap (λ (j : ℕ). take j a) f) ∙ past-same n m a e h
 
 -- ---- a list in the two arrays: an entry's numbers stand in rows of k, its octets in rows of j
 

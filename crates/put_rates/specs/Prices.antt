@@ -1,7 +1,7 @@
 -- What a rate's fields may be, and its octets, by its kind: 1 duration, 2 flat, 3 volume, 4 a code, 5 free, 6 unknown.
 use Prim.Native.Nat.{ℕ, _+_}
-use mathlib.Core.Bool.{Bool, true, false, _&&_}
-use mathlib.Core.List.{List, [], _∷_, _++_}
+use mathlib.Core.Bool.{Bool, _&&_}
+use mathlib.Core.List.{List, [], _++_}
 use lib.Dec.{leb, eqb}
 use Rattle.coding.specs.Reader.{if_then_else}
 use Rattle.coding.specs.Codec.{maybe}

@@ -3,57 +3,76 @@ use types::Currency;
 use types::Money;
 use types::Rate;
 use types::Scaled;
-
 ghost use mathlib.Core.Path.{_≡_};
-ghost use mathlib.Core.Bool.{Bool, true, _&&_};
-ghost use Prim.Native.Nat.{ℕ, _+_, _*_, _≤_, _<_};
+ghost use mathlib.Core.Bool.{true, _&&_};
+ghost use Prim.Native.Nat.{_+_, _≤_, _<_};
 ghost use lib.ListN.{length, getD, take, drop};
+ghost use lib.Dec.{eqb};
 ghost use Rattle.coding.specs.Codec.{all, writeAll};
 ghost use Rattle.coding.specs.Written.{Wrote};
 ghost use Rattle.types.specs.Charges.{noMoney};
-ghost use Rattle.types.specs.Rates.{moneyOf, timeOf, rate, rateAt, rateList};
+ghost use Rattle.types.specs.Rates.{moneyOf, rate, rateAt, rateList};
 ghost use Rattle.types.specs.Arguments.{sameMoney};
 ghost use Rattle.put_figures.specs.Fine.{ratesFine};
-ghost use Rattle.put_rates.specs.Entry.{laid, cleared, unusedZero};
+ghost use Rattle.put_rates.specs.Arrays.{laid, zeroPast, unusedZero};
 ghost use Rattle.put_rates.specs.Prices.{detailFine, unstepped, stepFine, timesFine, amountFine, stepOctets, termOctets, pricedOctets, priceOctets};
 
 // ---- what is not used is zero
 
-fn clear_numbers(numbers: &mut [u32; 32], n: usize)
-    requires { ⌜ n ≤ 32 ⌝ }
-    ensures { λ _. ⌜ now (numbers .exit) ≡ cleared n (now (numbers .entry)) ⌝ }
+// A test goes on over another number. No loop over these has a way out but its end: several numbers are then tested at a time.
+fn still(clear: bool, x: u32) -> bool
+    ensures { λ r. ⌜ r ≡ clear && eqb 0 x ⌝ }
 {
-    let mut i = 0;
-    while i < n {
-        numbers[i] = 0;
-        i += 1;
+    if x != 0 {
+        return false;
     }
+    clear
 }
 
-fn clear_octets(octets: &mut [u8; 192], n: usize)
-    requires { ⌜ n ≤ 192 ⌝ }
-    ensures { λ _. ⌜ now (octets .exit) ≡ cleared n (now (octets .entry)) ⌝ }
+fn wide32(x: u8) -> u32
+    ensures { λ r. ⌜ r ≡ x ⌝ }
 {
-    let mut i = 0;
-    while i < n {
-        octets[i] = 0;
-        i += 1;
-    }
+    x as u32
 }
 
-// Whether all is zero past the first n numbers and m octets. What is used is set to zero in copies: whole arrays are then tested, many places at a time.
+// Whether all numbers past the first n are zero.
+fn numbers_zero(numbers: &[u32; 32], n: usize) -> bool
+    requires { ⌜ (n ≤ 32) × (length (now numbers) ≡ 32) ⌝ }
+    ensures { λ r. ⌜ r ≡ zeroPast n (now (numbers .entry)) ⌝ }
+{
+    let mut clear = true;
+    let mut j = 0;
+    while j < 32 - n {
+        clear = still(clear, numbers[n + j]);
+        j += 1;
+    }
+    clear
+}
+
+// Whether all octets past the first n are zero.
+fn octets_zero(octets: &[u8; 192], n: usize) -> bool
+    requires { ⌜ (n ≤ 192) × (length (now octets) ≡ 192) ⌝ }
+    ensures { λ r. ⌜ r ≡ zeroPast n (now (octets .entry)) ⌝ }
+{
+    let mut clear = true;
+    let mut j = 0;
+    while j < 192 - n {
+        clear = still(clear, wide32(octets[n + j]));
+        j += 1;
+    }
+    clear
+}
+
+// Whether all is zero past the first n numbers and m octets.
 pub fn unused_zero(numbers: &[u32; 32], octets: &[u8; 192], n: usize, m: usize) -> bool
     requires { ⌜ (n ≤ 32) × (m ≤ 192) ⌝ }
+    requires { ⌜ (length (now numbers) ≡ 32) × (length (now octets) ≡ 192) ⌝ }
     ensures { λ r. ⌜ r ≡ unusedZero (now (numbers .entry)) (now (octets .entry)) n m ⌝ }
 {
-    let mut a = *numbers;
-    let mut b = *octets;
-    clear_numbers(&mut a, n);
-    clear_octets(&mut b, m);
-    put_figures::no_entries(types::Entries {
-        numbers: a,
-        octets: b,
-    })
+    if !numbers_zero(numbers, n) {
+        return false;
+    }
+    octets_zero(octets, m)
 }
 
 // ---- a rate taken out of the arrays
@@ -76,7 +95,7 @@ fn currency_of(octets: &[u8; 192], row: usize) -> Currency
     }
 }
 
-pub fn rate_of(numbers: &[u32; 32], octets: &[u8; 192], i: usize) -> Rate
+fn rate_of(numbers: &[u32; 32], octets: &[u8; 192], i: usize) -> Rate
     requires { ⌜ (i < 10) × (length (now octets) ≡ 192) ⌝ }
     ensures { λ r. ⌜ r ≡ rateAt (laid (now (numbers .entry)) (now (octets .entry))) i ⌝ }
 {
@@ -210,7 +229,7 @@ fn amount_fine(r: Rate) -> bool
     no_amount(r)
 }
 
-pub fn rate_fine(r: Rate) -> bool
+fn rate_fine(r: Rate) -> bool
     ensures { λ b. ⌜ b ≡ rate .valid r ⌝ }
 {
     if 4 < r.item {
@@ -284,7 +303,7 @@ fn price_size(r: Rate) -> usize
     2
 }
 
-pub fn rate_size(r: Rate) -> usize
+fn rate_size(r: Rate) -> usize
     requires { ⌜ rate .valid r ≡ true ⌝ }
     ensures { λ n. ⌜ n ≡ length (rate .write r) ⌝ }
     ensures few { λ n. ⌜ n ≤ 55 ⌝ }
@@ -352,7 +371,7 @@ fn put_price(buf: &mut [u8], at: usize, r: Rate) -> usize
     coding::put_null(buf, at, 0x85)
 }
 
-pub fn put_rate(buf: &mut [u8], at: usize, r: Rate) -> usize
+fn put_rate(buf: &mut [u8], at: usize, r: Rate) -> usize
     requires { ⌜ (rate .valid r ≡ true) × (at + length (rate .write r) ≤ length (now buf)) ⌝ }
     ensures { λ n. ⌜ Wrote (now (buf .entry)) (now (buf .exit)) at (rate .write r) n ⌝ }
 {
@@ -414,7 +433,13 @@ pub fn rates_size(numbers: &[u32; 32], octets: &[u8; 192], n: usize) -> usize
     size
 }
 
-pub fn put_rates(buf: &mut [u8], at: usize, numbers: &[u32; 32], octets: &[u8; 192], n: usize) -> usize
+pub fn put_rates(
+    buf: &mut [u8],
+    at: usize,
+    numbers: &[u32; 32],
+    octets: &[u8; 192],
+    n: usize,
+) -> usize
     requires { ⌜ (n ≤ 10) × (length (now octets) ≡ 192) ⌝ }
     requires { ⌜ all (rate .valid) (rateList (laid (now numbers) (now octets)) n) ≡ true ⌝ }
     requires { ⌜ at + length (writeAll (rate .write) (rateList (laid (now numbers) (now octets)) n)) ≤ length (now buf) ⌝ }

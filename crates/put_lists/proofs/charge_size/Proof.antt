@@ -25,7 +25,7 @@ returns c =
     let n = c .before .units-octets in
     let r = c .priced-size in (
       r .ensures .0 (writeAll (unit .write) (unitList (x .entries) (x .figure .count))) (sym (n .ensures .0))
-      ∙ ap length (sym (units-octets (s .args .operation) (s .pre .0) x (s .pre .1) (omega arith))),
+          ∙ ap length (sym (units-octets (s .args .operation) (s .pre .0) x (s .pre .1) (omega arith))),
       omega (arith, r .ensures .1, n .ensures .1),
     )
 
@@ -42,7 +42,7 @@ returns-2 c =
     let n = c .before .rates-octets in
     let r = c .sized in (
       r .ensures .0 0x30 ∙ sym (rates-length (x .entries) (x .figure .count) (n .result) (n .ensures .0))
-      ∙ ap length (sym (rates-octets (s .args .operation) (s .pre .0) x (s .pre .1) (omega arith))),
+          ∙ ap length (sym (rates-octets (s .args .operation) (s .pre .0) x (s .pre .1) (omega arith))),
       omega (arith, r .ensures .1, n .ensures .1),
     )
 

@@ -3,7 +3,7 @@
 use native.Mathlib.Omega.{arith}
 use borrow.Author.Needs.{needs}
 use Rattle.coding.proofs.Writing.{width-range}
-use Rattle.put_lists.proofs.Written.{known-size, unknown-size}
+use Rattle.put_lists.proofs.Entry.{known-size, unknown-size}
 use Rattle.put_lists.proofs.number_size.Statement.{statement}
 use Rattle.put_lists.proofs.number_size.Tie as tie
 

@@ -54,9 +54,13 @@ put-figure-requires c κs =
     let k3 = c .before .before .before .if1 .left in
     let k4 = c .before .if2 .left in (
       s .pre .0,
-      ((k3, k4),
-      (ap ((chargeOf o) .valid) (unlisted-plain o (s .pre .0 .0) (s .pre .0 .1) x k3 k4 v) ∙ v,
-      omega (arith, s .pre .1 .1, ap length (unlisted-write o (s .pre .0 .0) (s .pre .0 .1) x k3 k4 v)))),
+      (
+        (k3, k4),
+        (
+          ap ((chargeOf o) .valid) (unlisted-plain o (s .pre .0 .0) (s .pre .0 .1) x k3 k4 v) ∙ v,
+          omega (arith, s .pre .1 .1, ap length (unlisted-write o (s .pre .0 .0) (s .pre .0 .1) x k3 k4 v)),
+        ),
+      ),
     )
 
 same-length-3 : tie.Need-same-length-3

@@ -5,7 +5,7 @@ use native.Mathlib.Omega.{arith}
 use lib.ListN.{length}
 use borrow.Author.Needs.{needs}
 use Rattle.coding.proofs.Writing.{wrote-as}
-use Rattle.put_lists.proofs.Written.{number-known, number-unknown}
+use Rattle.put_lists.proofs.Entry.{number-known, number-unknown}
 use Rattle.put_lists.proofs.put_number.Statement.{statement}
 use Rattle.put_lists.proofs.put_number.Tie as tie
 

@@ -5,7 +5,7 @@ use native.Mathlib.Omega.{arith}
 use lib.ListN.{length}
 use borrow.Author.Needs.{needs}
 use Rattle.coding.proofs.Writing.{wrote-as, wrote-next, wrote-none}
-use Rattle.put_lists.proofs.Written.{type-none, type-given}
+use Rattle.put_lists.proofs.Entry.{type-none, type-given}
 use Rattle.put_lists.proofs.put_type.Statement.{statement}
 use Rattle.put_lists.proofs.put_type.Tie as tie
 

@@ -3,7 +3,7 @@
 use Prim.Native.Nat.{_+_}
 use native.Mathlib.Omega.{arith}
 use borrow.Author.Needs.{needs}
-use Rattle.put_lists.proofs.Written.{unit-type, unit-room, wrote-unit}
+use Rattle.put_lists.proofs.Entry.{unit-type, unit-room, wrote-unit}
 use Rattle.put_lists.proofs.put_unit.Statement.{statement}
 use Rattle.put_lists.proofs.put_unit.Tie as tie
 

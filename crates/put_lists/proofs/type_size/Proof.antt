@@ -3,7 +3,7 @@
 use mathlib.Core.Path.{ap}
 use native.Mathlib.Omega.{arith}
 use lib.ListN.{length}
-use Rattle.put_lists.proofs.Written.{type-none, type-size}
+use Rattle.put_lists.proofs.Entry.{type-none, type-size}
 use Rattle.put_lists.proofs.type_size.Statement.{statement}
 use Rattle.put_lists.proofs.type_size.Tie as tie
 

@@ -2,7 +2,7 @@
 -- Assumes nothing.
 use native.Mathlib.Omega.{arith}
 use borrow.Author.Tests.{le-leb, lt-leb, eq-eqb, ne-eqb}
-use Rattle.put_lists.proofs.Written.{unit-is}
+use Rattle.put_lists.proofs.Entry.{unit-is}
 use Rattle.put_lists.proofs.unit_fine.Statement.{statement}
 use Rattle.put_lists.proofs.unit_fine.Tie as tie
 

@@ -4,7 +4,7 @@ use Prim.Native.Nat.{_+_}
 use native.Mathlib.Omega.{arith}
 use borrow.Author.Needs.{needs}
 use Rattle.coding.proofs.Writing.{lead-length-short}
-use Rattle.put_lists.proofs.Written.{unit-type, unit-room}
+use Rattle.put_lists.proofs.Entry.{unit-type, unit-room}
 use Rattle.put_lists.proofs.unit_size.Statement.{statement}
 use Rattle.put_lists.proofs.unit_size.Tie as tie
 

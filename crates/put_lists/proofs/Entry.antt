@@ -9,7 +9,7 @@ use mathlib.Core.Option.{none, some}
 use native.Mathlib.Omega.{arith}
 use lib.ListN.{length, length-append}
 use lib.Dec.{leb, eqb, leb·zero}
-use borrow.Author.Tests.{leb-true, le-leb, eqb-true, eq-eqb, ne-eqb}
+use borrow.Author.Tests.{leb-true, le-leb, eq-eqb, ne-eqb}
 use Rattle.coding.specs.Reader.{if_then_else}
 use Rattle.coding.specs.Codec.{prim, cons, pair, alt, maybe, over, canonical, either, writeMaybe}
 use Rattle.coding.specs.Leaves.{number, nullLeaf, width}
@@ -17,22 +17,17 @@ use Rattle.coding.specs.Written.{Wrote, lead, fullNumber}
 use Rattle.coding.proofs.Basic.{and-left, picked, unpicked}
 use Rattle.coding.proofs.Writing.{cons-write, prim-write, number-write, number-length, wrote-element, wrote-as, wrote-both}
 use Rattle.put_figures.proofs.Sizes.{element-length}
-use Rattle.put_figures.proofs.Truth.{same-truth, and-true, and-false}
+use Rattle.put_figures.proofs.Truth.{and-true, and-false}
 use Rattle.coding.proofs.Small.{null-length, small-length}
 use Rattle.types.specs.declared.Units.{Units}
 use Rattle.types.specs.Entries.{unit}
+use Rattle.put_rates.proofs.Prices.{eqb-self, zero-first}
 use Rattle.put_lists.specs.Octets.{numberOctets, typeOctets}
 
 -- ---- which may be written
 
 abbrev pub unitFine : Units → Bool
 unitFine u = leb (u .kind) 16 && if_then_else (eqb (u .known) 1) (leb (u .number) 16777215) (eqb (u .known) 0 && eqb (u .number) 0)
-
-eqb-self : (n : ℕ) → eqb n n ≡ true
-eqb-self n = eq-eqb n n refl
-
-zero-first : (n : ℕ) → eqb 0 n ≡ eqb n 0
-zero-first n = same-truth (eqb 0 n) (eqb n 0) (λ h. eq-eqb n 0 (sym (eqb-true 0 n h))) (λ h. eq-eqb 0 n (sym (eqb-true n 0 h)))
 
 pub unit-is : (u : Units) → unit .valid u ≡ unitFine u
 unfolding unit cons canonical over pair alt maybe prim number nullLeaf
@@ -44,7 +39,7 @@ unit-is u = go (u .number) (u .known) (u .kind)
         simp (ne-eqb (suc t) 0 (λ z. omega arith), le-leb 1 (suc t) (omega arith), and-true, zero-first, eqb-self) (and-comm (eqb n 0) (leb (suc t) 16))
     go n (suc zero) zero = simp (and-true, eqb-self, leb·zero)
     go n (suc zero) (suc t) =
-        simp (ne-eqb (suc t) 0 (λ z. omega arith), le-leb 1 (suc t) (omega arith), and-true, eqb-self, leb·zero) (and-comm (leb n 16777215) (leb (suc t) 16))
+        simp (ne-eqb (suc t) 0 (λ z. omega arith), le-leb 1 (suc t) (omega arith), eqb-self, leb·zero) (and-comm (leb n 16777215) (leb (suc t) 16))
     go n (suc (suc k)) t =
         simp (ne-eqb (suc (suc k)) 1 (λ z. omega arith), ne-eqb 0 (suc (suc k)) (λ z. omega arith), ne-eqb (suc (suc k)) 0 (λ z. omega arith), and-false)
 

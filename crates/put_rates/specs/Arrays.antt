@@ -1,0 +1,20 @@
+-- Lists in two arrays: what is used of them and what is not.
+use Prim.Native.Nat.{ℕ, _-_}
+use mathlib.Core.Bool.{Bool, _&&_}
+use mathlib.Core.List.{List}
+use lib.ListN.{length, drop, replicate}
+use lib.Dec.{eqb}
+use Rattle.coding.specs.Codec.{sameList}
+use Rattle.types.specs.declared.Entries.{Entries}
+
+-- the two arrays of a list
+abbrev pub laid : List ℕ → List ℕ → Entries
+laid numbers octets = record { numbers = numbers; octets = octets }
+
+-- all is zero past the first n places
+abbrev pub zeroPast : ℕ → List ℕ → Bool
+zeroPast n xs = sameList eqb (replicate (length xs - n) 0) (drop n xs)
+
+-- all is zero past the first n numbers and m octets
+abbrev pub unusedZero : List ℕ → List ℕ → ℕ → ℕ → Bool
+unusedZero numbers octets n m = zeroPast n numbers && zeroPast m octets
