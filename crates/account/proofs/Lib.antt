@@ -1,0 +1,6 @@
+pub mod Choice
+pub mod Refusal
+pub mod Demand
+pub mod Steps
+pub mod Lent
+pub mod Examples

@@ -1,0 +1,10 @@
+use Rattle.account.proofs.Steps.{read-off}
+use Rattle.account.specs.declared.Account.{Account}
+use Rattle.account.proofs.phase_of.Statement.{statement}
+use Rattle.account.proofs.phase_of.Tie as tie
+
+returns : tie.Need-returns
+returns c = read-off (λ (a : Account). a .status .phase) (c .args .a)
+
+pub phase-of-spec : {M : Type 1} → statement M
+phase-of-spec = tie.close (tie.spec returns)

@@ -1,0 +1,185 @@
+-- One call's events, and what the rules pick out of their list. A history has the latest event first.
+use Prim.Native.Nat.{ℕ}
+use mathlib.Core.List.{List, [], _∷_}
+use mathlib.Core.Bool.{Bool, true, false, not, _&&_, _||_}
+use lib.Dec.{eqb}
+use Rattle.coding.specs.Reader.{if_then_else}
+use Rattle.types.specs.declared.Charge.{Charge}
+use Rattle.types.specs.Charges.{flag}
+use Rattle.types.specs.Arguments.{noCharge}
+use Rattle.types.specs.Frames.{readOf}
+use Rattle.values.specs.declared.Services.{Services}
+use Rattle.account.specs.declared.Event.{Event}
+use Rattle.account.specs.declared.Outcome.{Outcome}
+use Rattle.account.specs.declared.Status.{Status}
+use Rattle.account.specs.declared.Account.{Account}
+use Rattle.account.specs.declared.Closing.{Closing}
+use Rattle.account.specs.declared.Marks.{Marks}
+use Rattle.account.specs.Outcome.{idle, establishment, active, clearing, ended, setup, connect, clear, released, S, D, E, Request, noRequest, request, Requests, First, Known, judge}
+
+-- an event with its octets, and the same with its outcome
+pub record Given : Type 0 where
+  pub event : Event
+  pub octets : List ℕ
+
+abbrev pub event : Event → List ℕ → Given
+event e o = record { event = e; octets = o }
+
+pub record Judged : Type 0 where
+  pub event : Event
+  pub octets : List ℕ
+  pub outcome : Outcome
+
+-- the charge of a component
+abbrev pub chargeOf : List ℕ → Charge
+chargeOf o = readOf o .value .charge
+
+-- ---- going over a list
+
+abbrev pub any : (Judged → Bool) → List Judged → Bool
+any t [] = false
+any t (j ∷ h) = t j || any t h
+
+-- the charge of the last event that passes a test
+abbrev pub last : (Judged → Bool) → List Judged → Charge
+last t [] = noCharge
+last t (j ∷ h) = if_then_else (t j) (chargeOf (j .octets)) (last t h)
+
+-- an outcome was n; it was the service's n
+abbrev pub was : ℕ → Outcome → Bool
+was n r = eqb (r .number) n
+
+abbrev pub its : ℕ → ℕ → Outcome → Bool
+its s n r = eqb (r .number) n && eqb (r .service) s
+
+-- ---- the phase follows from the phase events not refused
+
+abbrev pub leadsTo : ℕ → ℕ → ℕ
+leadsTo kind phase =
+    if_then_else (eqb kind setup) establishment
+    (if_then_else (eqb kind connect) active
+    (if_then_else (eqb kind clear) clearing
+    (if_then_else (eqb kind released) ended phase)))
+
+abbrev pub phase : List Judged → ℕ
+phase [] = idle
+phase (j ∷ h) = if_then_else (was 0 (j .outcome)) (leadsTo (j .event .kind) (phase h)) (phase h)
+
+-- ---- a request is pending if the one accepted Setup named it and no earlier event was its 24 or 25
+
+abbrev pub named : ℕ → List Judged → Request
+named s [] = noRequest
+named s (j ∷ h) = if_then_else (eqb (j .event .kind) setup && was 0 (j .outcome)) (request s (j .event)) (named s h)
+
+abbrev pub settles : ℕ → Outcome → Bool
+settles s r = its s 24 r || its s 25 r
+
+abbrev pub pending : ℕ → List Judged → Request
+pending s h = if_then_else (any (λ j. settles s (j .outcome)) h) noRequest (named s h)
+
+-- ---- a final has a predecessor if an earlier event was its service's 22
+
+abbrev pub hasFinal : ℕ → List Judged → Bool
+hasFinal s h = any (λ j. its s 22 (j .outcome)) h
+
+abbrev pub final : ℕ → List Judged → Charge
+final s h = last (λ j. its s 22 (j .outcome)) h
+
+-- ---- a service's mark stands if an earlier event was its 23 or, for conflict, its 29
+
+abbrev pub unavailable : ℕ → List Judged → Bool
+unavailable s h = any (λ j. its s 23 (j .outcome)) h
+
+abbrev pub conflicting : ℕ → List Judged → Bool
+conflicting s h = any (λ j. its s 29 (j .outcome)) h
+
+abbrev pub marks : List Judged → Marks
+marks h = record {
+  absent = record { s = flag (unavailable S h); d = flag (unavailable D h); e = flag (unavailable E h) };
+  conflict = record { s = flag (conflicting S h); d = flag (conflicting D h); e = flag (conflicting E h) };
+}
+
+-- ---- the rate is that of the last 20 or S 24; the running figure that of the last 21
+
+abbrev pub rate : List Judged → Charge
+rate h = last (λ j. was 20 (j .outcome) || its S 24 (j .outcome)) h
+
+abbrev pub running : List Judged → Charge
+running h = last (λ j. was 21 (j .outcome)) h
+
+-- ---- the closing figure is none before Ended, then E's only 22, else D's, else none
+
+abbrev pub noClosing : Closing
+noClosing = record { service = 0; value = noCharge }
+
+abbrev pub closing : List Judged → Closing
+closing h =
+    if_then_else (eqb (phase h) ended)
+    (if_then_else (hasFinal E h) (record { service = E; value = final E h })
+    (if_then_else (hasFinal D h) (record { service = D; value = final D h }) noClosing))
+    noClosing
+
+-- ---- each event is judged by what came before it
+
+abbrev pub requests : List Judged → Requests
+requests h = record {
+  asked = record { s = pending S h .mark; d = pending D h .mark; e = pending E h .mark };
+  s = pending S h .id;
+  d = pending D h .id;
+  e = pending E h .id;
+}
+
+abbrev pub known : List Judged → Known
+known h = record {
+  phase = phase h;
+  pending = requests h;
+  byD = record { given = hasFinal D h; charge = final D h };
+  byE = record { given = hasFinal E h; charge = final E h };
+}
+
+abbrev pub add : Given → List Judged → List Judged
+add g h = record { event = g .event; octets = g .octets; outcome = judge (known h) (g .event) (g .octets) } ∷ h
+
+abbrev pub judged : List Given → List Judged
+judged [] = []
+judged (g ∷ h) = add g (judged h)
+
+-- ---- the account that stands for a history
+
+abbrev pub statusBy : List Judged → Status
+statusBy h = record {
+  phase = phase h;
+  asked = requests h .asked;
+  s = requests h .s;
+  d = requests h .d;
+  e = requests h .e;
+  absent = marks h .absent;
+  conflict = marks h .conflict;
+}
+
+abbrev pub accountBy : List Judged → Account
+accountBy h = record { status = statusBy h; rate = rate h; running = running h; dfinal = final D h; efinal = final E h }
+
+-- ---- what can be read after an event: its outcome, the rate, the running and the closing figure, and the marks
+
+pub record Shown : Type 0 where
+  pub outcome : Outcome
+  pub rate : Charge
+  pub running : Charge
+  pub closing : Closing
+  pub marks : Marks
+
+-- what the rules pick out of a history with an event added
+abbrev pub shown : Given → List Given → Shown
+shown g h = record {
+  outcome = judge (known (judged h)) (g .event) (g .octets);
+  rate = rate (judged (g ∷ h));
+  running = running (judged (g ∷ h));
+  closing = closing (judged (g ∷ h));
+  marks = marks (judged (g ∷ h));
+}
+
+-- the same of each event of a list, the earliest first, after the events of a history
+abbrev pub picked : List Given → List Given → List Shown
+picked h [] = []
+picked h (g ∷ l) = shown g h ∷ picked (g ∷ h) l

@@ -1,0 +1,796 @@
+// One call's account: what is kept of its events, and what each event does to it.
+//
+// What a host holds is flat structs of numbers: its memory may hold anything, and any value has its answer.
+// Services are numbered 1 S, 2 D, 3 E. Phases: 0 Idle, 1 Establishment, 2 Active, 3 Clearing, 4 Ended.
+use types::Charge;
+use values::Services;
+ghost use mathlib.Core.Path.{_≡_};
+ghost use mathlib.Core.List.{List};
+ghost use mathlib.Core.Bool.{not, _&&_};
+ghost use lib.Dec.{eqb};
+ghost use Prim.Native.Nat.{ℕ};
+ghost use Rattle.types.specs.Arguments.{noCharge};
+ghost use Rattle.types.specs.Frames.{readOf};
+ghost use Rattle.account.specs.Outcome.{allowed, serviceOf, clash, asking, clashes, holderOf, finalOf, runs, closes, judgeFigure, judgeInvoke, judgeResult, judgeFailure, judgeFrame, fits, outcome, bare};
+ghost use Rattle.account.specs.History.{Given, event, leadsTo, judged, accountBy, rate, running, closing, marks, phase, requests};
+ghost use Rattle.account.specs.Step.{requestsOf, firstFigure, moved, noted, stepped, stepOf, steppedBy, resolved, placeOf, taken, changed, fresh, closingOf, marksOf, pendingOf};
+
+// number: 20 to 32, a refusal, or 0 for a phase event that is not refused. service: 0 for none.
+#[repr(C)]
+pub struct Outcome {
+    pub number: u8,
+    pub service: u8,
+}
+
+// kind: 1 Setup, 2 Connect, 3 Clear, 4 Released, 5 Component. A Setup has the set of services asked for, and their requests' identifiers.
+#[repr(C)]
+pub struct Event {
+    pub kind: u8,
+    pub asked: Services,
+    pub s: u16,
+    pub d: u16,
+    pub e: u16,
+}
+
+// asked: the services with a request pending, and the requests' identifiers. absent: the services told not available.
+// conflict: the services with a final that differs from the first.
+#[repr(C)]
+pub struct Status {
+    pub phase: u8,
+    pub asked: Services,
+    pub s: u16,
+    pub d: u16,
+    pub e: u16,
+    pub absent: Services,
+    pub conflict: Services,
+}
+
+// The rate, the running figure and the finals of D and E, as they were received; a figure of kind 0 is none.
+#[repr(C)]
+pub struct Account {
+    pub status: Status,
+    pub rate: Charge,
+    pub running: Charge,
+    pub dfinal: Charge,
+    pub efinal: Charge,
+}
+
+#[repr(C)]
+pub struct Stepped {
+    pub outcome: Outcome,
+    pub account: Account,
+}
+
+// What an event changes. place: where the charge is kept, 1 the rate, 2 the running figure, 3 the final of D, 4 the final of E; 0 nowhere.
+#[repr(C)]
+pub struct Change {
+    pub outcome: Outcome,
+    pub place: u16,
+    pub status: Status,
+    pub charge: Charge,
+}
+
+// service: 0 for no closing figure.
+#[repr(C)]
+pub struct Closing {
+    pub service: u32,
+    pub value: Charge,
+}
+
+#[repr(C)]
+pub struct Marks {
+    pub absent: Services,
+    pub conflict: Services,
+}
+
+#[repr(C)]
+pub struct Pending {
+    pub asked: Services,
+    pub unused: u8,
+    pub s: u16,
+    pub d: u16,
+    pub e: u16,
+}
+
+fn no_charge() -> Charge
+    ensures { λ r. ⌜ r ≡ noCharge ⌝ }
+{
+    let octets = [0u8; 10];
+    let currency = types::Currency { count: 0, octets };
+    let money = types::Money {
+        currency,
+        multiplier: 0,
+        number: 0,
+    };
+    let digits = [0u8; 20];
+    let association = types::Association {
+        id: 0,
+        count: 0,
+        kind: 0,
+        plan: 0,
+        digits,
+    };
+    let figure = types::Figure {
+        money,
+        association,
+        kind: 0,
+        total: 0,
+        billed: 0,
+        billing: 0,
+        arrangement: 0,
+        count: 0,
+    };
+    let numbers = [0u32; 32];
+    let rows = [0u8; 192];
+    let entries = types::Entries {
+        numbers,
+        octets: rows,
+    };
+    Charge { figure, entries }
+}
+
+// The account of a call that has had no event.
+pub fn fresh() -> Account
+    ensures { λ r. ⌜ r ≡ fresh ⌝ }
+{
+    let none = no_charge();
+    let empty = Services::empty();
+    let status = Status {
+        phase: 0,
+        asked: empty,
+        s: 0,
+        d: 0,
+        e: 0,
+        absent: empty,
+        conflict: empty,
+    };
+    Account {
+        status,
+        rate: none,
+        running: none,
+        dfinal: none,
+        efinal: none,
+    }
+}
+
+// ---- phase events
+
+fn allowed(kind: u8, phase: u8) -> bool
+    ensures { λ r. ⌜ r ≡ allowed kind phase ⌝ }
+{
+    if kind == 1 {
+        return phase == 0;
+    }
+    if kind == 2 {
+        return phase == 1;
+    }
+    if kind == 3 {
+        if phase == 1 {
+            return true;
+        }
+        return phase == 2;
+    }
+    if kind == 4 {
+        return phase == 3;
+    }
+    if kind != 5 {
+        return false;
+    }
+    if phase == 1 {
+        return true;
+    }
+    if phase == 2 {
+        return true;
+    }
+    phase == 3
+}
+
+// Whether two requests have one identifier.
+fn clash(mark: u8, id: u16, other: u8, its: u16) -> bool
+    ensures { λ r. ⌜ r ≡ clash (asking mark id) (asking other its) ⌝ }
+{
+    if mark == 0 {
+        return false;
+    }
+    if other == 0 {
+        return false;
+    }
+    id == its
+}
+
+fn clashes(e: Event) -> bool
+    ensures { λ r. ⌜ r ≡ clashes e ⌝ }
+{
+    let asked = e.asked;
+    if clash(asked.s, e.s, asked.d, e.d) {
+        return true;
+    }
+    if clash(asked.s, e.s, asked.e, e.e) {
+        return true;
+    }
+    clash(asked.d, e.d, asked.e, e.e)
+}
+
+fn leads_to(kind: u8, phase: u8) -> u8
+    ensures { λ r. ⌜ r ≡ leadsTo kind phase ⌝ }
+{
+    if kind == 1 {
+        return 1;
+    }
+    if kind == 2 {
+        return 2;
+    }
+    if kind == 3 {
+        return 3;
+    }
+    if kind == 4 {
+        return 4;
+    }
+    phase
+}
+
+// A mark as it is kept: 1 where something is asked for.
+fn mark_of(mark: u8) -> u8
+    ensures { λ r. ⌜ ((id : ℕ) → r ≡ asking mark id .mark) ⌝ }
+{
+    if mark == 0 { 0 } else { 1 }
+}
+
+fn id_of(mark: u8, id: u16) -> u16
+    ensures { λ r. ⌜ r ≡ asking mark id .id ⌝ }
+{
+    if mark == 0 { 0 } else { id }
+}
+
+// The status after a phase event that is not refused.
+fn moved(mut t: Status, e: Event) -> Status
+    ensures { λ r. ⌜ r ≡ moved t e ⌝ }
+{
+    let phase = leads_to(e.kind, t.phase);
+    t.phase = phase;
+    if e.kind != 1 {
+        return t;
+    }
+    let asked = e.asked;
+    let s = mark_of(asked.s);
+    let d = mark_of(asked.d);
+    let f = mark_of(asked.e);
+    let set = Services { s, d, e: f };
+    let i = id_of(asked.s, e.s);
+    let j = id_of(asked.d, e.d);
+    let k = id_of(asked.e, e.e);
+    t.asked = set;
+    t.s = i;
+    t.d = j;
+    t.e = k;
+    t
+}
+
+// ---- the outcome of a component, but for comparing finals: one that is claimed is 22
+
+fn service_of(operation: u8) -> u8
+    ensures { λ r. ⌜ r ≡ serviceOf operation ⌝ }
+{
+    if operation <= 32 {
+        return 1;
+    }
+    if operation <= 34 {
+        return 2;
+    }
+    3
+}
+
+fn runs(phase: u8, service: u8, kind: u8, total: u8) -> bool
+    ensures { λ r. ⌜ r ≡ runs phase service kind total ⌝ }
+{
+    if service != 2 {
+        return false;
+    }
+    if kind == 1 {
+        if phase == 1 {
+            return true;
+        }
+        return phase == 2;
+    }
+    if total != 0 {
+        return false;
+    }
+    phase == 2
+}
+
+fn closes(phase: u8, service: u8, kind: u8, total: u8) -> bool
+    ensures { λ r. ⌜ r ≡ closes phase service kind total ⌝ }
+{
+    if phase != 3 {
+        return false;
+    }
+    if service == 3 {
+        return true;
+    }
+    if kind == 1 {
+        return true;
+    }
+    total == 1
+}
+
+// A figure of a service that has no request pending.
+fn figure_outcome(phase: u8, service: u8, kind: u8, total: u8) -> Outcome
+    ensures { λ r. ⌜ r ≡ judgeFigure phase (outcome 22) service kind total ⌝ }
+{
+    if service == 1 {
+        return Outcome {
+            number: 20,
+            service,
+        };
+    }
+    if runs(phase, service, kind, total) {
+        return Outcome {
+            number: 21,
+            service,
+        };
+    }
+    if closes(phase, service, kind, total) {
+        return Outcome {
+            number: 22,
+            service,
+        };
+    }
+    Outcome {
+        number: 27,
+        service,
+    }
+}
+
+fn invoke_outcome(t: Status, operation: u8, kind: u8, total: u8) -> Outcome
+    ensures { λ r. ⌜ r ≡ judgeInvoke (t .phase) (requestsOf t) (outcome 22) operation kind total ⌝ }
+{
+    if operation == 30 {
+        return Outcome {
+            number: 32,
+            service: 0,
+        };
+    }
+    let service = service_of(operation);
+    let asked = t.asked;
+    if asked.has(service) {
+        return Outcome {
+            number: 26,
+            service,
+        };
+    }
+    if kind == 0 {
+        return Outcome {
+            number: 23,
+            service,
+        };
+    }
+    figure_outcome(t.phase, service, kind, total)
+}
+
+fn matches(mark: u8, own: u16, id: u16) -> bool
+    ensures { λ r. ⌜ r ≡ not (eqb mark 0) && eqb own id ⌝ }
+{
+    if mark == 0 {
+        return false;
+    }
+    own == id
+}
+
+// The service whose pending request has the identifier.
+fn holder(t: Status, id: u16) -> u8
+    ensures { λ r. ⌜ r ≡ holderOf (requestsOf t) id ⌝ }
+{
+    let asked = t.asked;
+    if matches(asked.s, t.s, id) {
+        return 1;
+    }
+    if matches(asked.d, t.d, id) {
+        return 2;
+    }
+    if matches(asked.e, t.e, id) {
+        return 3;
+    }
+    0
+}
+
+fn fits(service: u8, kind: u8) -> bool
+    ensures { λ r. ⌜ r ≡ fits service kind ⌝ }
+{
+    if service != 1 {
+        return kind == 0;
+    }
+    if kind == 4 {
+        return true;
+    }
+    kind == 5
+}
+
+fn result_outcome(service: u8, kind: u8) -> Outcome
+    ensures { λ r. ⌜ r ≡ judgeResult service kind ⌝ }
+{
+    if service == 0 {
+        return Outcome {
+            number: 30,
+            service: 0,
+        };
+    }
+    if fits(service, kind) {
+        return Outcome {
+            number: 24,
+            service,
+        };
+    }
+    Outcome {
+        number: 31,
+        service,
+    }
+}
+
+fn failure_outcome(service: u8) -> Outcome
+    ensures { λ r. ⌜ r ≡ judgeFailure service ⌝ }
+{
+    if service == 0 {
+        return Outcome {
+            number: 30,
+            service: 0,
+        };
+    }
+    Outcome {
+        number: 25,
+        service,
+    }
+}
+
+fn claimed(
+    t: Status,
+    frame: u8,
+    operation: u8,
+    unnamed: u8,
+    id: u16,
+    kind: u8,
+    total: u8,
+) -> Outcome
+    ensures { λ r. ⌜ r ≡ judgeFrame (t .phase) (requestsOf t) (outcome 22) frame operation unnamed id kind total ⌝ }
+{
+    if frame == 1 {
+        return invoke_outcome(t, operation, kind, total);
+    }
+    let service = holder(t, id);
+    if frame == 2 {
+        return result_outcome(service, kind);
+    }
+    if unnamed == 1 {
+        return Outcome {
+            number: 30,
+            service: 0,
+        };
+    }
+    failure_outcome(service)
+}
+
+// ---- what a component does
+
+// A final, beside the first one of its service.
+fn final_outcome(first: Charge, c: Charge, service: u8) -> Outcome
+    ensures { λ r. ⌜ r ≡ finalOf (firstFigure first) c service ⌝ }
+{
+    if first.figure.kind == 0 {
+        return Outcome {
+            number: 22,
+            service,
+        };
+    }
+    if same::same(first, c) {
+        return Outcome {
+            number: 28,
+            service,
+        };
+    }
+    Outcome {
+        number: 29,
+        service,
+    }
+}
+
+fn resolved(a: Account, o: Outcome, c: Charge) -> Outcome
+    ensures { λ r. ⌜ r ≡ resolved a o c ⌝ }
+{
+    if o.number != 22 {
+        return o;
+    }
+    if o.service == 2 {
+        let first = a.dfinal;
+        return final_outcome(first, c, o.service);
+    }
+    let first = a.efinal;
+    final_outcome(first, c, o.service)
+}
+
+// A request that is no longer pending.
+fn settled(mut t: Status, service: u8) -> Status
+    ensures { λ r. ⌜ r ≡ noted t (outcome 24 service) ⌝ }
+{
+    if service == 1 {
+        t.asked.s = 0;
+        t.s = 0;
+        return t;
+    }
+    if service == 2 {
+        t.asked.d = 0;
+        t.d = 0;
+        return t;
+    }
+    if service == 3 {
+        t.asked.e = 0;
+        t.e = 0;
+        return t;
+    }
+    t
+}
+
+// The status after a component, by its outcome.
+fn noted(mut t: Status, o: Outcome) -> Status
+    ensures { λ r. ⌜ r ≡ noted t o ⌝ }
+{
+    if o.number == 23 {
+        let absent = t.absent;
+        let more = absent.with(o.service);
+        t.absent = more;
+        return t;
+    }
+    if o.number == 24 {
+        return settled(t, o.service);
+    }
+    if o.number == 25 {
+        return settled(t, o.service);
+    }
+    if o.number == 29 {
+        let conflict = t.conflict;
+        let more = conflict.with(o.service);
+        t.conflict = more;
+        return t;
+    }
+    t
+}
+
+fn place_of(o: Outcome) -> u16
+    ensures { λ r. ⌜ r ≡ placeOf o ⌝ }
+{
+    if o.number == 20 {
+        return 1;
+    }
+    if o.number == 21 {
+        return 2;
+    }
+    if o.number == 22 {
+        if o.service == 2 {
+            return 3;
+        }
+        if o.service == 3 {
+            return 4;
+        }
+        return 0;
+    }
+    if o.number == 24 {
+        if o.service == 1 {
+            return 1;
+        }
+        return 0;
+    }
+    0
+}
+
+// ---- the step
+
+// An event that has no figure.
+fn plain(number: u8, status: Status) -> Change
+    ensures { λ r. ⌜ (r .outcome ≡ bare number) × (r .place ≡ 0) × (r .status ≡ status) ⌝ }
+{
+    let charge = no_charge();
+    let outcome = Outcome { number, service: 0 };
+    Change {
+        outcome,
+        place: 0,
+        status,
+        charge,
+    }
+}
+
+fn taken(a: Account, octets: &[u8]) -> Change
+    ensures { λ r. ⌜ changed a r ≡ taken a (readOf (now (octets .entry))) ⌝ }
+{
+    let answer = component::read(octets);
+    let t = a.status;
+    if answer.number != 0 {
+        return plain(answer.number as u8, t);
+    }
+    let claim = claimed(
+        t,
+        answer.value.frame,
+        answer.value.operation,
+        answer.value.unnamed,
+        answer.value.id,
+        answer.value.charge.figure.kind,
+        answer.value.charge.figure.total,
+    );
+    let charge = answer.value.charge;
+    let outcome = resolved(a, claim, charge);
+    let status = noted(t, outcome);
+    let place = place_of(outcome);
+    Change {
+        outcome,
+        place,
+        status,
+        charge,
+    }
+}
+
+// What an event changes.
+fn changes(a: Account, e: Event, octets: &[u8]) -> Change
+    ensures { λ r. ⌜ changed a r ≡ stepOf a e (now (octets .entry)) ⌝ }
+{
+    let t = a.status;
+    if !allowed(e.kind, t.phase) {
+        return plain(14, t);
+    }
+    if e.kind == 5 {
+        return taken(a, octets);
+    }
+    if e.kind == 1 {
+        if clashes(e) {
+            return plain(13, t);
+        }
+        let up = moved(t, e);
+        return plain(0, up);
+    }
+    let next = moved(t, e);
+    plain(0, next)
+}
+
+pub fn step(mut a: Account, e: Event, octets: &[u8]) -> Stepped
+    ensures one { λ r. ⌜ r ≡ stepOf a e (now (octets .entry)) ⌝ }
+    ensures rules { λ r. ⌜ ((h : List Given) → a ≡ accountBy (judged h) → r ≡ steppedBy (event e (now (octets .entry))) h) ⌝ }
+{
+    let w = changes(a, e, octets);
+    let outcome = w.outcome;
+    let status = w.status;
+    let charge = w.charge;
+    let place = w.place;
+    a.status = status;
+    if place == 1 {
+        a.rate = charge;
+        return Stepped {
+            outcome,
+            account: a,
+        };
+    }
+    if place == 2 {
+        a.running = charge;
+        return Stepped {
+            outcome,
+            account: a,
+        };
+    }
+    if place == 3 {
+        a.dfinal = charge;
+        return Stepped {
+            outcome,
+            account: a,
+        };
+    }
+    if place == 4 {
+        a.efinal = charge;
+        return Stepped {
+            outcome,
+            account: a,
+        };
+    }
+    Stepped {
+        outcome,
+        account: a,
+    }
+}
+
+// The host lends the account, and the step updates it there.
+pub fn step_in(a: &mut Account, e: Event, octets: &[u8]) -> Outcome
+    ensures { λ r. ⌜ (stepped r (now (a .exit)) ≡ stepOf (now (a .entry)) e (now (octets .entry))) × ((h : List Given) → now (a .entry) ≡ accountBy (judged h) → stepped r (now (a .exit)) ≡ steppedBy (event e (now (octets .entry))) h) ⌝ }
+{
+    let w = changes(*a, e, octets);
+    a.status = w.status;
+    if w.place == 1 {
+        a.rate = w.charge;
+        return w.outcome;
+    }
+    if w.place == 2 {
+        a.running = w.charge;
+        return w.outcome;
+    }
+    if w.place == 3 {
+        a.dfinal = w.charge;
+        return w.outcome;
+    }
+    if w.place == 4 {
+        a.efinal = w.charge;
+        return w.outcome;
+    }
+    w.outcome
+}
+
+// ---- reading off
+
+pub fn rate_of(a: Account) -> Charge
+    ensures one { λ r. ⌜ r ≡ a .rate ⌝ }
+    ensures rules { λ r. ⌜ ((h : List Given) → a ≡ accountBy (judged h) → r ≡ rate (judged h)) ⌝ }
+{
+    a.rate
+}
+
+pub fn running_of(a: Account) -> Charge
+    ensures one { λ r. ⌜ r ≡ a .running ⌝ }
+    ensures rules { λ r. ⌜ ((h : List Given) → a ≡ accountBy (judged h) → r ≡ running (judged h)) ⌝ }
+{
+    a.running
+}
+
+pub fn closing_of(a: Account) -> Closing
+    ensures one { λ r. ⌜ r ≡ closingOf a ⌝ }
+    ensures rules { λ r. ⌜ ((h : List Given) → a ≡ accountBy (judged h) → r ≡ closing (judged h)) ⌝ }
+{
+    let d = a.dfinal;
+    let e = a.efinal;
+    let none = no_charge();
+    if a.status.phase != 4 {
+        return Closing {
+            service: 0,
+            value: none,
+        };
+    }
+    if e.figure.kind != 0 {
+        return Closing {
+            service: 3,
+            value: e,
+        };
+    }
+    if d.figure.kind != 0 {
+        return Closing {
+            service: 2,
+            value: d,
+        };
+    }
+    Closing {
+        service: 0,
+        value: none,
+    }
+}
+
+pub fn marks_of(a: Account) -> Marks
+    ensures one { λ r. ⌜ r ≡ marksOf a ⌝ }
+    ensures rules { λ r. ⌜ ((h : List Given) → a ≡ accountBy (judged h) → r ≡ marks (judged h)) ⌝ }
+{
+    let t = a.status;
+    let absent = t.absent;
+    let conflict = t.conflict;
+    Marks { absent, conflict }
+}
+
+pub fn pending_of(a: Account) -> Pending
+    ensures one { λ r. ⌜ r ≡ pendingOf (requestsOf (a .status)) ⌝ }
+    ensures rules { λ r. ⌜ ((h : List Given) → a ≡ accountBy (judged h) → r ≡ pendingOf (requests (judged h))) ⌝ }
+{
+    let t = a.status;
+    let asked = t.asked;
+    Pending {
+        asked,
+        unused: 0,
+        s: t.s,
+        d: t.d,
+        e: t.e,
+    }
+}
+
+pub fn phase_of(a: Account) -> u8
+    ensures one { λ r. ⌜ r ≡ a .status .phase ⌝ }
+    ensures rules { λ r. ⌜ ((h : List Given) → a ≡ accountBy (judged h) → r ≡ phase (judged h)) ⌝ }
+{
+    a.status.phase
+}

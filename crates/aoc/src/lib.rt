@@ -1,0 +1,171 @@
+// The C library: every function that a host calls. include/aoc.h says each one's promise in words.
+//
+// Each is thin: it hands on what it is handed, and promises what the function that it calls promises.
+ghost use mathlib.Core.Path.{_≡_};
+ghost use mathlib.Core.List.{List};
+ghost use mathlib.Core.Bool.{Bool, true, false, _&&_, _||_};
+ghost use Prim.Native.Nat.{ℕ, _*_, _≤_};
+ghost use lib.ListN.{getD, length};
+ghost use lib.Dec.{eqb};
+ghost use mir.Syntax.{w16};
+ghost use mir.Val.{toZ};
+ghost use Rattle.types.specs.Frames.{readOf};
+ghost use Rattle.writer.specs.Outcome.{writeOf, leftOf};
+ghost use Rattle.reply.specs.Reply.{replyOf, replyLeft};
+ghost use Rattle.facility.specs.Element.{elementOf};
+ghost use Rattle.values.specs.Amounts.{powers};
+ghost use Rattle.values.specs.Identifiers.{nextOf, oneUp};
+ghost use Rattle.values.specs.Sets.{emptySet, isService, has, with};
+ghost use Rattle.account.specs.History.{Given, event, judged, accountBy, rate, running, closing, marks, phase, requests};
+ghost use Rattle.account.specs.Step.{requestsOf, stepped, stepOf, steppedBy, fresh, closingOf, marksOf, pendingOf};
+
+// ---- components
+
+#[no_mangle]
+pub extern "C" fn aoc_read(octets: &[u8]) -> types::Answer
+    ensures { λ r. ⌜ r ≡ readOf (now (octets .entry)) ⌝ }
+{
+    component::read(octets)
+}
+
+#[no_mangle]
+pub extern "C" fn aoc_write(r: types::Record, buf: &mut [u8]) -> writer::Written
+    ensures { λ w. ⌜ w ≡ writeOf r (length (now (buf .entry))) ⌝ }
+    ensures left { λ w. ⌜ now (buf .exit) ≡ leftOf r (now (buf .entry)) ⌝ }
+{
+    writer::write(r, buf)
+}
+
+#[no_mangle]
+pub extern "C" fn aoc_reply(octets: &[u8], buf: &mut [u8]) -> writer::Written
+    ensures { λ r. ⌜ r ≡ replyOf (now (octets .entry)) (length (now (buf .entry))) ⌝ }
+    ensures left { λ r. ⌜ now (buf .exit) ≡ replyLeft (now (octets .entry)) (now (buf .entry)) ⌝ }
+{
+    reply::reply(octets, buf)
+}
+// ---- the Facility element
+
+#[no_mangle]
+pub extern "C" fn aoc_element(octets: &[u8]) -> facility::Starts
+    ensures { λ r. ⌜ r ≡ elementOf (now (octets .entry)) ⌝ }
+    ensures few { λ r. ⌜ r .count ≤ 127 ⌝ }
+{
+    facility::element(octets)
+}
+
+// ---- values
+
+#[no_mangle]
+pub extern "C" fn aoc_thousandths(number: u32, multiplier: u8) -> u64
+    ensures product { λ r. ⌜ r ≡ number * getD powers multiplier 0 ⌝ }
+    ensures bounded { λ r. ⌜ (number ≤ 16777215 → r ≤ 16777215000000) ⌝ }
+{
+    values::thousandths(number, multiplier)
+}
+
+#[no_mangle]
+pub extern "C" fn aoc_next_identifier(id: u16) -> u16
+    ensures pattern { λ r. ⌜ r ≡ nextOf id ⌝ }
+    ensures number { λ r. ⌜ toZ w16 r ≡ oneUp (toZ w16 id) ⌝ }
+{
+    values::next_identifier(id)
+}
+
+#[no_mangle]
+pub extern "C" fn aoc_three_identifiers(last: u16) -> values::Three
+    ensures which { λ r. ⌜ r ≡ record { s = nextOf last; d = nextOf (nextOf last); e = nextOf (nextOf (nextOf last)) } ⌝ }
+    ensures differ { λ r. ⌜ (r .s ≡ r .d → ⊥) × (r .s ≡ r .e → ⊥) × (r .d ≡ r .e → ⊥) ⌝ }
+{
+    values::three_identifiers(last)
+}
+
+#[no_mangle]
+pub extern "C" fn aoc_no_services() -> values::Services
+    ensures set { λ r. ⌜ r ≡ emptySet ⌝ }
+    ensures members { λ r. ⌜ ((u : ℕ) → has r u ≡ false) ⌝ }
+{
+    values::Services::empty()
+}
+
+#[no_mangle]
+pub extern "C" fn aoc_with_service(set: values::Services, service: u8) -> values::Services
+    ensures set { λ r. ⌜ r ≡ with set service ⌝ }
+    ensures members { λ r. ⌜ ((u : ℕ) → has r u ≡ isService u && eqb service u || has set u) ⌝ }
+{
+    set.with(service)
+}
+
+#[no_mangle]
+pub extern "C" fn aoc_has_service(set: values::Services, service: u8) -> bool
+    ensures { λ r. ⌜ r ≡ has set service ⌝ }
+{
+    set.has(service)
+}
+
+// ---- one call's account
+
+#[no_mangle]
+pub extern "C" fn aoc_fresh() -> account::Account
+    ensures { λ r. ⌜ r ≡ fresh ⌝ }
+{
+    account::fresh()
+}
+
+#[no_mangle]
+pub extern "C" fn aoc_step(
+    a: &mut account::Account,
+    e: account::Event,
+    octets: &[u8],
+) -> account::Outcome
+    ensures { λ r. ⌜ (stepped r (now (a .exit)) ≡ stepOf (now (a .entry)) e (now (octets .entry))) × ((h : List Given) → now (a .entry) ≡ accountBy (judged h) → stepped r (now (a .exit)) ≡ steppedBy (event e (now (octets .entry))) h) ⌝ }
+{
+    account::step_in(a, e, octets)
+}
+
+#[no_mangle]
+pub extern "C" fn aoc_rate_of(a: account::Account) -> types::Charge
+    ensures one { λ r. ⌜ r ≡ a .rate ⌝ }
+    ensures rules { λ r. ⌜ ((h : List Given) → a ≡ accountBy (judged h) → r ≡ rate (judged h)) ⌝ }
+{
+    account::rate_of(a)
+}
+
+#[no_mangle]
+pub extern "C" fn aoc_running_of(a: account::Account) -> types::Charge
+    ensures one { λ r. ⌜ r ≡ a .running ⌝ }
+    ensures rules { λ r. ⌜ ((h : List Given) → a ≡ accountBy (judged h) → r ≡ running (judged h)) ⌝ }
+{
+    account::running_of(a)
+}
+
+#[no_mangle]
+pub extern "C" fn aoc_closing_of(a: account::Account) -> account::Closing
+    ensures one { λ r. ⌜ r ≡ closingOf a ⌝ }
+    ensures rules { λ r. ⌜ ((h : List Given) → a ≡ accountBy (judged h) → r ≡ closing (judged h)) ⌝ }
+{
+    account::closing_of(a)
+}
+
+#[no_mangle]
+pub extern "C" fn aoc_marks_of(a: account::Account) -> account::Marks
+    ensures one { λ r. ⌜ r ≡ marksOf a ⌝ }
+    ensures rules { λ r. ⌜ ((h : List Given) → a ≡ accountBy (judged h) → r ≡ marks (judged h)) ⌝ }
+{
+    account::marks_of(a)
+}
+
+#[no_mangle]
+pub extern "C" fn aoc_pending_of(a: account::Account) -> account::Pending
+    ensures one { λ r. ⌜ r ≡ pendingOf (requestsOf (a .status)) ⌝ }
+    ensures rules { λ r. ⌜ ((h : List Given) → a ≡ accountBy (judged h) → r ≡ pendingOf (requests (judged h))) ⌝ }
+{
+    account::pending_of(a)
+}
+
+#[no_mangle]
+pub extern "C" fn aoc_phase_of(a: account::Account) -> u8
+    ensures one { λ r. ⌜ r ≡ a .status .phase ⌝ }
+    ensures rules { λ r. ⌜ ((h : List Given) → a ≡ accountBy (judged h) → r ≡ phase (judged h)) ⌝ }
+{
+    account::phase_of(a)
+}

@@ -1,0 +1,48 @@
+use borrow.Author.Tests.{eq-eqb, ne-eqb}
+use Rattle.same.specs.Same.{sameOf}
+use borrow.Author.Needs.{needs}
+use Rattle.same.proofs.same.Statement.{statement}
+use Rattle.same.proofs.same.Tie as tie
+
+returns : tie.Need-returns
+unfolding sameOf
+returns c = simp (ne-eqb _ _ (c .if1 .taken))
+
+returns-2 : tie.Need-returns-2
+unfolding sameOf
+returns-2 c = simp (eq-eqb _ _ (c .before .before .if1 .left), eq-eqb _ _ (c .if2 .taken))
+
+same-money-requires : tie.Need-same-money-requires
+same-money-requires c κs = search needs
+
+returns-3 : tie.Need-returns-3
+unfolding sameOf
+returns-3 c = simp (eq-eqb _ _ (c .before .before .before .before .before .before .before .if1 .left), ne-eqb _ _ (c .before .before .before .before .before .if2 .left), eq-eqb _ _ (c .before .before .before .if3 .taken)) (c .same-money .ensures)
+
+returns-4 : tie.Need-returns-4
+unfolding sameOf
+returns-4 c = simp (eq-eqb _ _ (c .before .before .before .before .before .before .before .before .before .if1 .left), ne-eqb _ _ (c .before .before .before .before .before .before .before .if2 .left), ne-eqb _ _ (c .before .before .before .before .before .if3 .left), eq-eqb _ _ (c .before .before .before .if4 .taken), ne-eqb _ _ (c .if5 .taken))
+
+same-entries-requires : tie.Need-same-entries-requires
+same-entries-requires c κs = search needs
+
+returns-5 : tie.Need-returns-5
+unfolding sameOf
+returns-5 c = simp (eq-eqb _ _ (c .before .before .before .before .before .before .before .before .before .before .before .before .if1 .left), ne-eqb _ _ (c .before .before .before .before .before .before .before .before .before .before .if2 .left), ne-eqb _ _ (c .before .before .before .before .before .before .before .before .if3 .left), eq-eqb _ _ (c .before .before .before .before .before .before .if4 .taken), eq-eqb _ _ (c .before .before .before .if5 .left)) (c .same-entries .ensures)
+
+returns-6 : tie.Need-returns-6
+unfolding sameOf
+returns-6 c = simp (eq-eqb _ _ (c .before .before .before .before .before .before .if1 .left), ne-eqb _ _ (c .before .before .before .before .if2 .left), ne-eqb _ _ (c .before .before .if3 .left), ne-eqb _ _ (c .if4 .left))
+
+pub same-spec : {M : Type 1} → statement M
+same-spec =
+    tie.close
+    (tie.spec
+    returns
+    returns-2
+    same-money-requires
+    returns-3
+    returns-4
+    same-entries-requires
+    returns-5
+    returns-6)

@@ -1,0 +1,46 @@
+-- When two finals are the same: both free; or equal currency octets and thousandths; or equal unit lists, entry by entry.
+-- Billing and association are not compared.
+use Prim.Native.Nat.{ℕ, zero, suc, _*_}
+use mathlib.Core.Bool.{Bool, true, false, _&&_}
+use lib.ListN.{getD}
+use lib.Dec.{eqb, leb}
+use Rattle.coding.specs.Reader.{if_then_else}
+use Rattle.values.specs.Amounts.{powers}
+use Rattle.types.specs.Entries.{unitAt, sameUnits}
+use Rattle.types.specs.declared.Currency.{Currency}
+use Rattle.types.specs.declared.Money.{Money}
+use Rattle.types.specs.declared.Entries.{Entries}
+use Rattle.types.specs.declared.Charge.{Charge}
+
+-- a test passes at each number below n
+abbrev pub each : ℕ → (ℕ → Bool) → Bool
+each zero t = true
+each (suc n) t = each n t && t n
+
+-- how many places a count uses, of those there are
+abbrev pub upTo : ℕ → ℕ → ℕ
+upTo most n = if_then_else (leb n most) n most
+
+-- an amount in thousandths
+abbrev pub thousandths : Money → ℕ
+thousandths m = m .number * getD powers (m .multiplier) 0
+
+-- equal counts, and equal octets over the count
+unfoldable pub sameCurrency : Currency → Currency → Bool
+sameCurrency c d =
+    eqb (c .count) (d .count) && each (upTo 10 (c .count)) (λ i. eqb (getD (c .octets) i 0) (getD (d .octets) i 0))
+
+unfoldable pub sameMoney : Money → Money → Bool
+sameMoney m n = eqb (thousandths m) (thousandths n) && sameCurrency (m .currency) (n .currency)
+
+-- equal entries over a count
+unfoldable pub sameEntries : Entries → Entries → ℕ → Bool
+sameEntries e f n = each (upTo 32 n) (λ i. sameUnits (unitAt e i) (unitAt f i))
+
+-- kinds: 1 free, 2 money, 3 units
+unfoldable pub sameOf : Charge → Charge → Bool
+sameOf a b =
+    eqb (a .figure .kind) (b .figure .kind)
+    && if_then_else (eqb (a .figure .kind) 1) true
+    (if_then_else (eqb (a .figure .kind) 2) (sameMoney (a .figure .money) (b .figure .money))
+    (eqb (a .figure .kind) 3 && (eqb (a .figure .count) (b .figure .count) && sameEntries (a .entries) (b .entries) (a .figure .count))))

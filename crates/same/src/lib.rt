@@ -1,0 +1,96 @@
+// When two finals of a call are the same. Every value of the structs has its answer: a count past its array counts as the array's length.
+use types::Charge;
+use types::Currency;
+use types::Entries;
+use types::Money;
+ghost use mathlib.Core.Path.{_≡_};
+ghost use Prim.Native.Nat.{_≤_};
+ghost use Rattle.same.specs.Same.{upTo, sameCurrency, sameMoney, sameEntries, sameOf};
+
+// How many places a count uses, of those there are.
+fn places(count: u8, most: usize) -> usize
+    ensures { λ r. ⌜ (r ≡ upTo most count) × (r ≤ most) ⌝ }
+{
+    let n = count as usize;
+    if n <= most { n } else { most }
+}
+
+fn same_currency(a: Currency, b: Currency) -> bool
+    ensures { λ r. ⌜ r ≡ sameCurrency a b ⌝ }
+{
+    if a.count != b.count {
+        return false;
+    }
+    let n = places(a.count, 10);
+    let mut i: usize = 0;
+    while i < n {
+        if a.octets[i] != b.octets[i] {
+            return false;
+        }
+        i += 1;
+    }
+    true
+}
+
+fn same_money(a: Money, b: Money) -> bool
+    ensures { λ r. ⌜ r ≡ sameMoney a b ⌝ }
+{
+    let x = values::thousandths(a.number, a.multiplier);
+    let y = values::thousandths(b.number, b.multiplier);
+    if x != y {
+        return false;
+    }
+    let c = a.currency;
+    let d = b.currency;
+    same_currency(c, d)
+}
+
+// The first entries of two lists of units.
+fn same_entries(a: Entries, b: Entries, count: u8) -> bool
+    ensures { λ r. ⌜ r ≡ sameEntries a b count ⌝ }
+{
+    let n = places(count, 32);
+    let mut i: usize = 0;
+    while i < n {
+        let at = 2 * i;
+        let next = at + 1;
+        if a.numbers[i] != b.numbers[i] {
+            return false;
+        }
+        if a.octets[at] != b.octets[at] {
+            return false;
+        }
+        if a.octets[next] != b.octets[next] {
+            return false;
+        }
+        i += 1;
+    }
+    true
+}
+
+pub fn same(a: Charge, b: Charge) -> bool
+    ensures { λ r. ⌜ r ≡ sameOf a b ⌝ }
+{
+    let f = a.figure;
+    let g = b.figure;
+    if f.kind != g.kind {
+        return false;
+    }
+    if f.kind == 1 {
+        return true;
+    }
+    if f.kind == 2 {
+        let m = f.money;
+        let n = g.money;
+        return same_money(m, n);
+    }
+    if f.kind == 3 {
+        if f.count != g.count {
+            return false;
+        }
+        let x = a.entries;
+        let y = b.entries;
+        return same_entries(x, y, f.count);
+    }
+    false
+}

@@ -1,0 +1,234 @@
+/* A small host: takes a night's events of some calls, steps their accounts, and prints what is to be posted to each room and
+ * which calls need a clerk.
+ *
+ * A line of the input is: time, room, call, event. Events:
+ *   setup [S] [D] [E]   the call is set up, with a request for each service named
+ *   connect, clear, released
+ *   facility OCTETS     a Facility element of a message from the network, as hex octets
+ * An empty line and one that begins with # say nothing. */
+#include <stdio.h>
+#include <stdlib.h>
+#include <string.h>
+
+#include "aoc.h"
+
+enum { MOST_CALLS = 64, WORD = 16, LONGEST_ELEMENT = 257 };
+
+struct call {
+    char room[WORD];
+    unsigned number;
+    aoc_account account;
+};
+
+static struct call calls[MOST_CALLS];
+static size_t count;
+static uint16_t last_identifier;
+
+static struct call *call_of(const char *room, unsigned number)
+{
+    for (size_t i = 0; i < count; i++)
+        if (calls[i].number == number && !strcmp(calls[i].room, room))
+            return &calls[i];
+    if (count == MOST_CALLS)
+        return NULL;
+    struct call *call = &calls[count++];
+    snprintf(call->room, sizeof call->room, "%s", room);
+    call->number = number;
+    call->account = aoc_fresh();
+    return call;
+}
+
+/* ------------------------------------------------------------------ events */
+
+static aoc_outcome set_up(struct call *call, const char *services)
+{
+    aoc_services asked = aoc_no_services();
+    aoc_identifiers ids = aoc_three_identifiers(last_identifier);
+    for (; *services; services++)
+        asked = aoc_with_service(asked, *services == 'S' ? AOC_S : *services == 'D' ? AOC_D : *services == 'E' ? AOC_E : AOC_NO_SERVICE);
+    last_identifier = ids.e;
+    return aoc_setup(&call->account, asked, ids);
+}
+
+static void print_octets(const uint8_t *octets, size_t n)
+{
+    for (size_t i = 0; i < n; i++)
+        printf(" %02X", octets[i]);
+    putchar('\n');
+}
+
+/* One component: the account takes it, and where it is refused the network may be owed a reject. */
+static void take_component(struct call *call, const char *time, const uint8_t *octets, size_t n)
+{
+    aoc_outcome outcome = aoc_component(&call->account, octets, n);
+    if (outcome.number == AOC_WRONG_PHASE) {
+        printf("%s  room %s  call %u  a component came in no call\n", time, call->room, call->number);
+    } else if (outcome.number < AOC_NEW_RATE) {
+        uint8_t reject[AOC_LONGEST_REPLY];
+        aoc_written reply = aoc_reply(octets, n, reject, sizeof reject);
+        printf("%s  room %s  call %u  refused %u%s", time, call->room, call->number, outcome.number,
+               reply.count ? ", sent back" : "");
+        print_octets(reject, reply.count);
+    }
+}
+
+static void take_element(struct call *call, const char *time, const char *hex)
+{
+    uint8_t octets[LONGEST_ELEMENT + 1];
+    size_t n = 0;
+    unsigned octet;
+    for (int used; n < sizeof octets && sscanf(hex, " %2x%n", &octet, &used) == 1; hex += used)
+        octets[n++] = (uint8_t)octet;
+    aoc_starts found = aoc_element(octets, n);
+    if (found.number)
+        printf("%s  room %s  call %u  a malformed Facility element\n", time, call->room, call->number);
+    for (unsigned i = 0; i < found.count; i++) {
+        size_t from = found.starts[i], to = i + 1 < found.count ? found.starts[i + 1] : n;
+        take_component(call, time, octets + from, to - from);
+    }
+}
+
+static void take_line(const char *line)
+{
+    char time[WORD], room[WORD], event[WORD];
+    unsigned number;
+    int used = 0;
+    if (sscanf(line, "%15s %15s %u %15s%n", time, room, &number, event, &used) < 4 || *time == '#')
+        return;
+    struct call *call = call_of(room, number);
+    if (!call) {
+        printf("%s  room %s  call %u  no place for this call\n", time, room, number);
+        return;
+    }
+    aoc_outcome outcome = {0, 0};
+    if (!strcmp(event, "setup"))
+        outcome = set_up(call, line + used);
+    else if (!strcmp(event, "connect"))
+        outcome = aoc_connect(&call->account);
+    else if (!strcmp(event, "clear"))
+        outcome = aoc_clear(&call->account);
+    else if (!strcmp(event, "released"))
+        outcome = aoc_released(&call->account);
+    else if (!strcmp(event, "facility"))
+        take_element(call, time, line + used);
+    else
+        printf("%s  room %s  call %u  no such event: %s\n", time, room, number, event);
+    if (outcome.number)
+        printf("%s  room %s  call %u  %s refused %u\n", time, room, number, event, outcome.number);
+}
+
+/* ------------------------------------------------------------------ figures */
+
+static void print_money(const aoc_money *money)
+{
+    uint64_t value = aoc_thousandths(money->number, money->multiplier);
+    for (int i = 0; i < money->currency.count; i++) {
+        uint8_t c = money->currency.octets[i];
+        putchar(c >= 0x20 && c < 0x7F ? c : '?');
+    }
+    printf(" %llu.%03llu", (unsigned long long)(value / 1000), (unsigned long long)(value % 1000));
+}
+
+static void print_units(const aoc_charge *charge)
+{
+    for (int i = 0; i < charge->count; i++) {
+        if (i)
+            printf(", ");
+        if (charge->units[i].known)
+            printf("%u units", (unsigned)charge->unit_numbers[i]);
+        else
+            printf("units not available");
+        if (charge->units[i].type)
+            printf(" of type %u", charge->units[i].type);
+    }
+}
+
+static void print_charge(const aoc_charge *charge)
+{
+    if (charge->kind == AOC_FREE)
+        printf("free");
+    else if (charge->kind == AOC_MONEY)
+        print_money(&charge->money);
+    else if (charge->kind == AOC_UNITS)
+        print_units(charge);
+}
+
+/* ------------------------------------------------------------------ the morning */
+
+static int same_room(const void *a, const void *b)
+{
+    const struct call *p = a, *q = b;
+    int order = strcmp(p->room, q->room);
+    return order ? order : p->number < q->number ? -1 : p->number > q->number;
+}
+
+static void print_postings(void)
+{
+    puts("To post");
+    for (size_t i = 0; i < count; i++) {
+        aoc_closing closing = aoc_closing_of(calls[i].account);
+        if (closing.service == AOC_NO_SERVICE)
+            continue;
+        printf("  room %s  call %u  ", calls[i].room, calls[i].number);
+        print_charge(&closing.charge);
+        putchar('\n');
+    }
+}
+
+static void print_services(const char *text, aoc_services set)
+{
+    static const char names[] = " SDE";
+    int any = 0;
+    for (uint8_t service = AOC_S; service <= AOC_E; service++)
+        if (aoc_has_service(set, service))
+            printf("%s %c", any++ ? "," : text, names[service]);
+}
+
+/* Why a clerk has to look at a call, as far as its account knows; nothing where there is no need. */
+static void print_reasons(const struct call *call)
+{
+    static const char *const phases[] = {"not set up", "being set up", "connected", "clearing"};
+    aoc_closing closing = aoc_closing_of(call->account);
+    aoc_charge running = aoc_running_of(call->account);
+    aoc_marks marks = aoc_marks_of(call->account);
+    uint8_t phase = aoc_phase_of(call->account);
+    int conflict = aoc_has_service(marks.conflict, AOC_D) || aoc_has_service(marks.conflict, AOC_E);
+    int incomplete = 0;
+    for (int i = 0; closing.charge.kind == AOC_UNITS && i < closing.charge.count; i++)
+        incomplete |= !closing.charge.units[i].known;
+    if (closing.service != AOC_NO_SERVICE && !conflict && !incomplete)
+        return;
+
+    printf("  room %s  call %u  ", call->room, call->number);
+    if (phase < AOC_ENDED)
+        printf("still open (%s)", phases[phase]);
+    else if (closing.service == AOC_NO_SERVICE)
+        printf("no final");
+    else if (incomplete)
+        printf("units not available in the final");
+    else
+        printf("posted by the first final");
+    print_services(", another one differs:", marks.conflict);
+    if (closing.service == AOC_NO_SERVICE) {
+        print_services(", told not available:", marks.absent);
+        print_services(", request not answered:", aoc_pending_of(call->account).asked);
+        if (running.kind != AOC_NO_CHARGE) {
+            printf(", last running figure ");
+            print_charge(&running);
+        }
+    }
+    putchar('\n');
+}
+
+int main(void)
+{
+    static char line[2048];
+    while (fgets(line, sizeof line, stdin))
+        take_line(line);
+    qsort(calls, count, sizeof *calls, same_room);
+    print_postings();
+    puts("For the clerk");
+    for (size_t i = 0; i < count; i++)
+        print_reasons(&calls[i]);
+    return 0;
+}

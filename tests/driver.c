@@ -1,0 +1,225 @@
+/* Answers the lines of second/answer.py through the C library, one for one and in its words. What no answer shows is
+ * tested here too: that no octet past those written is touched, and that what is unused is zero. A fault of that kind is
+ * added to the answer, so that it differs. */
+#define _GNU_SOURCE
+#include "aoc.h"
+#include <stdio.h>
+#include <stdlib.h>
+#include <string.h>
+
+enum { WIDEST = 1 << 20, GUARD = 16, MARK = 0xA5 };
+
+static char line[WIDEST];
+static uint8_t octets[WIDEST / 2], buffer[WIDEST];
+
+static int digit(char c)
+{
+    return c >= '0' && c <= '9' ? c - '0' : c >= 'a' && c <= 'f' ? c - 'a' + 10 : -1;
+}
+
+/* The octets of a hex text, which ends at the first other character. */
+static size_t unhex(const char *text, uint8_t *to)
+{
+    size_t n = 0;
+    for (; digit(text[0]) >= 0 && digit(text[1]) >= 0; text += 2)
+        to[n++] = (uint8_t)(digit(text[0]) << 4 | digit(text[1]));
+    return n;
+}
+
+static void put_hex(const void *from, size_t n)
+{
+    static const char digits[] = "0123456789abcdef";
+    static char text[WIDEST];
+    const uint8_t *o = from;
+    for (size_t i = 0; i < n; i++) {
+        text[2 * i] = digits[o[i] >> 4];
+        text[2 * i + 1] = digits[o[i] & 15];
+    }
+    fwrite(text, 1, 2 * n, stdout);
+}
+
+static int all(const void *from, size_t n, uint8_t value)
+{
+    const uint8_t *o = from;
+    for (size_t i = 0; i < n; i++)
+        if (o[i] != value)
+            return 0;
+    return 1;
+}
+
+static void answer_read(const char *rest)
+{
+    aoc_answer a = aoc_read(octets, unhex(rest, octets));
+    printf("%u ", (unsigned)a.number);
+    put_hex(&a.record, sizeof a.record);
+}
+
+/* What was written into the buffer, which lies between two guards. */
+static void answer_written(aoc_written w, size_t room)
+{
+    uint8_t *at = buffer + GUARD;
+    printf("%u %u ", (unsigned)w.number, (unsigned)w.count);
+    put_hex(at, w.count);
+    if (w.count > room || (w.number && w.count) || !all(buffer, GUARD, MARK) ||
+        !all(at + w.count, room - w.count + GUARD, MARK))
+        fputs(" touched", stdout);
+}
+
+static void answer_write(const char *rest)
+{
+    char *next;
+    aoc_record r;
+    size_t room = strtoul(rest, &next, 10);
+    if (unhex(next + 1, octets) != sizeof r) {
+        fputs("not a record", stdout);
+        return;
+    }
+    memcpy(&r, octets, sizeof r);
+    memset(buffer, MARK, room + 2 * GUARD);
+    answer_written(aoc_write(r, buffer + GUARD, room), room);
+}
+
+static void answer_reply(const char *rest)
+{
+    char *next;
+    size_t room = strtoul(rest, &next, 10);
+    size_t n = unhex(next + 1, octets);
+    memset(buffer, MARK, room + 2 * GUARD);
+    answer_written(aoc_reply(octets, n, buffer + GUARD, room), room);
+}
+
+static void answer_element(const char *rest)
+{
+    aoc_starts s = aoc_element(octets, unhex(rest, octets));
+    printf("%u %u ", s.number, s.count);
+    for (int i = 0; i < s.count && i < AOC_MOST_COMPONENTS; i++)
+        printf(i ? ",%u" : "%u", s.starts[i]);
+    if (s.count > AOC_MOST_COMPONENTS || !all(s.starts + s.count, AOC_MOST_COMPONENTS - s.count, 0))
+        fputs(" not zero", stdout);
+}
+
+static void answer_thousandths(const char *rest)
+{
+    char *next;
+    uint32_t number = (uint32_t)strtoul(rest, &next, 10);
+    printf("%llu", (unsigned long long)aoc_thousandths(number, (uint8_t)strtoul(next, &next, 10)));
+}
+
+static uint32_t crc(const void *from, size_t n)
+{
+    static uint32_t table[256];
+    if (!table[1])
+        for (uint32_t i = 0; i < 256; i++) {
+            uint32_t c = i;
+            for (int k = 0; k < 8; k++)
+                c = c & 1 ? c >> 1 ^ 0xEDB88320 : c >> 1;
+            table[i] = c;
+        }
+    const uint8_t *o = from;
+    uint32_t c = ~0u;
+    for (size_t i = 0; i < n; i++)
+        c = table[(c ^ o[i]) & 255] ^ c >> 8;
+    return ~c;
+}
+
+static void put_figure(const aoc_charge *c)
+{
+    if (c->kind == AOC_NO_CHARGE)
+        fputs(all(c, sizeof *c, 0) ? ",-" : ",not zero", stdout);
+    else
+        printf(",%08x", (unsigned)crc(c, sizeof *c));
+}
+
+static unsigned bits(aoc_services set)
+{
+    unsigned of_s = aoc_has_service(set, AOC_S), of_d = aoc_has_service(set, AOC_D), of_e = aoc_has_service(set, AOC_E);
+    return of_s | of_d << 1 | of_e << 2;
+}
+
+static aoc_outcome setup(aoc_account *account, const char *text)
+{
+    aoc_services asked = aoc_no_services();
+    aoc_identifiers ids = {0, 0, 0};
+    uint16_t *id[] = {&ids.s, &ids.d, &ids.e};
+    for (uint8_t service = AOC_S; service <= AOC_E; service++) {
+        char *next = (char *)text + 1;
+        if (*text != '-') {
+            *id[service - AOC_S] = (uint16_t)strtoul(text, &next, 10);
+            asked = aoc_with_service(asked, service);
+        }
+        text = next + 1;
+    }
+    return aoc_setup(account, asked, ids);
+}
+
+static aoc_outcome do_event(aoc_account *account, const char *text)
+{
+    switch (*text) {
+    case 'S':
+        return setup(account, text + 2);
+    case 'C':
+        return aoc_connect(account);
+    case 'X':
+        return aoc_clear(account);
+    case 'L':
+        return aoc_released(account);
+    default:
+        return aoc_component(account, octets, unhex(text + 1, octets));
+    }
+}
+
+static void answer_account(const char *rest)
+{
+    aoc_account account = aoc_fresh();
+    while (*rest) {
+        aoc_outcome outcome = do_event(&account, rest);
+        aoc_charge rate = aoc_rate_of(account), running = aoc_running_of(account);
+        aoc_closing closing = aoc_closing_of(account);
+        aoc_marks marks = aoc_marks_of(account);
+        printf("%u,%u", outcome.number, aoc_phase_of(account));
+        put_figure(&rate);
+        put_figure(&running);
+        put_figure(&closing.charge);
+        printf(",%u,%u", bits(marks.absent) | bits(marks.conflict) << 2, bits(aoc_pending_of(account).asked));
+        rest = strchr(rest, ';');
+        if (!rest)
+            return;
+        putchar(*rest++);
+    }
+}
+
+int main(void)
+{
+    while (fgets(line, sizeof line, stdin)) {
+        size_t n = strlen(line);
+        if (n < 3 || line[n - 1] != '\n') {
+            fputs("driver: a line is cut or too long\n", stderr);
+            return 1;
+        }
+        line[n - 1] = 0;
+        switch (line[0]) {
+        case 'R':
+            answer_read(line + 2);
+            break;
+        case 'W':
+            answer_write(line + 2);
+            break;
+        case 'E':
+            answer_element(line + 2);
+            break;
+        case 'J':
+            answer_reply(line + 2);
+            break;
+        case 'T':
+            answer_thousandths(line + 2);
+            break;
+        case 'A':
+            answer_account(line + 2);
+            break;
+        default:
+            fputs("not a line", stdout);
+        }
+        putchar('\n');
+    }
+    return 0;
+}

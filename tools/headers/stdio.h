@@ -1,0 +1,15 @@
+/* What tests and examples use of C's header, as x86-64 Linux has it: see tools/cc. */
+#pragma once
+#include <stddef.h>
+typedef struct _IO_FILE FILE;
+extern FILE *stdin, *stdout, *stderr;
+FILE *fopen(const char *, const char *);
+char *fgets(char *, int, FILE *);
+size_t fwrite(const void *, size_t, size_t, FILE *);
+int fputs(const char *, FILE *);
+int puts(const char *);
+int putchar(int);
+int printf(const char *, ...);
+int fprintf(FILE *, const char *, ...);
+int snprintf(char *, size_t, const char *, ...);
+int sscanf(const char *, const char *, ...);

@@ -1,0 +1,9 @@
+/* What tests and examples use of C's header, as x86-64 Linux has it: see tools/cc. */
+#pragma once
+#include <stddef.h>
+size_t strlen(const char *);
+char *strchr(const char *, int);
+int strcmp(const char *, const char *);
+int memcmp(const void *, const void *, size_t);
+void *memcpy(void *, const void *, size_t);
+void *memset(void *, int, size_t);
