@@ -196,7 +196,7 @@ fn value_in(s: &[u8], start: usize, stop: usize, frame: u8) -> coding::Verdict
     coding::Verdict { fault, value: 0 }
 }
 
-fn value_at(s: &[u8], at: usize, end: usize, frame: u8) -> coding::NumberRead
+fn value_long(s: &[u8], at: usize, end: usize, frame: u8) -> coding::NumberRead
     requires { ⌜ end ≤ length (now s) ⌝ }
     ensures { λ r. ⌜ (r .fault, r .place, r .value, r .next) ≡ shown 0 ((value (unknownIn frame) (knownIn frame)) .read (now (s .entry)) at end) ⌝ }
     ensures bounded { λ r. ⌜ r .value < 256 ⌝ }
@@ -234,6 +234,26 @@ fn value_at(s: &[u8], at: usize, end: usize, frame: u8) -> coding::NumberRead
         value: v.value,
         next: e.next,
     }
+}
+
+// The same, where the value is a known one of one octet at once.
+fn value_at(s: &[u8], at: usize, end: usize, frame: u8) -> coding::NumberRead
+    requires { ⌜ end ≤ length (now s) ⌝ }
+    ensures { λ r. ⌜ (r .fault, r .place, r .value, r .next) ≡ shown 0 ((value (unknownIn frame) (knownIn frame)) .read (now (s .entry)) at end) ⌝ }
+    ensures bounded { λ r. ⌜ r .value < 256 ⌝ }
+{
+    let x = coding::tiny(s, at, end, 0x02) as u32;
+    if x < 128 {
+        if is_known(frame, x) {
+            return coding::NumberRead {
+                fault: 0,
+                place: 0,
+                value: x,
+                next: at + 3,
+            };
+        }
+    }
+    value_long(s, at, end, frame)
 }
 
 // ---- heads
