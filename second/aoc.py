@@ -1,6 +1,6 @@
 """Advice of Charge: components, Facility element, reject in reply, one call's account.
 
-Written from document 01 (and READINGS.md where 01 can be read two ways) and from
+Written from document 01 (and its readings, docs/DECISIONS.md part 1, where it can be read two ways) and from
 nothing else, so that its answers can be compared with those of the proved library.
 """
 
