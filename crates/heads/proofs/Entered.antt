@@ -22,7 +22,7 @@ use Rattle.types.specs.Frames.{outside, refused, answered, component, frame, in
 use Rattle.heads.specs.Heads.{numberCode, contentsOf}
 use Rattle.heads.proofs.Answers.{goes, refuses}
 
-abbrev tags : List ℕ
+abbrev pub tags : List ℕ
 tags = 0xa1 ∷ 0xa2 ∷ 0xa3 ∷ 0xa4 ∷ []
 
 blamed-got : {A : Type 0} (m : Fault → Fault) (r : Ans A) {x : A} {n : ℕ} → blamed m r ≡ got x n → r ≡ got x n
@@ -31,7 +31,8 @@ blamed-got m (got v k) e = e
 blamed-got m (halt w p) e = absurd (never e)
 
 -- it ends where the octets end, and so do its contents
-entered-ends : (s : List ℕ) (x : Extent) (n : ℕ) → enteredAny tags outside (named 5) s 0 (length s) ≡ got x n → (x .stop ≡ length s) × (n ≡ length s)
+pub entered-ends : (s : List ℕ) (x : Extent) (n : ℕ) → enteredAny tags outside (named 5) s 0 (length s) ≡ got x n
+    → (x .stop ≡ length s) × (n ≡ length s) × (x .start ≤ length s)
 unfolding enteredAny opened choice
 entered-ends s x n r =
     let p = failing (leb (length s) 0) _ _ _ r in
@@ -40,7 +41,7 @@ entered-ends s x n r =
     let e = eqb-true (b .1) (length s) (t .0) in
     let l = blamed-got outside (lengthAt 0 s 1 (length s)) (b .2) in
     let o = opened-sound (getD s 0 0) s 0 (length s) (b .0) (b .1) (picked _ _ (tagged-yes s 0 (length s) (getD s 0 0) (leb-false (length s) 0 (p .0)) refl) ∙ l) in
-    same-got (λ y k. (y .stop ≡ length s) × (k ≡ length s)) (t .1) (o .1 ∙ e, e)
+    same-got (λ y k. (y .stop ≡ length s) × (k ≡ length s) × (y .start ≤ length s)) (t .1) (o .1 ∙ e, e, omega (arith, o .0 .2, e))
 
 pub read-long : (s : List ℕ) → 254 < length s → refused 3 ≡ readOf s
 unfolding readOf

@@ -321,7 +321,7 @@ fn result_head(s: &[u8], start: usize) -> Head
     if e.fault != 0 {
         return no_head(number_of(e.fault));
     }
-    let o = value_at(s, e.value.start, e.value.stop, 2);
+    let o = value_long(s, e.value.start, e.value.stop, 2);
     if o.fault != 0 {
         return no_head(number_of(o.fault));
     }

@@ -8,13 +8,14 @@ use mathlib.Core.Logic.{_⊎_, inl, inr}
 use mathlib.Core.List.{List, [], _∷_, _++_, append-nil}
 use lib.ListN.{length, length-append}
 use lib.Dec.{ltb, leb, eqb}
-use borrow.Author.Tests.{eq-eqb, ltb-true}
+use borrow.Author.Tests.{eq-eqb, ltb-true, le-leb}
 use Rattle.coding.specs.Reader.{Ans, if_then_else, after, enteredAny}
 use Rattle.coding.specs.Reader.Ans.{got, halt}
 use Rattle.coding.specs.Reader.Fault.{named}
 use Rattle.coding.specs.Codec.{prim}
 use Rattle.coding.specs.Leaves.{identifier}
 use Rattle.coding.specs.Written.{lead, fullNumber}
+use Rattle.coding.specs.declared.Extent.{Extent}
 use Rattle.coding.proofs.Basic.{and-left, and-right, and-both}
 use Rattle.coding.proofs.Laws.{Octets}
 use Rattle.coding.proofs.Combine.{primLaws}
@@ -30,7 +31,9 @@ use Rattle.fronts.specs.Fronts.{frontFine, frontBy, frontOctets, idOctets, prob
 use Rattle.writer.specs.Parts.{frontOf, bodyOf}
 use Rattle.writer.proofs.Valid.{valid-parts}
 use Rattle.writer.proofs.Octets.{write-parts}
-use Rattle.reply.specs.Reply.{valueOr0, identifierOf, firstOf, replyBy, replyTo}
+use Rattle.writer.specs.Outcome.{done, no, writeOf}
+use Rattle.heads.proofs.Entered.{tags, entered-ends}
+use Rattle.reply.specs.Reply.{valueOr0, identifierOf, firstOf, isSilent, replyBy, replyTo, replyOf}
 
 -- a reject of a problem that there is, to NULL or to an identifier
 module _ (tag d : ℕ) (p : problemFine tag d ≡ true) (l : d < 128) where
@@ -88,3 +91,46 @@ replies n first i s =
 -- so it is read back
 pub reply-reads-back : (n first i : ℕ) → i < 0x10000 → readOf (component .write (replyBy n first i)) ≡ accepted (replyBy n first i)
 reply-reads-back n first i s = let r = replies n first i s in reads-back (replyBy n first i) (r .0) (omega (arith, r .1))
+
+-- ---- of any octets: the identifier has 16 bits, so the reply may be written, is short, and is refused 12 or not at all
+
+id-of-read : (s : List ℕ) (a e i m : ℕ) → Octets s → a ≤ e → e ≤ length s → (prim 0x02 identifier) .read s a e ≡ got i m → i < 0x10000
+unfolding prim identifier
+id-of-read s a e i m os ae es q =
+    let L = primLaws 0x02 identifier identifierLaws in
+    ltb-true i 0x10000 (L .fine s a m i (L .sound s a e m i os ae es q .1))
+
+small-read : (s : List ℕ) (a e : ℕ) → Octets s → a ≤ e → e ≤ length s → (r : Ans ℕ) → (prim 0x02 identifier) .read s a e ≡ r → valueOr0 r < 0x10000
+small-read s a e os ae es (got i m) q = id-of-read s a e i m os ae es q
+small-read s a e os ae es (halt w p) q = omega arith
+
+small-entered : (s : List ℕ) → Octets s → (r : Ans Extent) → enteredAny tags outside (named 5) s 0 (length s) ≡ r
+    → valueOr0 (after r (λ x next. (prim 0x02 identifier) .read s (x .start) (x .stop))) < 0x10000
+unfolding after
+small-entered s os (got x n) q =
+    let z = entered-ends s x n q in
+    small-read s (x .start) (x .stop) os (omega (arith, z .0, z .2)) (omega (arith, z .0)) ((prim 0x02 identifier) .read s (x .start) (x .stop)) refl
+small-entered s os (halt w p) q = omega arith
+
+pub identifier-small : (s : List ℕ) → Octets s → identifierOf s < 0x10000
+unfolding identifierOf
+identifier-small s os = small-entered s os (enteredAny tags outside (named 5) s 0 (length s)) refl
+
+pub reply-sent : (s : List ℕ) → Octets s → Sent (replyTo s)
+unfolding replyTo
+reply-sent s os = replies (readOf s .number) (firstOf s) (identifierOf s) (identifier-small s os)
+
+pub only-12 : (s : List ℕ) (room : ℕ) → Octets s → (replyOf s room .number ≡ 0) ⊎ (replyOf s room .number ≡ 12)
+unfolding replyOf writeOf
+only-12 s room os =
+    let q = reply-sent s os in
+    go (isSilent s) (leb (length (component .write (replyTo s))) room) (q .0) (le-leb (length (component .write (replyTo s))) 254 (omega (arith, q .1)))
+  where
+    go : (a f : Bool) → component .valid (replyTo s) ≡ true → leb (length (component .write (replyTo s))) 254 ≡ true
+        → ((if_then_else a (done 0) (if_then_else (component .valid (replyTo s)) (if_then_else (leb (length (component .write (replyTo s))) 254)
+        (if_then_else f (done (length (component .write (replyTo s)))) (no 12)) (no 11)) (no 10))) .number ≡ 0)
+        ⊎ ((if_then_else a (done 0) (if_then_else (component .valid (replyTo s)) (if_then_else (leb (length (component .write (replyTo s))) 254)
+        (if_then_else f (done (length (component .write (replyTo s)))) (no 12)) (no 11)) (no 10))) .number ≡ 12)
+    go true f v l = inl refl
+    go false true v l = inl (rw (v, l))
+    go false false v l = inr (rw (v, l))

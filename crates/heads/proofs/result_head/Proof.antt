@@ -45,8 +45,8 @@ returns-2 c = (
   rw (c .no-head2 .ensures) (omega arith),
 )
 
-value-at-requires : tie.Need-value-at-requires
-value-at-requires c κs = search needs
+value-long-requires : tie.Need-value-long-requires
+value-long-requires c κs = search needs
 
 number-of-requires-3 : tie.Need-number-of-requires-3
 number-of-requires-3 c κs = search needs
@@ -60,7 +60,7 @@ returns-3 c = (
   rw (c .no-head3 .ensures, c .before .number-of3 .ensures)
       (simp flat (goes _ _ _ (c .before .before .before .before .before .before .before .before .before .before .identifier-at .ensures .0) (c .before .before .before .before .before .before .before .before .if1 .left)
       (goes _ _ _ (c .before .before .before .before .before .before .before .open-at .ensures .0) (c .before .before .before .before .before .if2 .left)
-      (refuses _ _ _ (c .before .before .before .before .value-at .ensures .0) (c .before .before .if3 .taken))))),
+      (refuses _ _ _ (c .before .before .before .before .value-long .ensures .0) (c .before .before .if3 .taken))))),
   rw (c .no-head3 .ensures) (omega arith),
 )
 
@@ -75,7 +75,7 @@ unfolding restOf tailOf contentsOf returnResult leads cons constructed
 returns-4 c = (
   simp flat (goes _ _ _ (c .before .before .before .before .before .before .before .before .before .before .identifier-at .ensures .0) (c .before .before .before .before .before .before .before .before .if1 .left)
       (goes _ _ _ (c .before .before .before .before .before .before .before .open-at .ensures .0) (c .before .before .before .before .before .if2 .left)
-      (goes _ _ _ (c .before .before .before .before .value-at .ensures .0) (c .before .before .if3 .left) refl))),
+      (goes _ _ _ (c .before .before .before .before .value-long .ensures .0) (c .before .before .if3 .left) refl))),
   omega arith,
 )
 
@@ -91,7 +91,7 @@ result-head-spec =
     number-of-requires-2
     no-head-requires-2
     returns-2
-    value-at-requires
+    value-long-requires
     number-of-requires-3
     no-head-requires-3
     returns-3
