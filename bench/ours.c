@@ -20,16 +20,17 @@ void start_side(void)
 
 int rewrite(const uint8_t *octets, size_t length, uint8_t *buffer, size_t room)
 {
-    aoc_answer a = aoc_read(octets, length);
-    if (a.number)
+    aoc_answer a;
+    if (aoc_read(octets, length, &a))
         return -1;
-    aoc_written w = aoc_write(a.record, buffer, room);
+    aoc_written w = aoc_write(&a.record, buffer, room);
     return w.number ? -1 : (int)w.count;
 }
 
 static unsigned read_one(long i)
 {
-    aoc_answer a = aoc_read(row[i & 7].octets, row[i & 7].length);
+    aoc_answer a;
+    aoc_read(row[i & 7].octets, row[i & 7].length, &a);
     return a.number + a.record.frame;
 }
 

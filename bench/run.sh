@@ -1,15 +1,25 @@
 #!/bin/sh
 # sh bench/run.sh: what the library and the line program cost, beside libpri and a bare hex echo, in one run.
 # Instructions are callgrind's, from the difference of a run and one twice as long, so that starting up does not count.
+# The archive is for x86-64. On another processor its own LLVM module, and the line program's, are compiled for that one
+# (bench/native.sh), so that both sides run as they are and not under an emulator.
 # COUNT: items counted (default 4000). TIMED: items timed in each of five rounds (default 1000000; 0: no times).
 cd "$(dirname "$0")/.." || exit 2
 count=${COUNT:-4000} timed=${TIMED:-1000000}
-[ "$(uname -m)" = x86_64 ] || { echo "bench: the archive is for x86-64, and this processor is another: nothing is measured"; exit 0; }
 work=$(mktemp -d) || exit 2
 trap 'rm -rf "$work"' EXIT
 
-sh tools/archive && sh tools/cc "$work/ours" bench/bench.c bench/ours.c && gcc -O2 bench/echo.c -o "$work/echo" || exit 1
-[ -x target/bin/lines ] || rt check lines >"$work/log" 2>&1 || echo "bench: the line program is not built"
+sh tools/archive && gcc -O2 bench/echo.c -o "$work/echo" || exit 1
+[ -x target/bin/lines ] || rt check lines >"$work/log" 2>&1 || { echo "bench: the line program is not built"; exit 1; }
+if [ "$(uname -m)" = x86_64 ]; then
+    built="the archive itself" lines=target/bin/lines
+    sh tools/cc "$work/ours" bench/bench.c bench/ours.c || exit 1
+else
+    built="the archive's own module compiled for this processor" lines=$work/lines
+    sh bench/native.sh crate aoc "$work/aoc.o" && sh bench/native.sh c bench/ours.c "$work/side.o" &&
+        gcc -O2 bench/bench.c "$work/side.o" "$work/aoc.o" -o "$work/ours" &&
+        sh bench/native.sh crate lines "$work/lines.o" && gcc "$work/lines.o" -o "$lines" || exit 1
+fi
 libpri=no
 if gcc -O2 bench/bench.c bench/libpri.c -o "$work/libpri" -lpri 2>/dev/null; then
     libpri=yes
@@ -27,7 +37,7 @@ instructions() {
 }
 nanoseconds() { if [ "$timed" -gt 0 ]; then "$work/$1" "$2" "$timed" 5 | cut -d' ' -f1; else echo -; fi; }
 
-echo "x86-64, $(sed -n 's/^model name[^:]*: //p' /proc/cpuinfo | head -n 1), $(nproc) processors, load $(cut -d' ' -f1-3 /proc/loadavg)"
+echo "$(uname -m), $(sed -n 's/^model name[^:]*: //p' /proc/cpuinfo | head -n 1), $(nproc) processors, load $(cut -d' ' -f1-3 /proc/loadavg): $built"
 echo "read and written again, the same octets: ours $("$work/ours" check)$([ $libpri = no ] || echo ", libpri $("$work/libpri" check)")"
 printf '%-34s %12s %12s %8s %10s %10s %8s\n' '' 'ours' 'libpri' '' 'ours' 'libpri' ''
 printf '%-34s %12s %12s %8s %10s %10s %8s\n' 'for each' 'instructions' 'instructions' 'part' 'ns' 'ns' 'part'
@@ -43,7 +53,6 @@ line 'element of eight components' element no
 line 'event of an account' step no
 
 # The line program: the row's components as lines of text.
-[ -x target/bin/lines ] || exit 0
 python3 - "$work" "$count" <<'END' || exit 1
 import sys
 work, count = sys.argv[1], int(sys.argv[2])
@@ -57,7 +66,7 @@ for name, times in (("once", count // 8), ("twice", count // 4), ("long", 100000
         f.write(text * times)
 END
 cmp -s "$work/once" - <<END || { echo "bench: the line program does not echo the row"; exit 1; }
-$(target/bin/lines <"$work/once")
+$("$lines" <"$work/once")
 END
 characters() { # PROGRAM
     once=$(counted "$1" <"$work/once") twice=$(counted "$1" <"$work/twice")
@@ -76,5 +85,5 @@ for _ in range(3):
 print(f"{best * 1e9 / os.path.getsize(sys.argv[2]):.2f}")
 END
 }
-a=$(characters target/bin/lines) b=$(characters "$work/echo") t=$(user target/bin/lines) u=$(user "$work/echo")
+a=$(characters "$lines") b=$(characters "$work/echo") t=$(user "$lines") u=$(user "$work/echo")
 printf '%-34s %12s %12s %8s %10s %10s %8s   (beside a bare hex echo, not libpri)\n' 'character of the line program' "$a" "$b" "$(part "$a" "$b")" "$t" "$u" "$(part "$t" "$u")"

@@ -14,6 +14,7 @@
 #include <stdbool.h>
 #include <stddef.h>
 #include <stdint.h>
+#include <string.h>
 
 #ifdef __cplusplus
 extern "C" {
@@ -365,14 +366,63 @@ typedef struct {
 
 /* ------------------------------------------------------------------ components */
 
-/* Reads one component. The record is what the octets mean, each length in any of its forms; or the number is the first
- * refusal, 1 to 9, and the record is zero. */
-aoc_answer aoc_read(const uint8_t *octets, size_t length);
+/* The next two functions are the library's own, and aoc_read and aoc_write below call them: numbers go by value and arrays are
+ * lent, so that no list is copied. Of what is passed, the front is the record's first 8 octets, the figure its charge's
+ * first 48, and a short answer an answer's first 60. */
+typedef struct {
+    uint8_t frame, unnamed;
+    uint16_t id;
+    uint8_t operation, error, problem, detail;
+} aoc_front;
+
+typedef struct {
+    aoc_money money;
+    aoc_association association;
+    uint8_t kind, total, billed, billing, arrangement, count;
+} aoc_figure;
+
+typedef struct {
+    uint32_t number;
+    aoc_front front;
+    aoc_figure figure;
+} aoc_short_answer;
+
+/* A figure's small numbers: of the association the identifier, the count of digits, the kind and the plan; the count of the
+ * currency's octets; and the rest under its own names. */
+typedef struct {
+    uint16_t id, digits;
+    uint8_t currency, multiplier, party, plan, kind, total, billed, billing, arrangement, count;
+} aoc_outline;
+
+aoc_short_answer aoc_read_into(const uint8_t *octets, size_t length, uint32_t (*numbers)[32], uint8_t (*rows)[192]);
+aoc_written aoc_write_from(aoc_front front, aoc_outline outline, uint32_t number, const uint8_t (*currency)[10],
+                           const uint8_t (*digits)[20], const uint32_t (*numbers)[32], const uint8_t (*rows)[192],
+                           uint8_t *buffer, size_t room);
+
+/* Reads one component into an answer, whatever it holds. The record is what the octets mean, each length in any of its
+ * forms; or the number is the first refusal, 1 to 9, and the record is zero. It returns the number. */
+static inline uint32_t aoc_read(const uint8_t *octets, size_t length, aoc_answer *answer)
+{
+    aoc_charge *charge = &answer->record.charge;
+    aoc_short_answer a = aoc_read_into(octets, length, &charge->numbers, &charge->octets);
+    memcpy(answer, &a, sizeof a);
+    return a.number;
+}
 
 /* Writes a record's shortest form: its octets are the first `count` of the buffer, at most 254, and the others are as they
  * were. Or AOC_BAD_RECORD, AOC_LONG_RECORD, AOC_NO_ROOM, the first that fits, with the whole buffer as it was.
  * A record that was read is never refused AOC_BAD_RECORD or AOC_LONG_RECORD, and what is written reads back as the record. */
-aoc_written aoc_write(aoc_record record, uint8_t *buffer, size_t room);
+static inline aoc_written aoc_write(const aoc_record *record, uint8_t *buffer, size_t room)
+{
+    const aoc_charge *c = &record->charge;
+    const aoc_association *a = &c->association;
+    aoc_front front;
+    memcpy(&front, record, sizeof front);
+    aoc_outline outline = {a->id, a->count, c->money.currency.count, c->money.multiplier, a->kind, a->plan,
+                           c->kind, c->total, c->billed, c->billing, c->arrangement, c->count};
+    return aoc_write_from(front, outline, c->money.number, &c->money.currency.octets, &a->digits, &c->numbers, &c->octets,
+                          buffer, room);
+}
 
 /* The reject to send for the octets of a component, written as aoc_write writes: for one that is refused and does not
  * begin with A4. Otherwise the count is 0: there is nothing to send. Refusal: AOC_NO_ROOM. */
@@ -477,6 +527,10 @@ AOC_LAYOUT(offsetof(aoc_charge, rates) == 176);
 AOC_LAYOUT(sizeof(aoc_record) == 376 && offsetof(aoc_record, id) == 2 && offsetof(aoc_record, operation) == 4);
 AOC_LAYOUT(offsetof(aoc_record, detail) == 7 && offsetof(aoc_record, charge) == 8);
 AOC_LAYOUT(sizeof(aoc_answer) == 380 && offsetof(aoc_answer, record) == 4);
+AOC_LAYOUT(sizeof(aoc_front) == offsetof(aoc_record, charge) && offsetof(aoc_front, detail) == offsetof(aoc_record, detail));
+AOC_LAYOUT(sizeof(aoc_figure) == offsetof(aoc_charge, numbers) && offsetof(aoc_figure, count) == offsetof(aoc_charge, count));
+AOC_LAYOUT(sizeof(aoc_outline) == 14 && offsetof(aoc_outline, count) == 13);
+AOC_LAYOUT(sizeof(aoc_short_answer) == 60 && offsetof(aoc_short_answer, figure) == 12);
 AOC_LAYOUT(sizeof(aoc_written) == 8 && offsetof(aoc_written, count) == 4);
 AOC_LAYOUT(sizeof(aoc_starts) == 129 && offsetof(aoc_starts, starts) == 2);
 AOC_LAYOUT(sizeof(aoc_services) == 3 && sizeof(aoc_identifiers) == 6 && sizeof(aoc_outcome) == 2);

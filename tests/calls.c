@@ -301,7 +301,7 @@ static aoc_outcome by_the_rules(aoc_account *a, aoc_event e, const uint8_t *octe
         return wrong_phase;
     }
 
-    aoc_answer answer = aoc_read(octets, n);
+    aoc_answer answer = read_octets(octets, n);
     const aoc_record *r = &answer.record;
     const aoc_charge *c = &r->charge;
     aoc_outcome o = {(uint8_t)answer.number, 0};
@@ -395,7 +395,7 @@ static void test_nonsense(void)
         } else {
             /* a final of the component's own, and some octets changed */
             call.account.phase = AOC_CLEARING;
-            call.account.d_final = call.account.e_final = aoc_read(octets, n).record.charge;
+            call.account.d_final = call.account.e_final = read_octets(octets, n).record.charge;
             if (chance() & 1)
                 n = unhex(finals[chance() % 10], octets);
             for (int k = (int)(chance() % 4); k > 0; k--)

@@ -71,6 +71,20 @@ static inline int holds(const uint8_t *buffer, size_t room, const uint8_t *octet
            all(buffer + count, room - count, MARK);
 }
 
+/* What is read into memory that held anything, with nothing beside it touched. */
+static inline aoc_answer read_octets(const uint8_t *octets, size_t n)
+{
+    struct {
+        uint8_t before[GUARD];
+        aoc_answer answer;
+        uint8_t after[GUARD];
+    } lent;
+    memset(&lent, MARK, sizeof lent);
+    uint32_t number = aoc_read(octets, n, &lent.answer);
+    CHECK(number == lent.answer.number && all(lent.before, GUARD, MARK) && all(lent.after, GUARD, MARK), "read");
+    return lent.answer;
+}
+
 static inline int digit(char c)
 {
     return c >= '0' && c <= '9' ? c - '0' : c >= 'A' && c <= 'F' ? c - 'A' + 10 : -1;

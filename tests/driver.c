@@ -49,7 +49,9 @@ static int all(const void *from, size_t n, uint8_t value)
 
 static void answer_read(const char *rest)
 {
-    aoc_answer a = aoc_read(octets, unhex(rest, octets));
+    aoc_answer a;
+    memset(&a, MARK, sizeof a);
+    aoc_read(octets, unhex(rest, octets), &a);
     printf("%u ", (unsigned)a.number);
     put_hex(&a.record, sizeof a.record);
 }
@@ -76,7 +78,7 @@ static void answer_write(const char *rest)
     }
     memcpy(&r, octets, sizeof r);
     memset(buffer, MARK, room + 2 * GUARD);
-    answer_written(aoc_write(r, buffer + GUARD, room), room);
+    answer_written(aoc_write(&r, buffer + GUARD, room), room);
 }
 
 static void answer_reply(const char *rest)

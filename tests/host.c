@@ -9,7 +9,7 @@ static aoc_answer read_hex(const char *hex)
 {
     uint8_t octets[1024];
     size_t n = unhex(hex, octets);
-    return aoc_read(lend(octets, n), n);
+    return read_octets(lend(octets, n), n);
 }
 
 static aoc_record record_of(const char *name)
@@ -18,7 +18,7 @@ static aoc_record record_of(const char *name)
         if (!strcmp(valid[i].name, name))
             return read_hex(valid[i].hex).record;
     check(0, "no such component", name);
-    return aoc_read(NULL, 0).record;
+    return read_octets(NULL, 0).record;
 }
 
 static int refused(aoc_answer a, uint32_t number)
@@ -33,12 +33,12 @@ static void test_valid(void)
     for (size_t i = 0; i < VALID; i++) {
         uint8_t octets[300], longer[300];
         size_t n = unhex(valid[i].hex, octets);
-        aoc_answer a = aoc_read(lend(octets, n), n);
+        aoc_answer a = read_octets(lend(octets, n), n);
         CHECK(a.number == AOC_ACCEPTED, valid[i].name);
         for (size_t k = 0; k < n; k++)
-            CHECK(refused(aoc_read(lend(octets, k), k), AOC_CUT), valid[i].name);
+            CHECK(refused(read_octets(lend(octets, k), k), AOC_CUT), valid[i].name);
         octets[n] = 0;
-        CHECK(refused(aoc_read(lend(octets, n + 1), n + 1), AOC_TRAILING), valid[i].name);
+        CHECK(refused(read_octets(lend(octets, n + 1), n + 1), AOC_TRAILING), valid[i].name);
 
         /* the same contents after a length of two more octets */
         size_t inner = octets[1] < 0x80 ? 2 : 3;
@@ -47,7 +47,7 @@ static void test_valid(void)
         longer[2] = 0;
         longer[3] = (uint8_t)(n - inner);
         memcpy(longer + 4, octets + inner, n - inner);
-        aoc_answer b = aoc_read(lend(longer, n + 4 - inner), n + 4 - inner);
+        aoc_answer b = read_octets(lend(longer, n + 4 - inner), n + 4 - inner);
         CHECK(!memcmp(&a, &b, sizeof a), valid[i].name);
     }
 }
@@ -158,15 +158,15 @@ static void test_refusals(void)
     };
     for (size_t i = 0; i < sizeof cases / sizeof *cases; i++)
         CHECK(refused(read_hex(cases[i].hex), cases[i].number), cases[i].hex);
-    CHECK(refused(aoc_read(NULL, 0), AOC_CUT), "null");
+    CHECK(refused(read_octets(NULL, 0), AOC_CUT), "null");
 
     /* over 254 octets is judged first, whatever they are */
     uint8_t octets[600] = {0xA1, 0x82, 0, 251};
-    CHECK(aoc_read(lend(octets, 254), 254).number != AOC_TOO_LONG, "254 octets");
+    CHECK(read_octets(lend(octets, 254), 254).number != AOC_TOO_LONG, "254 octets");
     for (size_t n = 255; n <= sizeof octets; n++)
-        CHECK(refused(aoc_read(lend(octets, n), n), AOC_TOO_LONG), "over 254 octets");
+        CHECK(refused(read_octets(lend(octets, n), n), AOC_TOO_LONG), "over 254 octets");
     memset(octets, 0, sizeof octets);
-    CHECK(refused(aoc_read(lend(octets, 255), 255), AOC_TOO_LONG), "255 zeros");
+    CHECK(refused(read_octets(lend(octets, 255), 255), AOC_TOO_LONG), "255 zeros");
 }
 
 /* ------------------------------------------------------------------ writing */
@@ -179,12 +179,12 @@ static void test_rooms(void)
         aoc_record r = read_hex(valid[i].hex).record;
         for (size_t room = 0; room <= n + 1; room++) {
             uint8_t *buffer = make_room(room);
-            aoc_written w = aoc_write(r, buffer, room);
+            aoc_written w = aoc_write(&r, buffer, room);
             size_t count = room < n ? 0 : n;
             CHECK(w.number == (room < n ? AOC_NO_ROOM : AOC_ACCEPTED) && w.count == count, valid[i].name);
             CHECK(holds(buffer, room, octets, count), valid[i].name);
         }
-        CHECK(aoc_write(r, NULL, 0).number == AOC_NO_ROOM, valid[i].name);
+        CHECK(aoc_write(&r, NULL, 0).number == AOC_NO_ROOM, valid[i].name);
     }
 }
 
@@ -193,7 +193,7 @@ static void check_refused(aoc_record r, uint32_t number, const char *name)
 {
     for (size_t room = 0; room <= 300; room += 300) {
         uint8_t *buffer = make_room(room);
-        aoc_written w = aoc_write(r, buffer, room);
+        aoc_written w = aoc_write(&r, buffer, room);
         CHECK(w.number == number && w.count == 0, name);
         CHECK(holds(buffer, room, buffer, 0), name);
     }
@@ -394,13 +394,13 @@ static void test_long_records(void)
     for (int i = 0; i < AOC_MOST_UNITS; i++) {
         r.charge.unit_numbers[i] = 32768;
         uint32_t size = 178 + 2 * (i + 1);
-        CHECK(aoc_write(r, make_room(size), size).count == size, "units by number");
-        CHECK(aoc_write(r, make_room(size - 1), size - 1).number == AOC_NO_ROOM, "units by number");
+        CHECK(aoc_write(&r, make_room(size), size).count == size, "units by number");
+        CHECK(aoc_write(&r, make_room(size - 1), size - 1).number == AOC_NO_ROOM, "units by number");
     }
     for (int i = 0; i < 4; i++)
         r.charge.units[i].type = 1;
-    CHECK(aoc_write(r, make_room(254), 254).count == 254, "254 octets");
-    CHECK(aoc_write(r, make_room(253), 253).number == AOC_NO_ROOM, "254 octets");
+    CHECK(aoc_write(&r, make_room(254), 254).count == 254, "254 octets");
+    CHECK(aoc_write(&r, make_room(253), 253).number == AOC_NO_ROOM, "254 octets");
     r.charge.units[4].type = 1;
     check_refused(r, AOC_LONG_RECORD, "257 octets");
 }
@@ -418,9 +418,9 @@ static void test_changed_octets(void)
                 uint8_t *octet = (uint8_t *)&r + at;
                 *octet = k < sizeof values ? values[k] : k == sizeof values ? (uint8_t)(*octet + 1) : (uint8_t)(*octet - 1);
                 uint8_t *buffer = make_room(254);
-                aoc_written w = aoc_write(r, buffer, 254);
+                aoc_written w = aoc_write(&r, buffer, 254);
                 if (w.number == AOC_ACCEPTED) {
-                    aoc_answer back = aoc_read(buffer, w.count);
+                    aoc_answer back = read_octets(buffer, w.count);
                     CHECK(w.count <= 254 && holds(buffer, 254, buffer, w.count), valid[i].name);
                     CHECK(back.number == AOC_ACCEPTED && !memcmp(&back.record, &r, sizeof r), valid[i].name);
                     kept++;
@@ -582,19 +582,19 @@ static void test_noise(void)
         for (int k = (int)(chance() % 4); k > 0 && n > 0; k--)
             octets[chance() % n] = (uint8_t)(chance() >> 30);
         const uint8_t *lent = lend(octets, n);
-        aoc_answer a = aoc_read(lent, n);
+        aoc_answer a = read_octets(lent, n);
         CHECK(a.number <= AOC_BAD_ARGUMENT && (!a.number || all(&a.record, sizeof a.record, 0)), "any octets");
         CHECK(!memcmp(lent, octets, n), "any octets");
         uint8_t *buffer = make_room(AOC_LONGEST_REPLY);
         aoc_written reply = aoc_reply(lent, n, buffer, AOC_LONGEST_REPLY);
         CHECK(reply.number == AOC_ACCEPTED && holds(buffer, AOC_LONGEST_REPLY, buffer, reply.count), "any octets");
         CHECK((reply.count == 0) == (a.number == 0 || (n && octets[0] == 0xA4)), "any octets");
-        CHECK(!reply.count || aoc_read(buffer, reply.count).number == AOC_ACCEPTED, "a reply is a component");
+        CHECK(!reply.count || read_octets(buffer, reply.count).number == AOC_ACCEPTED, "a reply is a component");
         aoc_starts s = aoc_element(lent, n);
         CHECK(s.number ? bad_element(s) : s.count > 0, "any octets");
         if (a.number == 0) {
-            aoc_written w = aoc_write(a.record, form, sizeof form);
-            aoc_answer back = aoc_read(form, w.count);
+            aoc_written w = aoc_write(&a.record, form, sizeof form);
+            aoc_answer back = read_octets(form, w.count);
             CHECK(w.number == AOC_ACCEPTED && w.count <= n, "what is read is written no longer");
             CHECK(!memcmp(&back, &a, sizeof a), "what is written reads back");
         }

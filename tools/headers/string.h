@@ -7,3 +7,6 @@ int strcmp(const char *, const char *);
 int memcmp(const void *, const void *, size_t);
 void *memcpy(void *, const void *, size_t);
 void *memset(void *, int, size_t);
+/* as a compiler with its own C library takes them, so that small copies are no calls */
+#define memcpy(to, from, n) __builtin_memcpy(to, from, n)
+#define memset(to, value, n) __builtin_memset(to, value, n)

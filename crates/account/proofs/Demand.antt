@@ -3,27 +3,23 @@ use Prim.Native.Nat.{ℕ, _≤_, _<_}
 use mathlib.Core.Path.{_≡_, refl, sym, _∙_, ap}
 use mathlib.Core.List.{List, [], _∷_, _++_}
 use mathlib.Core.Bool.{Bool, true, false, not, _&&_, _||_, and-false}
-use lib.Dec.{eqb, leb}
+use lib.Dec.{eqb}
 use native.Mathlib.Omega.{arith}
-use borrow.Author.Tests.{ne-eqb, eqb-true, leb-true}
+use borrow.Author.Tests.{ne-eqb, eqb-true}
 use Rattle.coding.specs.Reader.{if_then_else}
 use Rattle.types.specs.declared.Charge.{Charge}
-use Rattle.types.specs.declared.Answer.{Answer}
 use Rattle.types.specs.Charges.{flag}
 use Rattle.types.specs.Frames.{readOf}
-use Rattle.values.specs.declared.Services.{Services}
 use Rattle.values.specs.Sets.{has, with}
 use Rattle.same.specs.Same.{sameOf}
 use Rattle.account.specs.declared.Event.{Event}
 use Rattle.account.specs.declared.Outcome.{Outcome}
-use Rattle.account.specs.declared.Status.{Status}
 use Rattle.account.specs.declared.Account.{Account}
-use Rattle.account.specs.declared.Stepped.{Stepped}
-use Rattle.account.specs.Outcome.{idle, ended, setup, component, connect, clear, released, S, D, E, outcome, bare, Request, noRequest, request, clashes, allowed, Known, serviceOf, holderOf, fits, runs, closes, finalOf, firstOf, judgeFrame, judgeAnswer, judge}
-use Rattle.account.specs.History.{Given, Judged, chargeOf, any, last, was, its, leadsTo, settles, phase, named, pending, hasFinal, final, noClosing, closing, rate, running, known, judged, accountBy, Shown, shown, picked}
+use Rattle.account.specs.Outcome.{idle, ended, setup, component, connect, clear, released, S, D, E, outcome, bare, Request, noRequest, clashes, allowed, Known, serviceOf, holderOf, fits, runs, closes, finalOf, firstOf, judgeFrame, judgeAnswer, judge}
+use Rattle.account.specs.History.{Given, Judged, chargeOf, any, last, was, its, leadsTo, settles, phase, pending, hasFinal, final, noClosing, closing, rate, running, known, judged, accountBy, Shown, shown, picked}
 use Rattle.account.specs.Step.{knownOf, noted, kept, after, stepOf, steppedBy, fresh, isGiven, closingOf, answers}
 use Rattle.account.proofs.Choice.{if-same, by-test, by-number}
-use Rattle.account.proofs.Refusal.{refusal-small}
+use Rattle.types.proofs.Theorems.{refusal-small}
 
 abbrev told : Event → List ℕ → Outcome → Judged
 told e o r = record { event = e; octets = o; outcome = r }

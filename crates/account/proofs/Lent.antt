@@ -15,7 +15,7 @@ use base.Fml.{GName, Lft, Share, Fml, ftrue, flft, fobs, fauth, fbor, fobor, fat
 use prog.Wp.{Heap, Calls, Loops, Env, WpFn, atReturn, returns as returnsᴼ}
 use ghost.Atoms.{Atoms, sem}
 use contract.Monad.{fact}
-use types.Kit.{Given, Item, ‵, raw, prop, runs, frees, atRet, Post, post, Sq, _⊛_, given, mean, ⋆, some, later, _$_, _∵_, !, qed, by, move, keep, drop, use1, use2, split, learn, pick, fsplit, fsplit3, await, rewrite}
+use types.Kit.{Given, Item, ‵, raw, runs, atRet, Post, post, Sq, _⊛_, given, mean, ⋆, some, later, _$_, _∵_, !, qed, by, move, keep, drop, use1, use2, split, learn, pick, fsplit, fsplit3, await, rewrite}
 use types.Part.{whole, sub, look-in, store-in}
 use types.Run.{look, init, store, forget, stop, hop, fld, from, load, lit, of-opd, bin, and-then, no-more, assigns, first, skips, branches, returns-within, land, enter, alloc1, alloc0, params1, pass1, pass0, free1, free0, exec}
 use types.SemTy.{Body}

@@ -1,5 +1,4 @@
 pub mod Choice
-pub mod Refusal
 pub mod Demand
 pub mod Steps
 pub mod Lent

@@ -61,11 +61,11 @@ module _ (a : Account) (t : Status) (c : Charge) where
 
 -- ---- a component
 
-pub taken-read : (a : Account) (x : Answer) (claim r : Outcome) (t : Status) (p : ℕ) → x .number ≡ 0 →
+pub taken-read : (a : Account) {x y : Answer} (claim r : Outcome) (t : Status) (p : ℕ) → x ≡ y → x .number ≡ 0 →
     claim ≡ judgeFrame (a .status .phase) (requestsOf (a .status)) (outcome 22) (x .value .frame) (x .value .operation) (x .value .unnamed) (x .value .id) (x .value .charge .figure .kind) (x .value .charge .figure .total) →
     r ≡ resolved a claim (x .value .charge) → t ≡ noted (a .status) r → p ≡ placeOf r →
-    changed a (record { outcome = r; place = p; status = t; charge = x .value .charge }) ≡ taken a x
-taken-read a x claim r t p z is-claim is-outcome is-status is-place =
+    changed a (record { outcome = r; place = p; status = t; charge = x .value .charge }) ≡ taken a y
+taken-read a {x = x} claim r t p read z is-claim is-outcome is-status is-place =
     let c : Charge = x .value .charge in
     let is : r ≡ judgeAnswer (knownOf a) x =
     is-outcome ∙ ap (λ (y : Outcome). resolved a y c) is-claim
@@ -74,15 +74,17 @@ taken-read a x claim r t p z is-claim is-outcome is-status is-place =
     in
     rw (is-status, is-place) (ap (λ (b : Account). record { outcome = r; account = b }) (placed a (noted (a .status) r) c (r .number) (r .service)))
     ∙ ap (λ (y : Outcome). record { outcome = y; account = kept a (noted (a .status) y) y c }) is
+    ∙ ap (taken a) read
 
 -- a change that keeps no figure
 still : (a : Account) (w : Change) (r : Outcome) (t : Status) → w .outcome ≡ r → w .place ≡ 0 → w .status ≡ t → changed a w ≡ record { outcome = r; account = record { status = t; rate = a .rate; running = a .running; dfinal = a .dfinal; efinal = a .efinal } }
 still a w r t o p s = rw (o, p, s)
 
-pub taken-refused : (a : Account) (x : Answer) (w : Change) → (x .number ≡ 0 → ⊥) → x .number ≤ 9 → w .outcome ≡ bare (x .number) → w .place ≡ 0 → w .status ≡ a .status → changed a w ≡ taken a x
-taken-refused a x w z h o p s =
+pub taken-refused : (a : Account) {x y : Answer} (w : Change) → x ≡ y → (x .number ≡ 0 → ⊥) → x .number ≤ 9 → w .outcome ≡ bare (x .number) → w .place ≡ 0 → w .status ≡ a .status → changed a w ≡ taken a y
+taken-refused a {x = x} w read z h o p s =
     still a w (bare (x .number)) (a .status) o p s
     ∙ simp (ne-eqb (x .number) 0 z) (ap (λ (b : Account). record { outcome = bare (x .number); account = b }) (sym (kept-refused a (bare (x .number)) (x .value .charge) (omega arith))))
+    ∙ ap (taken a) read
 
 -- ---- any event
 

@@ -1,21 +1,20 @@
 -- One call's events, and what the rules pick out of their list. A history has the latest event first.
 use Prim.Native.Nat.{ℕ}
 use mathlib.Core.List.{List, [], _∷_}
-use mathlib.Core.Bool.{Bool, true, false, not, _&&_, _||_}
+use mathlib.Core.Bool.{Bool, false, _&&_, _||_}
 use lib.Dec.{eqb}
 use Rattle.coding.specs.Reader.{if_then_else}
 use Rattle.types.specs.declared.Charge.{Charge}
 use Rattle.types.specs.Charges.{flag}
 use Rattle.types.specs.Arguments.{noCharge}
 use Rattle.types.specs.Frames.{readOf}
-use Rattle.values.specs.declared.Services.{Services}
 use Rattle.account.specs.declared.Event.{Event}
 use Rattle.account.specs.declared.Outcome.{Outcome}
 use Rattle.account.specs.declared.Status.{Status}
 use Rattle.account.specs.declared.Account.{Account}
 use Rattle.account.specs.declared.Closing.{Closing}
 use Rattle.account.specs.declared.Marks.{Marks}
-use Rattle.account.specs.Outcome.{idle, establishment, active, clearing, ended, setup, connect, clear, released, S, D, E, Request, noRequest, request, Requests, First, Known, judge}
+use Rattle.account.specs.Outcome.{idle, establishment, active, clearing, ended, setup, connect, clear, released, S, D, E, Request, noRequest, request, Requests, Known, judge}
 
 -- an event with its octets, and the same with its outcome
 pub record Given : Type 0 where

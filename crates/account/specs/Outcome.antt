@@ -1,7 +1,7 @@
 -- An event's outcome, from what is known of the call when it comes. The numbers of outcomes and refusals are those of the paper.
 use Prim.Native.Nat.{ℕ}
 use mathlib.Core.List.{List}
-use mathlib.Core.Bool.{Bool, true, false, not, _&&_, _||_}
+use mathlib.Core.Bool.{Bool, not, _&&_, _||_}
 use lib.Dec.{eqb, leb}
 use Rattle.coding.specs.Reader.{if_then_else}
 use Rattle.types.specs.declared.Charge.{Charge}

@@ -1,13 +1,12 @@
 -- What the step does to an account, whatever its values are.
 use Prim.Native.Nat.{ℕ}
 use mathlib.Core.List.{List, [], _∷_}
-use mathlib.Core.Bool.{Bool, true, false, not, _&&_, _||_}
-use lib.Dec.{eqb, leb}
+use mathlib.Core.Bool.{Bool, not, _||_}
+use lib.Dec.{eqb}
 use Rattle.coding.specs.Reader.{if_then_else}
 use Rattle.types.specs.declared.Charge.{Charge}
 use Rattle.types.specs.declared.Answer.{Answer}
 use Rattle.types.specs.Arguments.{noCharge}
-use Rattle.values.specs.declared.Services.{Services}
 use Rattle.values.specs.Sets.{with, emptySet}
 use Rattle.account.specs.declared.Event.{Event}
 use Rattle.account.specs.declared.Outcome.{Outcome}

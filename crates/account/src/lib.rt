@@ -63,7 +63,7 @@ pub struct Stepped {
 
 // What an event changes. place: where the charge is kept, 1 the rate, 2 the running figure, 3 the final of D, 4 the final of E; 0 nowhere.
 #[repr(C)]
-pub struct Change {
+struct Change {
     pub outcome: Outcome,
     pub place: u16,
     pub status: Status,
@@ -599,21 +599,30 @@ fn plain(number: u8, status: Status) -> Change
 fn taken(a: Account, octets: &[u8]) -> Change
     ensures { λ r. ⌜ changed a r ≡ taken a (readOf (now (octets .entry))) ⌝ }
 {
-    let answer = component::read(octets);
+    let mut numbers: [u32; 32] = [0; 32];
+    let mut rows: [u8; 192] = [0; 192];
+    let m = component::read_into(octets, &mut numbers, &mut rows);
     let t = a.status;
-    if answer.number != 0 {
-        return plain(answer.number as u8, t);
+    if m.number != 0 {
+        return plain(m.number as u8, t);
     }
+    let figure = m.value.figure;
     let claim = claimed(
         t,
-        answer.value.frame,
-        answer.value.operation,
-        answer.value.unnamed,
-        answer.value.id,
-        answer.value.charge.figure.kind,
-        answer.value.charge.figure.total,
+        m.value.frame,
+        m.value.operation,
+        m.value.unnamed,
+        m.value.id,
+        figure.kind,
+        figure.total,
     );
-    let charge = answer.value.charge;
+    let charge = Charge {
+        figure,
+        entries: types::Entries {
+            numbers,
+            octets: rows,
+        },
+    };
     let outcome = resolved(a, claim, charge);
     let status = noted(t, outcome);
     let place = place_of(outcome);

@@ -3,13 +3,15 @@
 // Each is thin: it hands on what it is handed, and promises what the function that it calls promises.
 ghost use mathlib.Core.Path.{_≡_};
 ghost use mathlib.Core.List.{List};
-ghost use mathlib.Core.Bool.{Bool, true, false, _&&_, _||_};
+ghost use mathlib.Core.Bool.{false, _&&_, _||_};
 ghost use Prim.Native.Nat.{ℕ, _*_, _≤_};
 ghost use lib.ListN.{getD, length};
 ghost use lib.Dec.{eqb};
 ghost use mir.Syntax.{w16};
 ghost use mir.Val.{toZ};
 ghost use Rattle.types.specs.Frames.{readOf};
+ghost use Rattle.component.specs.Whole.{wholeAnswer};
+ghost use Rattle.writer.specs.Handed.{handed};
 ghost use Rattle.writer.specs.Outcome.{writeOf, leftOf};
 ghost use Rattle.reply.specs.Reply.{replyOf, replyLeft};
 ghost use Rattle.facility.specs.Element.{elementOf};
@@ -21,19 +23,34 @@ ghost use Rattle.account.specs.Step.{requestsOf, stepped, stepOf, steppedBy, fr
 
 // ---- components
 
+// Numbers go by value and arrays are lent, so that no list is copied.
+
 #[no_mangle]
-pub extern "C" fn aoc_read(octets: &[u8]) -> types::Answer
-    ensures { λ r. ⌜ r ≡ readOf (now (octets .entry)) ⌝ }
+pub extern "C" fn aoc_read_into(
+    octets: &[u8],
+    numbers: &mut [u32; 32],
+    rows: &mut [u8; 192],
+) -> component::MainAnswer
+    ensures { λ r. ⌜ wholeAnswer r (now (numbers .exit)) (now (rows .exit)) ≡ readOf (now (octets .entry)) ⌝ }
 {
-    component::read(octets)
+    component::read_into(octets, numbers, rows)
 }
 
 #[no_mangle]
-pub extern "C" fn aoc_write(r: types::Record, buf: &mut [u8]) -> writer::Written
-    ensures { λ w. ⌜ w ≡ writeOf r (length (now (buf .entry))) ⌝ }
-    ensures left { λ w. ⌜ now (buf .exit) ≡ leftOf r (now (buf .entry)) ⌝ }
+pub extern "C" fn aoc_write_from(
+    f: fronts::Front,
+    o: put_figures::Outline,
+    number: u32,
+    currency: &[u8; 10],
+    digits: &[u8; 20],
+    numbers: &[u32; 32],
+    rows: &[u8; 192],
+    buf: &mut [u8],
+) -> writer::Written
+    ensures { λ w. ⌜ w ≡ writeOf (handed f o number (now (currency .entry)) (now (digits .entry)) (now (numbers .entry)) (now (rows .entry))) (length (now (buf .entry))) ⌝ }
+    ensures left { λ w. ⌜ now (buf .exit) ≡ leftOf (handed f o number (now (currency .entry)) (now (digits .entry)) (now (numbers .entry)) (now (rows .entry))) (now (buf .entry)) ⌝ }
 {
-    writer::write(r, buf)
+    writer::write_from(f, o, number, currency, digits, numbers, rows, buf)
 }
 
 #[no_mangle]
@@ -43,6 +60,7 @@ pub extern "C" fn aoc_reply(octets: &[u8], buf: &mut [u8]) -> writer::Written
 {
     reply::reply(octets, buf)
 }
+
 // ---- the Facility element
 
 #[no_mangle]

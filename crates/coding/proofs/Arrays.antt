@@ -1,10 +1,10 @@
 -- Laws of a list kept in an array.
 -- Assumes nothing.
-use Prim.Native.Nat.{ℕ, suc, _+_, _-_, _≤_, _<_}
+use Prim.Native.Nat.{ℕ, suc, _+_, _-_, _<_}
 use native.Mathlib.Omega.{arith}
-use mathlib.Core.Path.{_≡_, refl, ap, sym, _∙_}
+use mathlib.Core.Path.{_≡_}
 use mathlib.Core.List.{List, [], _∷_, _++_, append-assoc}
-use lib.ListN.{length, set, replicate, length-append, length-replicate}
+use lib.ListN.{length, set, replicate, length-append}
 use lib.Seq.{set-at}
 use Rattle.coding.specs.Codec.{pad}
 
@@ -16,7 +16,3 @@ padded-more n z xs v k e h =
     let a : n - length xs ≡ suc (n - (k + 1)) = omega arith in
     let b : n - length (xs ++ (v ∷ [])) ≡ n - (k + 1) = simp length-append (omega arith) in
     rw (b, append-assoc, a) (set-at xs z (replicate (n - (k + 1)) z) v k e)
-
-pub length-padded : {A : Type 0} (n : ℕ) (z : A) (xs : List A) → length xs ≤ n → length (pad n z xs) ≡ n
-unfolding pad
-length-padded n z xs h = simp (length-append, length-replicate) (omega arith)

@@ -1,7 +1,7 @@
 -- The combinators keep the laws.
 -- Assumes nothing.
-use Prim.Native.Nat.{ℕ, zero, suc, _+_, _-_, _*_, _/_, _%_, _≤_, _<_}
-use mathlib.Core.Path.{_≡_, refl, sym, ap, ap₂, _∙_, subst, subst₂}
+use Prim.Native.Nat.{ℕ, zero, suc, _+_, _-_, _≤_, _<_}
+use mathlib.Core.Path.{_≡_, refl, sym, ap, _∙_, subst, subst₂}
 use mathlib.Core.List.{List, [], _∷_, _++_}
 use mathlib.Core.Bool.{Bool, true, false, not, _&&_, _||_, true≢false}
 use mathlib.Core.Logic.{_⊎_, inl, inr}
@@ -10,10 +10,10 @@ use native.Mathlib.Omega.{arith}
 use lib.ListN.{length, getD, take, drop, length-append, length-take, List·getD-eq-default}
 use lib.Seq.{getD-take, getD-drop}
 use lib.Dec.{ltb, leb, eqb}
-use borrow.Author.Tests.{ltb-true, ltb-false, leb-true, leb-false, eqb-true, eqb-false, lt-ltb, le-ltb, le-leb, lt-leb, eq-eqb, ne-eqb}
-use Rattle.coding.specs.Reader.{Ans, got, halt, if_then_else, after, tagged, neither, choice, extent, lengthAt, opened, closed, constructed, Judged, judged, part, primitive, optional, entries, listOf}
-use Rattle.coding.specs.Codec.{LengthForm, short, one, two, lengthOctets, Opens, Holds, has, apart, Leaf, Run, prim, cons, nothing, pair, either, eitherMeans, alt, over, writeAll, all, MeansAll, many, some·more, maybe, writeMaybe, validMaybe, MeansMaybe}
-use Rattle.coding.proofs.Basic.{never, passing, failing, either-way, chain, same-got, picked, unpicked, followed, and-no, and-left, and-right, and-both, not-yes, or-left, or-right, or-no, or-false, has-left, has-right, apart-has, holds-left, holds-right, holds-part}
+use borrow.Author.Tests.{ltb-true, ltb-false, leb-true, leb-false, eqb-true, lt-ltb, le-leb, lt-leb, eq-eqb}
+use Rattle.coding.specs.Reader.{got, if_then_else, tagged, choice, opened, closed, constructed, Judged, judged, part, primitive, optional, entries, listOf}
+use Rattle.coding.specs.Codec.{lengthOctets, Opens, Holds, has, apart, Leaf, Run, prim, cons, nothing, pair, eitherMeans, alt, over, writeAll, all, MeansAll, some·more, maybe, MeansMaybe}
+use Rattle.coding.proofs.Basic.{never, passing, failing, either-way, chain, same-got, picked, unpicked, followed, and-left, and-right, and-both, or-left, or-right, or-no, or-false, has-left, has-right, apart-has, holds-left, holds-right, holds-part}
 use Rattle.coding.specs.declared.Extent.{Extent}
 use Rattle.coding.proofs.Header.{tagged-yes, tagged-is, opened-sound, opened-complete, opened-forward, opened-written, opened-shortest}
 use Rattle.coding.proofs.Laws.{Octets, clear, LeafLaws, RunLaws}
@@ -390,27 +390,8 @@ module _ {A : Type 0} (tag : ℕ) (f : Run A) (F : RunLaws f) (full : f .empty �
   rows-shortest s a n (x ∷ xs) os (k, u, v) =
       omega (arith, length-append (f .write x) (writeAll (f .write) xs), F .shortest s a k x os u, rows-shortest s k n xs os v)
 
-  rows-heads : (s : List ℕ) (a n : ℕ) (xs : List A) → Rows xs s a n → ((a < n) × (has (f .first) (getD s a 0) ≡ true)) ⊎ (a ≡ n)
-  rows-heads s a n [] m = inr m
-  rows-heads s a n (x ∷ xs) (k, u, v) =
-      let h = entry-heads s a k x u in inl (omega (arith, h .0, rows-forward s k n xs v), h .1)
-
   at-end : (n e o : ℕ) → leb e n || not true ≡ true → e ≤ n
   at-end n e o q = leb-true e n (or-false (leb e n) q)
-
-  pub manyLaws : (most : ℕ) → RunLaws (many tag most f)
-  unfolding many
-  manyLaws most = record {
-    sound = rows-sound most;
-    complete = λ s a n e xs ne es cl (l, m). rows-complete most s a n e xs ne es (at-end n e 0 cl) l m;
-    written = λ s a xs v b h. (
-      leb-true (length xs) most (and-left (leb (length xs) most) (all (f .valid) xs) v),
-      rows-written s a xs (and-right (leb (length xs) most) (all (f .valid) xs) v) b h,
-    );
-    fine = λ s a n xs (l, m). and-both (leb (length xs) most) (all (f .valid) xs) (le-leb (length xs) most l) (rows-fine s a n xs m);
-    shortest = λ s a n xs os (l, m). rows-shortest s a n xs os m;
-    heads = λ s a n xs (l, m). elim (rows-heads s a n xs m) [ inl h ↦ inl h | inr h ↦ inr (h, refl) ];
-  }
 
   nonempty : (s : List ℕ) (a n : ℕ) (xs : List A) → a < n → Rows xs s a n → 0 < length xs
   nonempty s a n [] h m = absurd (omega (arith, m))

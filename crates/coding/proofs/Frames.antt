@@ -2,59 +2,54 @@
 -- Assumes nothing.
 use Prim.Native.Nat.{ℕ, _+_, _≤_, _<_}
 use mathlib.Core.Path.{_≡_, refl, sym, ap, _∙_, subst}
-use mathlib.Core.List.{List, []}
-use mathlib.Core.Bool.{Bool, true, false, _&&_, true≢false}
-use mathlib.Core.Logic.{_⊎_, inl, inr}
+use mathlib.Core.List.{List}
+use mathlib.Core.Bool.{true, false, not, _||_}
+use mathlib.Core.Logic.{inl}
 use native.Mathlib.Omega.{arith}
-use lib.ListN.{length, getD}
-use lib.Dec.{ltb, leb, eqb}
-use borrow.Author.Tests.{leb-false, lt-leb, le-leb, lt-ltb, eqb-true, eq-eqb, ne-eqb}
+use lib.ListN.{getD}
+use lib.Dec.{leb, eqb}
+use borrow.Author.Tests.{leb-true, leb-false, lt-leb, le-leb, eqb-true, eq-eqb, ne-eqb}
 use Rattle.coding.specs.declared.Extent.{Extent}
-use Rattle.coding.specs.Reader.{Ans, Fault, got, halt, if_then_else, code, after, tagged, choice, blamed, lengthAt, opened, entered, enteredAny, closed, has}
+use Rattle.coding.specs.Reader.{Ans, Fault, got, halt, if_then_else, code, after, choice, blamed, lengthAt, opened, enteredAny, closed, constructed, has}
 use Rattle.coding.specs.Reader.Fault.{missing, unexpected}
-use Rattle.coding.specs.Codec.{Run, Opens, alone, frames}
+use Rattle.coding.specs.Codec.{Run, Opens, cons, frames}
 use Rattle.coding.specs.Shown.{shown}
-use Rattle.coding.proofs.Basic.{never, passing, failing, chain, same-got, picked, unpicked, followed, and-left, and-right, and-both}
-use Rattle.coding.proofs.Laws.{Octets, RunLaws}
-use Rattle.coding.proofs.Header.{tagged-yes, opened-forward}
-use Rattle.coding.proofs.More.{aloneLaws}
+use Rattle.coding.proofs.Basic.{passing, failing, chain, same-got, picked, unpicked, followed, and-left, and-right, and-both, or-false}
+use Rattle.coding.proofs.Laws.{RunLaws}
+use Rattle.coding.proofs.Header.{tagged-yes, opened-complete, opened-forward}
+use Rattle.coding.proofs.Combine.{consLaws}
+use Rattle.coding.proofs.More.{blamed-got}
 use Rattle.coding.proofs.Reading.{some-code}
 
 module _ (tags : List ℕ) (m : Fault → Fault) (w : Fault) (s : List ℕ) (a e : ℕ) where
-  -- where the tag is one of the list it is entered as that tag alone would be
-  any-is : a < e → has tags (getD s a 0) ≡ true → enteredAny tags m w s a e ≡ entered (getD s a 0) m w s a e
-  unfolding enteredAny entered opened choice
-  any-is h t =
+  -- where the tag is one of the list its length octets decide
+  any-opens : a < e → has tags (getD s a 0) ≡ true → (z : Ans Extent) → lengthAt a s (a + 1) e ≡ z
+      → enteredAny tags m w s a e ≡ after (blamed m z) (λ x next. if_then_else (eqb next e) (got x next) (halt w next))
+  unfolding enteredAny
+  any-opens h t z q =
       unpicked _ _ (lt-leb e a h) ∙ picked _ _ t
-      ∙ ap (λ r. after (blamed m r) (λ x next. if_then_else (eqb next e) (got x next) (halt w next)))
-      (sym (picked _ _ (tagged-yes s a e (getD s a 0) h refl)))
+      ∙ ap (λ r. after (blamed m r) (λ x next. if_then_else (eqb next e) (got x next) (halt w next))) q
 
-  any-begins : {x : Extent} {n : ℕ} → enteredAny tags m w s a e ≡ got x n → (a < e) × (has tags (getD s a 0) ≡ true)
-  unfolding enteredAny
-  any-begins r =
-      let p = failing (leb e a) _ _ _ r in
-      (leb-false e a (p .0), passing (has tags (getD s a 0)) _ _ _ (p .1) .0)
+  -- and it is opened as that tag alone would be
+  opens-one : a < e → opened (getD s a 0) s a e ≡ lengthAt a s (a + 1) e
+  unfolding opened choice
+  opens-one h = picked _ _ (tagged-yes s a e (getD s a 0) h refl)
 
-  any-ends : {x : Extent} {n : ℕ} → enteredAny tags m w s a e ≡ got x n → n ≡ e
+  -- what is entered begins with one of the tags, is opened as that tag alone would be, and ends where the octets end
+  pub any-got : {x : Extent} {n : ℕ} → enteredAny tags m w s a e ≡ got x n
+      → (has tags (getD s a 0) ≡ true) × (opened (getD s a 0) s a e ≡ got x n) × (n ≡ e)
   unfolding enteredAny
-  any-ends {x} {n} r =
+  any-got r =
       let p = failing (leb e a) _ _ _ r in
-      let b = chain (blamed m (lengthAt a s (a + 1) e)) _ (passing (has tags (getD s a 0)) _ _ _ (p .1) .1) in
-      let t = passing (eqb (b .1) e) _ _ _ (b .3) in
-      same-got (λ y k. k ≡ e) (t .1) (eqb-true (b .1) e (t .0))
+      let q = passing (has tags (getD s a 0)) _ _ _ (p .1) in
+      let b = chain (blamed m (lengthAt a s (a + 1) e)) _ (q .1) in
+      let t = passing (eqb (b .1) e) _ _ _ (b .3) in (
+        q .0,
+        opens-one (leb-false e a (p .0)) ∙ blamed-got m (lengthAt a s (a + 1) e) (b .2) ∙ t .1,
+        same-got (λ y k. k ≡ e) (t .1) (eqb-true (b .1) e (t .0)),
+      )
 
 module _ {A : Type 0} (tags : List ℕ) (tagOf : A → ℕ) (m : Fault → Fault) (w : Fault) (f : ℕ → Run A) where
-  -- what is read begins with one of the tags, and is read as an element of that tag alone
-  frames-alone : (s : List ℕ) (a e : ℕ) → a < e → has tags (getD s a 0) ≡ true
-      → (frames tags tagOf m w f) .read s a e ≡ (alone (getD s a 0) m w (f (getD s a 0))) .read s a e
-  unfolding frames alone
-  frames-alone s a e h t =
-      ap (λ r. after r (λ x next. after ((f (getD s a 0)) .read s (x .start) (x .stop)) (λ v last. closed v last (x .stop) next))) (any-is tags m w s a e h t)
-
-  frames-begins : (s : List ℕ) (a e n : ℕ) (x : A) → (frames tags tagOf m w f) .read s a e ≡ got x n → (a < e) × (has tags (getD s a 0) ≡ true)
-  unfolding frames
-  frames-begins s a e n x r = let c = chain (enteredAny tags m w s a e) _ r in any-begins tags m w s a e (c .2)
-
   -- what is read ends where the octets end
   pub frames-ends : (s : List ℕ) (a e n : ℕ) (x : A) → (frames tags tagOf m w f) .read s a e ≡ got x n → n ≡ e
   unfolding frames closed
@@ -62,28 +57,32 @@ module _ {A : Type 0} (tags : List ℕ) (tagOf : A → ℕ) (m : Fault → Fault
       let c = chain (enteredAny tags m w s a e) _ r in
       let d = chain ((f (getD s a 0)) .read s (c .0 .start) (c .0 .stop)) _ (c .3) in
       let z = passing (eqb (d .1) (c .0 .stop)) _ _ _ (d .3) in
-      same-got (λ y k. k ≡ e) (z .1) (any-ends tags m w s a e (c .2))
+      same-got (λ y k. k ≡ e) (z .1) (any-got tags m w s a e (c .2) .2)
 
+  -- an element of one of the tags is one of that tag, whose laws `cons` has
   pub framesLaws : ((t : ℕ) → RunLaws (f t)) → ((t : ℕ) (x : A) → has tags t ≡ true → (f t) .valid x ≡ true → tagOf x ≡ t) → RunLaws (frames tags tagOf m w f)
-  unfolding frames alone
+  unfolding frames cons constructed closed after blamed
   framesLaws F own = record {
     sound = λ s a e n x os ae es r.
         let t : ℕ = getD s a 0 in
-        let b = frames-begins s a e n x r in
-        let p = aloneLaws t m w (f t) (F t) .sound s a e n x os ae es (sym (frames-alone s a e (b .0) (b .1)) ∙ r) in
-        let q : t ≡ tagOf x = sym (own t x (b .1) (aloneLaws t m w (f t) (F t) .fine s a n x (p .1))) in
-        (p .0, subst (λ (u : ℕ). (has tags u ≡ true) × ((c : ℕ) × Opens u s a c n × (f u) .Means x s c n)) q (b .1, p .1));
+        let c = chain (enteredAny tags m w s a e) _ r in
+        let g = any-got tags m w s a e (c .2) in
+        let p = consLaws t (f t) (F t) .sound s a e n x os ae es (followed _ (g .1) ∙ c .3) in
+        let q : t ≡ tagOf x = sym (own t x (g .0) (consLaws t (f t) (F t) .fine s a n x (p .1))) in
+        (p .0, subst (λ (u : ℕ). (has tags u ≡ true) × ((c : ℕ) × Opens u s a c n × (f u) .Means x s c n)) q (g .0, p .1));
     complete = λ s a n e x ne es cl (h, (c, op, k)).
-        let t : ℕ = tagOf x in
-        let r = aloneLaws t m w (f t) (F t) .complete s a n e x ne es cl (c, op, k) in
-        let q : t ≡ getD s a 0 = sym (op .0) in
-        frames-alone s a e (omega (arith, opened-forward op)) (ap (has tags) (op .0) ∙ h)
-        ∙ subst (λ (u : ℕ). (alone u m w (f u)) .read s a e ≡ got x n) q r;
+        let t : ℕ = getD s a 0 in
+        let en = leb-true e n (or-false (leb e n) cl) in
+        let ae : a < e = omega (arith, opened-forward op) in
+        let k' : (f t) .Means x s c n = subst (λ (u : ℕ). (f u) .Means x s c n) (sym (op .0)) k in
+        followed _ (any-opens tags m w s a e ae (ap (has tags) (op .0) ∙ h) _ (sym (opens-one tags m w s a e ae) ∙ opened-complete t s a c n e ne (refl, op .1, op .2)) ∙ picked _ _ (eq-eqb n e (omega arith)))
+        ∙ followed _ (F t .complete s c n n x (omega arith) (omega arith) (ap (λ b. b || not ((f t) .avoid (getD s n 0))) (le-leb n n (omega arith))) k')
+        ∙ picked _ _ (eq-eqb n n refl);
     written = λ s a x v b h.
         let t : ℕ = tagOf x in
-        (and-left (has tags t) _ v, aloneLaws t m w (f t) (F t) .written s a x (and-right (has tags t) _ v) b h);
-    fine = λ s a n x (h, k). let t : ℕ = tagOf x in and-both (has tags t) _ h (aloneLaws t m w (f t) (F t) .fine s a n x k);
-    shortest = λ s a n x os (h, k). let t : ℕ = tagOf x in aloneLaws t m w (f t) (F t) .shortest s a n x os k;
+        (and-left (has tags t) _ v, consLaws t (f t) (F t) .written s a x (and-right (has tags t) _ v) b h);
+    fine = λ s a n x (h, k). let t : ℕ = tagOf x in and-both (has tags t) _ h (consLaws t (f t) (F t) .fine s a n x k);
+    shortest = λ s a n x os (h, k). let t : ℕ = tagOf x in consLaws t (f t) (F t) .shortest s a n x os k;
     heads = λ s a n x (h, (c, op, k)). inl (opened-forward op, ap (has tags) (op .0) ∙ h);
   }
 
@@ -98,19 +97,12 @@ module _ {B : Type 0} (tags : List ℕ) (m : Fault → Fault) (w : Fault) (s : L
   unfolding enteredAny after shown
   any-strange h t = simp (lt-leb e a h, t)
 
-  opens-any : a < e → has tags (getD s a 0) ≡ true → (z : Ans Extent) → lengthAt a s (a + 1) e ≡ z
-      → enteredAny tags m w s a e ≡ after (blamed m z) (λ x next. if_then_else (eqb next e) (got x next) (halt w next))
-  unfolding enteredAny
-  opens-any h t z q =
-      unpicked _ _ (lt-leb e a h) ∙ picked _ _ t
-      ∙ ap (λ r. after (blamed m r) (λ x next. if_then_else (eqb next e) (got x next) (halt w next))) q
-
   -- recode is m on the faults' numbers
   pub any-told : (recode : ℕ → ℕ) → ((v : Fault) → recode (code v) ≡ code (m v)) → (z : Extent) {j p n : ℕ} {x : Extent} → a < e → has tags (getD s a 0) ≡ true
       → (j, p, x, n) ≡ shown z (lengthAt a s (a + 1) e) → (j ≡ 0 → ⊥) → (recode j, p, y, 0) ≡ shown y (after (enteredAny tags m w s a e) k)
   unfolding shown after blamed
   any-told recode same z {j} {p} {n} {x} h t q j0 =
-      go (lengthAt a s (a + 1) e) refl q ∙ ap (λ r. shown y (after r k)) (sym (opens-any h t (lengthAt a s (a + 1) e) refl))
+      go (lengthAt a s (a + 1) e) refl q ∙ ap (λ r. shown y (after r k)) (sym (any-opens tags m w s a e h t (lengthAt a s (a + 1) e) refl))
     where
       go : (r : Ans Extent) → lengthAt a s (a + 1) e ≡ r → (j, p, x, n) ≡ shown z r
           → (recode j, p, y, 0) ≡ shown y (after (after (blamed m r) (λ x next. if_then_else (eqb next e) (got x next) (halt w next))) k)
@@ -121,7 +113,7 @@ module _ {B : Type 0} (tags : List ℕ) (m : Fault → Fault) (w : Fault) (s : L
       → (j, p, x, n) ≡ shown z (lengthAt a s (a + 1) e) → j ≡ 0 → (n ≡ e → ⊥) → (code w, n, y, 0) ≡ shown y (after (enteredAny tags m w s a e) k)
   unfolding shown after blamed
   any-over z {j} {p} {n} {x} h t q j0 ne =
-      go (lengthAt a s (a + 1) e) refl q ∙ ap (λ r. shown y (after r k)) (sym (opens-any h t (lengthAt a s (a + 1) e) refl))
+      go (lengthAt a s (a + 1) e) refl q ∙ ap (λ r. shown y (after r k)) (sym (any-opens tags m w s a e h t (lengthAt a s (a + 1) e) refl))
     where
       go : (r : Ans Extent) → lengthAt a s (a + 1) e ≡ r → (j, p, x, n) ≡ shown z r
           → (code w, n, y, 0) ≡ shown y (after (after (blamed m r) (λ x next. if_then_else (eqb next e) (got x next) (halt w next))) k)
@@ -135,7 +127,7 @@ module _ {B : Type 0} (tags : List ℕ) (m : Fault → Fault) (w : Fault) (s : L
       → (j, p, x, n) ≡ shown z (lengthAt a s (a + 1) e) → j ≡ 0 → n ≡ e → t ≡ shown y (k x n) → t ≡ shown y (after (enteredAny tags m w s a e) k)
   unfolding shown after blamed
   any-enters z {j} {p} {n} {x} {t} h b q j0 ne r =
-      go (lengthAt a s (a + 1) e) refl q ∙ ap (λ r. shown y (after r k)) (sym (opens-any h b (lengthAt a s (a + 1) e) refl))
+      go (lengthAt a s (a + 1) e) refl q ∙ ap (λ r. shown y (after r k)) (sym (any-opens tags m w s a e h b (lengthAt a s (a + 1) e) refl))
     where
       go : (v : Ans Extent) → lengthAt a s (a + 1) e ≡ v → (j, p, x, n) ≡ shown z v
           → t ≡ shown y (after (after (blamed m v) (λ x next. if_then_else (eqb next e) (got x next) (halt w next))) k)

@@ -1,18 +1,16 @@
 -- A loop over a list's entries: the entries so far, and that the whole list is those and then the rest.
 -- Assumes nothing.
-use Prim.Native.Nat.{ℕ, zero, suc, _+_, _-_, _≤_, _<_}
+use Prim.Native.Nat.{ℕ, zero, suc, _-_, _≤_, _<_}
 use native.Mathlib.Omega.{arith}
 use native.Mathlib.Nat.{sub-zero}
 use mathlib.Core.Path.{_≡_, refl, ap, sym, _∙_}
-use mathlib.Core.Bool.{Bool, true, false}
 use mathlib.Core.List.{List, [], _∷_, _++_, append-assoc, append-nil}
 use lib.ListN.{length, getD, length-append}
 use borrow.Author.Tests.{le-leb, lt-leb, lt-ltb, eq-eqb, ne-eqb}
-use Rattle.coding.specs.Reader.{Ans, Reader, Fault, after, entries, listOf, tagged}
+use Rattle.coding.specs.Reader.{Ans, Reader, after, entries, listOf, tagged}
 use Rattle.coding.specs.Reader.Ans.{got, halt}
-use Rattle.coding.specs.Reader.Fault.{limit, unexpected, missing}
 use Rattle.coding.specs.Shown.{shown}
-use Rattle.coding.proofs.Reading.{got-of, stay}
+use Rattle.coding.proofs.Reading.{got-of}
 
 -- the entries so far in front of an answer for the rest
 pub behind : {A : Type 0} → List A → Ans (List A) → Ans (List A)

@@ -1,26 +1,25 @@
--- The laws of the further combinators and leaves: contents for another type, faults told otherwise, runs of one type by tag, an element alone,
+-- The laws of the further combinators and leaves: contents for another type, faults told otherwise, runs of one type by tag,
 -- numbers of a list, a number that may be absent.
 -- Assumes nothing.
-use Prim.Native.Nat.{ℕ, zero, suc, _+_, _-_, _≤_, _<_}
-use mathlib.Core.Path.{_≡_, refl, sym, ap, ap₂, _∙_, subst}
-use mathlib.Core.List.{List, [], _∷_, _++_}
+use Prim.Native.Nat.{ℕ, _+_, _≤_, _<_}
+use mathlib.Core.Path.{_≡_, refl, sym, ap, _∙_, subst}
+use mathlib.Core.List.{List, [], _∷_}
 use mathlib.Core.Bool.{Bool, true, false, not, _&&_, _||_, true≢false}
 use mathlib.Core.Logic.{_⊎_, inl, inr}
 use mathlib.Core.Option.{Option, none, some}
 use native.Mathlib.Omega.{arith}
 use lib.ListN.{length, getD, length-append}
 use lib.Dec.{ltb, leb, eqb}
-use borrow.Author.Tests.{ltb-true, ltb-false, leb-true, le-leb, le-ltb, eqb-true, eq-eqb}
-use Rattle.coding.specs.Reader.{Ans, Fault, got, halt, if_then_else, after, tagged, choice, blamed, opened, entered, closed, Judged, mapped}
+use borrow.Author.Tests.{ltb-true, leb-true, le-leb, le-ltb, eqb-true}
+use Rattle.coding.specs.Reader.{Ans, Fault, got, halt, if_then_else, tagged, choice, blamed, Judged, mapped}
 use Rattle.coding.specs.Contents.{natural, shortest, negative, numberFrom}
-use Rattle.coding.specs.Codec.{Leaf, Run, Opens, Holds, lengthOctets, has, apart, all, prim, maybe, over, leafOver, marked, sort, alone, leads}
+use Rattle.coding.specs.Codec.{Leaf, Run, Holds, has, apart, all, prim, leafOver, marked, sort, leads}
 use Rattle.coding.specs.Leaves.{digits, width, number, listing, listed, isSome, or0, given}
-use Rattle.coding.specs.declared.Extent.{Extent}
 use Rattle.coding.specs.declared.Chosen.{Chosen}
-use Rattle.coding.proofs.Basic.{never, passing, either-way, chain, same-got, picked, unpicked, followed, and-left, and-right, and-both, or-left, or-right, or-no, or-false, has-left, has-right, holds-left, holds-right}
-use Rattle.coding.proofs.Laws.{Octets, clear, LeafLaws, RunLaws}
-use Rattle.coding.proofs.Header.{tagged-yes, opened-sound, opened-complete, opened-forward, opened-written, opened-shortest}
-use Rattle.coding.proofs.Combine.{forward, untagged, first-is, has-one, primLaws, maybeLaws, overLaws}
+use Rattle.coding.proofs.Basic.{never, either-way, chain, picked, unpicked, followed, and-left, and-right, and-both, or-left, or-right, or-no, or-false, has-left, has-right, holds-left, holds-right}
+use Rattle.coding.proofs.Laws.{LeafLaws, RunLaws}
+use Rattle.coding.proofs.Header.{tagged-yes}
+use Rattle.coding.proofs.Combine.{forward, untagged, first-is, primLaws, maybeLaws, overLaws}
 use Rattle.coding.proofs.Number.{unfit, judged-pass, judged-fail, numberLaws, length-digits}
 
 -- ---- contents for another type
@@ -51,7 +50,7 @@ leafOverLaws to from fine l back forth L = record {
 
 -- ---- faults told otherwise
 
-blamed-got : {A : Type 0} (m : Fault → Fault) (r : Ans A) {x : A} {n : ℕ} → blamed m r ≡ got x n → r ≡ got x n
+pub blamed-got : {A : Type 0} (m : Fault → Fault) (r : Ans A) {x : A} {n : ℕ} → blamed m r ≡ got x n → r ≡ got x n
 unfolding blamed
 blamed-got m (got v k) e = e
 blamed-got m (halt w p) e = absurd (never e)
@@ -65,43 +64,6 @@ markedLaws m f F = record {
   fine = F .fine;
   shortest = F .shortest;
   heads = F .heads;
-}
-
--- ---- an element alone
-
-entered-sound : (tag : ℕ) (m : Fault → Fault) (w : Fault) (s : List ℕ) (a e : ℕ) (x : Extent) (n : ℕ) → entered tag m w s a e ≡ got x n
-    → Opens tag s a (x .start) n × (x .stop ≡ n) × (n ≤ e)
-unfolding entered
-entered-sound tag m w s a e x n r =
-    let c = chain (blamed m (opened tag s a e)) _ r in
-    let t = passing (eqb (c .1) e) _ _ _ (c .3) in
-    opened-sound tag s a e x n (blamed-got m (opened tag s a e) (c .2) ∙ t .1)
-
-pub aloneLaws : {A : Type 0} (tag : ℕ) (m : Fault → Fault) (w : Fault) (f : Run A) → RunLaws f → RunLaws (alone tag m w f)
-unfolding alone entered closed blamed
-aloneLaws tag m w f F = record {
-  sound = λ s a e n x os ae es r.
-      let c = chain (entered tag m w s a e) _ r in
-      let ex : Extent = c .0 in
-      let o = entered-sound tag m w s a e ex (c .1) (c .2) in
-      let d = chain (f .read s (ex .start) (ex .stop)) _ (c .3) in
-      let i = F .sound s (ex .start) (ex .stop) (d .1) (d .0) os (omega (arith, o .0 .2, o .1)) (omega (arith, o .1, o .2)) (d .2) in
-      let z = passing (eqb (d .1) (ex .stop)) _ _ _ (d .3) in
-      let q : d .1 ≡ c .1 = eqb-true (d .1) (ex .stop) (z .0) ∙ o .1 in
-      same-got (λ y k. (k ≤ e) × ((j : ℕ) × Opens tag s a j k × f .Means y s j k)) (z .1)
-      (o .2, (ex .start, o .0, subst (λ (k : ℕ). f .Means (d .0) s (ex .start) k) q (i .1)));
-  complete = λ s a n e x ne es cl (c, op, k).
-      let en = leb-true e n (or-false (leb e n) cl) in
-      followed _ (followed _ (ap (blamed m) (opened-complete tag s a c n e ne op)) ∙ picked _ _ (eq-eqb n e (omega arith)))
-      ∙ followed _ (F .complete s c n n x (omega arith) (omega arith) (ap (λ b. b || not (f .avoid (getD s n 0))) (le-leb n n (omega arith))) k)
-      ∙ picked _ _ (eq-eqb n n refl);
-  written = λ s a x v b h.
-      let w : List ℕ = f .write x in
-      let o = opened-written tag s a w (omega (arith, length-append (lengthOctets (length w)) w)) h in
-      (o .0, o .1, subst (λ (k : ℕ). f .Means x s (o .0) k) (o .3) (F .written s (o .0) x v (omega (arith, length-append (lengthOctets (length w)) w)) (o .2)));
-  fine = λ s a n x (c, op, k). F .fine s c n x k;
-  shortest = λ s a n x os (c, op, k). opened-shortest tag s a c n (f .write x) os op (F .shortest s c n x os k);
-  heads = λ s a n x (c, op, k). inl (opened-forward op, has-one tag (getD s a 0) (op .0));
 }
 
 -- ---- runs of one type by tag

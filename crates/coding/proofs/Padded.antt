@@ -1,15 +1,15 @@
 -- Records and arrays: the same octets for another shape.
 -- Assumes nothing.
-use Prim.Native.Nat.{ℕ, zero, suc, _+_, _-_, _≤_, _<_}
-use mathlib.Core.Path.{_≡_, refl, sym, ap, ap₂, _∙_, subst}
+use Prim.Native.Nat.{ℕ, zero, suc, _-_, _≤_}
+use mathlib.Core.Path.{_≡_, refl, sym, ap, ap₂, _∙_}
 use mathlib.Core.List.{List, [], _∷_, _++_}
-use mathlib.Core.Bool.{Bool, true, false, not, _&&_, true≢false}
+use mathlib.Core.Bool.{Bool, true, _&&_, true≢false}
 use native.Mathlib.Omega.{arith}
-use lib.ListN.{length, getD, take, drop, replicate, length-append, length-replicate, length-drop, take-append-drop}
+use lib.ListN.{length, take, drop, replicate, length-append, length-replicate, length-drop, take-append-drop}
 use lib.Seq.{take-append-seam, drop-append-seam, length-take-le}
-use lib.Dec.{ltb, leb, eqb}
+use lib.Dec.{leb, eqb}
 use borrow.Author.Tests.{leb-true, le-leb, eqb-true, eq-eqb}
-use Rattle.coding.specs.Codec.{Run, over, shape, canonical, sameList, sameBool, all, pad, padded, counted}
+use Rattle.coding.specs.Codec.{Run, shape, canonical, sameList, all, pad, padded}
 use Rattle.coding.proofs.Basic.{and-left, and-right, and-both}
 use Rattle.coding.proofs.Laws.{RunLaws}
 use Rattle.coding.proofs.Combine.{overLaws}
@@ -56,12 +56,6 @@ module _ {A : Type 0} (z : A) (isZero : A → Bool) (zero-is : isZero z ≡ true
       ∙ take-append-drop c os)
       tl
 
-  pub countedLaws : (n : ℕ) (f : Run (List A)) → ((xs : List A) → f .valid xs ≡ true → length xs ≤ n) → RunLaws f → RunLaws (counted n z isZero f)
-  unfolding counted
-  countedLaws n f short F =
-      overLaws (λ xs. (pad n z xs, length xs)) (λ p. take (p .1) (p .0)) (padded n isZero) f
-      (λ xs v. counted-back n xs (short xs v)) (λ p o v. counted-forth n p o) F
-
 -- ---- a test of equality
 
 pub record Equal {A : Type 0} (same : A → A → Bool) : Type 0 where
@@ -70,19 +64,6 @@ pub record Equal {A : Type 0} (same : A → A → Bool) : Type 0 where
 
 pub eqbEqual : Equal eqb
 eqbEqual = record { self = λ x. eq-eqb x x refl; equal = eqb-true }
-
-pub boolEqual : Equal sameBool
-boolEqual = record { self = self; equal = equal }
-  where
-    self : (b : Bool) → sameBool b b ≡ true
-    self true = refl
-    self false = refl
-
-    equal : (a b : Bool) → sameBool a b ≡ true → a ≡ b
-    equal true true e = refl
-    equal true false e = sym e
-    equal false true e = e
-    equal false false e = refl
 
 pub listEqual : {A : Type 0} (same : A → A → Bool) → Equal same → Equal (sameList same)
 listEqual {A} same E = record { self = self; equal = equal }

@@ -3,9 +3,9 @@
 use Prim.Native.Nat.{ℕ, suc, _+_, _*_, _-_, _≤_, _<_}
 use native.Mathlib.Omega.{arith}
 use native.Mathlib.Numerals.{add-one}
-use mathlib.Core.Path.{_≡_, refl, ap, sym, _∙_}
+use mathlib.Core.Path.{_≡_, refl}
 use mathlib.Core.List.{List, [], _∷_, _++_}
-use lib.ListN.{length, getD, take, drop, length-drop, length-take}
+use lib.ListN.{length, getD, drop, length-drop, length-take}
 use lib.Seq.{drop-cons, take-suc, getD-drop, take-add, drop-drop}
 use Rattle.coding.specs.Reader.{part}
 use mathlib.Core.Bool.{Bool, true, false}

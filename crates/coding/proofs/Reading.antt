@@ -7,11 +7,10 @@ use mathlib.Core.Bool.{Bool, true, false}
 use mathlib.Core.List.{List}
 use Prim.Native.Nat.{_<_, _≤_}
 use borrow.Author.Tests.{le-ltb, lt-ltb, eq-eqb, ne-eqb}
-use Rattle.coding.specs.Reader.{Ans, Reader, Fault, code, blamed, after, if_then_else, judged, Judged, closed, choice, neither, tagged}
+use Rattle.coding.specs.Reader.{Ans, Reader, Fault, code, after, if_then_else, judged, Judged, closed, choice, neither, tagged}
 use Rattle.coding.specs.Reader.Ans.{got, halt}
 use Rattle.coding.specs.Reader.Fault.{missing, unexpected, cut, form, shortest, contents, limit, named}
 use Rattle.coding.specs.Reader.Judged.{good, bad}
-use Rattle.coding.specs.Codec.{Run, pickRun}
 use Rattle.coding.specs.Shown.{shown, verdict}
 
 -- no fault has the number 0
@@ -78,33 +77,12 @@ pub ends : {A B : Type 0} (v : A) (n : ℕ) (g : A → ℕ → Ans B) (y : B) {t
 unfolding after
 ends v n g y r = r
 
--- an answer whose fault is told otherwise; `recode` says so of the numbers
-pub passed : {A B : Type 0} (m : Fault → Fault) (x : Ans A) (f : A → ℕ → Ans B) (z : A) (y : B) {k p n : ℕ} {v : A} {t : ℕ × ℕ × B × ℕ} →
-    (k, p, v, n) ≡ shown z x → k ≡ 0 → t ≡ shown y (f v n) → t ≡ shown y (after (blamed m x) f)
-unfolding shown after blamed
-passed m (got v' n') f z y e k0 r = r ∙ ap (λ q. shown y (f (q .2) (q .3))) e
-passed m (halt w p') f z y e k0 r = absurd (some-code w (sym (ap (λ q. q .0) e) ∙ k0))
-
-pub told : {A B : Type 0} (m : Fault → Fault) (recode : ℕ → ℕ) (same : (w : Fault) → recode (code w) ≡ code (m w)) (x : Ans A) (f : A → ℕ → Ans B) (z : A) (y : B)
-    {k p n : ℕ} {v : A} → (k, p, v, n) ≡ shown z x → (k ≡ 0 → ⊥) → (recode k, p, y, 0) ≡ shown y (after (blamed m x) f)
-unfolding shown after blamed
-told m recode same (got v' n') f z y e k0 = absurd (k0 (ap (λ q. q .0) e))
-told m recode same (halt w p') f z y e k0 = ap (λ q. (recode (q .0), q .1, y, 0)) e ∙ ap (λ j. (j, p', y, 0)) (same w)
-
 -- one of two readings by a test
 pub when-yes : {A : Type 0} (b : Bool) (x x' : Ans A) (y : A) {t : ℕ × ℕ × A × ℕ} → b ≡ true → t ≡ shown y x → t ≡ shown y (if_then_else b x x')
 when-yes b x x' y h r = rw h r
 
 pub when-no : {A : Type 0} (b : Bool) (x x' : Ans A) (y : A) {t : ℕ × ℕ × A × ℕ} → b ≡ false → t ≡ shown y x' → t ≡ shown y (if_then_else b x x')
 when-no b x x' y h r = rw h r
-
-pub run-yes : {A : Type 0} (b : Bool) (f g : Run A) (s : List ℕ) (at end : ℕ) (y : A) {t : ℕ × ℕ × A × ℕ} →
-    b ≡ true → t ≡ shown y (f .read s at end) → t ≡ shown y ((pickRun b f g) .read s at end)
-run-yes b f g s at end y h r = rw h r
-
-pub run-no : {A : Type 0} (b : Bool) (f g : Run A) (s : List ℕ) (at end : ℕ) (y : A) {t : ℕ × ℕ × A × ℕ} →
-    b ≡ false → t ≡ shown y (g .read s at end) → t ≡ shown y ((pickRun b f g) .read s at end)
-run-no b f g s at end y h r = rw h r
 
 -- a fault at once
 pub halts : {A : Type 0} (z : A) (w : Fault) (p : ℕ) → (code w, p, z, 0) ≡ shown z (halt w p)

@@ -1,15 +1,15 @@
 -- Laws of a list kept in a flat array of numbers, k numbers to an entry.
 -- Assumes nothing.
-use Prim.Native.Nat.{ℕ, zero, suc, _+_, _-_, _*_, _≤_, _<_}
+use Prim.Native.Nat.{ℕ, zero, suc, _+_, _*_, _≤_, _<_}
 use mathlib.Core.Path.{_≡_, refl, sym, ap, ap₂, _∙_, subst}
 use mathlib.Core.List.{List, [], _∷_, _++_, append-assoc, append-nil}
 use native.Mathlib.Omega.{arith}
 use native.Mathlib.Nat.{mul-zero, zero-mul, zero-add, suc-mul, mul-suc, mul-comm}
-use lib.ListN.{length, getD, replicate, length-append, getD-replicate, List·getD-append}
+use lib.ListN.{length, getD, length-append, List·getD-append}
 use lib.Seq.{sets, getD-append-add}
 use Rattle.coding.specs.Codec.{pad}
 use Rattle.coding.specs.Rows.{rows, table}
-use Rattle.coding.proofs.Arrays.{padded-more, length-padded}
+use Rattle.coding.proofs.Arrays.{padded-more}
 
 -- ---- tables
 
@@ -24,17 +24,6 @@ module _ {A : Type 0} where
   unfolding table
   rows-table [] z g h = refl
   rows-table (x ∷ xs) z g h = ap₂ (λ (y : A) (ys : List A). y ∷ ys) (h 0 (omega arith)) (rows-table xs z (λ i. g (suc i)) (λ i l. h (suc i) (omega arith)))
-
-  pub table-same : (n : ℕ) (f g : ℕ → A) → ((i : ℕ) → i < n → f i ≡ g i) → table n f ≡ table n g
-  unfolding table
-  table-same zero f g h = refl
-  table-same (suc n) f g h = ap₂ (λ (y : A) (ys : List A). y ∷ ys) (h 0 (omega arith)) (table-same n (λ i. f (suc i)) (λ i. g (suc i)) (λ i l. h (suc i) (omega arith)))
-
-  pub table-get : (n : ℕ) (g : ℕ → A) (i : ℕ) (z : A) → i < n → getD (table n g) i z ≡ g i
-  unfolding table
-  table-get zero g i z h = absurd (omega arith)
-  table-get (suc n) g zero z h = refl
-  table-get (suc n) g (suc i) z h = table-get n (λ i. g (suc i)) i z (omega arith)
 
   -- one entry more
   pub table-more : (n : ℕ) (g : ℕ → A) → table (suc n) g ≡ table n g ++ (g n ∷ [])
@@ -89,19 +78,6 @@ module _ {A : Type 0} (row : A → List ℕ) (k : ℕ) (wide : (x : A) → lengt
 
   pub rows-get' : (n : ℕ) (xs : List A) (z : A) (i j : ℕ) → i < length xs → j < k → getD (pad n 0 (rows row xs)) (k * i + j) 0 ≡ getD (row (getD xs i z)) j 0
   rows-get' n xs z i j l h = ap (λ (m : ℕ). getD (pad n 0 (rows row xs)) (m + j) 0) (mul-comm k i) ∙ rows-get n xs z i j l h
-
-  -- the array keeps its length, and is zero past the entries
-  pub rows-room : (n : ℕ) (xs : List A) → k * length xs ≤ n → length (pad n 0 (rows row xs)) ≡ n
-  rows-room n xs h = length-padded n 0 (rows row xs) (omega (arith, rows-length xs))
-
-  pub rows-rest : (n : ℕ) (xs : List A) (p : ℕ) → k * length xs ≤ p → p < n → getD (pad n 0 (rows row xs)) p 0 ≡ 0
-  unfolding pad
-  rows-rest n xs p h l =
-      let w = rows-length xs in
-      let e : p ≡ length (rows row xs) + (p - length (rows row xs)) = omega (arith, w) in
-      ap (λ (m : ℕ). getD (rows row xs ++ replicate (n - length (rows row xs)) 0) m 0) e
-      ∙ getD-append-add (rows row xs) (replicate (n - length (rows row xs)) 0) (p - length (rows row xs)) 0
-      ∙ getD-replicate (n - length (rows row xs)) (p - length (rows row xs)) 0 0 (omega (arith, w))
 
   -- one entry more, stored at the first unused row
   pub rows-more : (n : ℕ) (xs : List A) (v : A) → k * length xs + k ≤ n

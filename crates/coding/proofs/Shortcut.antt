@@ -1,21 +1,21 @@
 -- What the short forms of an element mean: the code that finds one answers as the long way would.
 -- Assumes nothing.
 use Prim.Native.Nat.{ℕ, _+_, _-_, _*_, _≤_, _<_}
-use mathlib.Core.Path.{_≡_, refl, sym, ap, _∙_, subst}
+use mathlib.Core.Path.{_≡_, sym, ap, _∙_}
 use mathlib.Core.List.{List, [], _∷_}
 use mathlib.Core.Bool.{Bool, true, false, _&&_, true≢false}
 use native.Mathlib.Omega.{arith}
 use lib.ListN.{length, getD}
 use lib.Dec.{ltb, leb, eqb}
-use borrow.Author.Tests.{ltb-true, leb-true, eqb-true, lt-ltb, le-ltb, le-leb, lt-leb, eq-eqb, ne-eqb}
+use borrow.Author.Tests.{eqb-true, lt-ltb, le-ltb, le-leb, lt-leb, eq-eqb, ne-eqb}
 use Rattle.coding.specs.declared.Extent.{Extent}
-use Rattle.coding.specs.Reader.{Ans, got, if_then_else, opened, part, judged, Judged, primitive}
+use Rattle.coding.specs.Reader.{got, opened, part, judged, Judged, primitive}
 use Rattle.coding.specs.Contents.{natural, shortest, negative, numberFrom, null}
-use Rattle.coding.specs.Codec.{LengthForm, short, Opens, Leaf, prim}
+use Rattle.coding.specs.Codec.{short, Leaf, prim}
 use Rattle.coding.specs.Leaves.{number, nullLeaf, signed16, identifier}
 use Rattle.coding.specs.Shown.{shown}
 use Rattle.coding.specs.Shortcut.{Tiny, Short, tinyAt, shortAt, bareAt}
-use Rattle.coding.proofs.Basic.{picked, unpicked, followed, and-left, and-right, and-both, and-no}
+use Rattle.coding.proofs.Basic.{picked, unpicked, followed, and-both, and-no}
 use Rattle.coding.proofs.Header.{opened-complete}
 use Rattle.coding.proofs.Parts.{part-none, part-cons}
 

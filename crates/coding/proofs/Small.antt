@@ -1,27 +1,22 @@
 -- Elements of few octets as they are written, and the sizes that a writer adds up.
 -- Assumes nothing.
-use Prim.Native.Nat.{ℕ, zero, suc, _+_, _/_, _%_, _≤_, _<_}
-use mathlib.Core.Path.{_≡_, refl, sym, ap, ap₂, _∙_, subst}
+use Prim.Native.Nat.{ℕ, _+_, _/_, _%_, _≤_, _<_}
+use mathlib.Core.Path.{_≡_, refl, sym, ap, ap₂, _∙_}
 use mathlib.Core.List.{List, [], _∷_, _++_}
 use mathlib.Core.Bool.{Bool, true, false}
 use native.Mathlib.Omega.{arith}
 use lib.ListN.{length, take, length-append}
 use lib.Seq.{length-take-le}
 use lib.Dec.{ltb, leb}
-use borrow.Author.Tests.{ltb-false, leb-false, lt-ltb, le-ltb, le-leb, lt-leb}
+use borrow.Author.Tests.{lt-ltb, le-ltb, le-leb, lt-leb}
 use Rattle.coding.specs.Reader.{if_then_else}
 use Rattle.coding.specs.Codec.{lengthOctets, prim}
 use Rattle.coding.specs.Leaves.{width, digits, nullLeaf, identifier, string}
 use Rattle.coding.specs.Written.{Wrote, lead, fullNumber}
 use Rattle.coding.proofs.Basic.{picked, unpicked}
-use Rattle.coding.proofs.Writing.{lead-short, lead-long, lead-length-short, lead-length-long, digits-one, prim-write, wrote-as, wrote-both}
+use Rattle.coding.proofs.Writing.{lead-short, lead-length-short, lead-length-long, digits-one, prim-write, wrote-both}
 
 -- ---- tag and length octets
-
--- their number does not depend on the tag
-pub lead-any : (tag tag' n : ℕ) → length (lead tag n) ≡ length (lead tag' n)
-unfolding lead
-lead-any tag tag' n = refl
 
 -- an element of n octets of contents, with its tag and length octets
 pub element-short : (n : ℕ) → n < 128 → (tag : ℕ) → n + 2 ≡ length (lead tag n) + n

@@ -1,17 +1,16 @@
 -- What the laws say of a whole type: written octets read back as the value, octets read have one meaning, no octets are shorter.
 -- Assumes nothing.
-use Prim.Native.Nat.{ℕ, zero, suc, _+_, _-_, _≤_, _<_}
+use Prim.Native.Nat.{ℕ, _+_, _≤_}
 use mathlib.Core.Path.{_≡_, refl, sym, ap, _∙_, subst}
-use mathlib.Core.List.{List, [], _∷_, _++_, append-nil}
-use mathlib.Core.Bool.{Bool, true, false, not, _||_}
+use mathlib.Core.List.{List, [], _++_, append-nil}
+use mathlib.Core.Bool.{true, not, _||_}
 use mathlib.Core.Logic.{_↔_}
 use native.Mathlib.Omega.{arith}
 use native.Mathlib.Nat.{zero-add}
-use lib.ListN.{length, getD, length-append}
-use lib.Dec.{leb}
+use lib.ListN.{length, getD}
 use borrow.Author.Tests.{le-leb}
-use Rattle.coding.specs.Reader.{Ans, got}
-use Rattle.coding.specs.Codec.{Holds, Run}
+use Rattle.coding.specs.Reader.{got}
+use Rattle.coding.specs.Codec.{Run}
 use Rattle.coding.proofs.Basic.{holds-there, same-got}
 use Rattle.coding.proofs.Laws.{Octets, clear, RunLaws}
 

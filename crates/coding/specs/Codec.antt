@@ -1,6 +1,6 @@
 -- What a type of the tables is: how it is read, how it is written, which values are valid, and which octets mean which value.
 -- The reading is that of Reader.antt; the meaning is the declarative one, where each length has any of its three forms.
-use Prim.Native.Nat.{ℕ, zero, suc, _+_, _-_, _*_, _/_, _%_, _≤_, _<_}
+use Prim.Native.Nat.{ℕ, _+_, _-_, _*_, _/_, _%_, _≤_, _<_}
 use mathlib.Core.Path.{_≡_}
 use mathlib.Core.List.{List, [], _∷_, _++_}
 use mathlib.Core.Bool.{Bool, true, false, not, _&&_, _||_}
@@ -8,7 +8,7 @@ use mathlib.Core.Logic.{_⊎_, inl, inr}
 use mathlib.Core.Option.{Option, none, some}
 use lib.ListN.{length, getD, take, drop, replicate}
 use lib.Dec.{ltb, leb, eqb}
-use Rattle.coding.specs.Reader.{Reader, Ans, Fault, got, halt, if_then_else, after, choice, pure, primitive, constructed, Judged, mapped, blamed, entered, enteredAny, closed, optional, entries, listOf}
+use Rattle.coding.specs.Reader.{Reader, Fault, got, halt, if_then_else, after, choice, pure, primitive, constructed, Judged, mapped, blamed, enteredAny, closed, optional, listOf}
 unfoldable pub use Rattle.coding.specs.Reader.{has}
 
 -- ---- lengths
@@ -168,19 +168,7 @@ module _ {A : Type 0} where
   MeansMaybe M none s a n = a ≡ n
   MeansMaybe M (some x) s a n = M x s a n
 
-  -- entries to the end of the enclosing element, none or more and at most as many as most
-  unfoldable pub many : ℕ → ℕ → Run A → Run (List A)
-  many tag most f = record {
-    read = entries tag most (f .read);
-    write = writeAll (f .write);
-    valid = λ xs. leb (length xs) most && all (f .valid) xs;
-    Means = λ xs s a n. (length xs ≤ most) × MeansAll (f .Means) xs s a n;
-    first = f .first;
-    empty = true;
-    avoid = λ o. true;
-  }
-
-  -- one or more
+  -- one entry or more to the end of the enclosing element, at most as many as most
   unfoldable pub some·more : ℕ → ℕ → Run A → Run (List A)
   some·more tag most f = record {
     read = listOf tag most (f .read);
@@ -205,19 +193,6 @@ module _ {A : Type 0} where
   }
 
 -- ---- frames: what comes after depends on what was read; a tag that is refused at once
-
-module _ {A : Type 0} {B : A → Type 0} where
-  -- a run, and then the run that its value names, to the end of the enclosing element
-  unfoldable pub chosen : Run A → ((x : A) → Run (B x)) → Run ((x : A) × B x)
-  chosen f g = record {
-    read = λ s a e. after (f .read s a e) (λ x m. after ((g x) .read s m e) (λ y n. got (x, y) n));
-    write = λ p. f .write (p .0) ++ (g (p .0)) .write (p .1);
-    valid = λ p. f .valid (p .0) && (g (p .0)) .valid (p .1);
-    Means = λ p s a n. (m : ℕ) × f .Means (p .0) s a m × (g (p .0)) .Means (p .1) s m n;
-    first = f .first;
-    empty = false;
-    avoid = λ o. true;
-  }
 
 module _ {A B : Type 0} where
   -- a run, and then one that depends on its value and whose values hold it, to the end of the enclosing element
@@ -268,22 +243,8 @@ module _ {A : Type 0} where
     avoid = λ o. f .avoid o || (g .avoid o || g .empty && eqb o tag);
   }
 
-  -- an element that stands alone: its tag, its length octets, its end and that nothing comes after it are judged before its contents
-  unfoldable pub alone : ℕ → (Fault → Fault) → Fault → Run A → Run A
-  alone tag m w f = record {
-    read = λ s a e.
-        after (entered tag m w s a e) (λ x next.
-        after (f .read s (x .start) (x .stop)) (λ v last. closed v last (x .stop) next));
-    write = λ x. tag ∷ lengthOctets (length (f .write x)) ++ f .write x;
-    valid = f .valid;
-    Means = λ x s a n. (c : ℕ) × Opens tag s a c n × f .Means x s c n;
-    first = tag ∷ [];
-    empty = false;
-    avoid = λ o. true;
-  }
-
-module _ {A : Type 0} where
-  -- the same where the tag is one of a list and the contents go by it; tagOf tells the tag that a value is written with
+  -- an element that stands alone and whose tag is one of a list: its tag, its length octets, its end and that nothing comes after it are judged
+  -- before its contents, which go by the tag; tagOf tells the tag that a value is written with
   unfoldable pub frames : List ℕ → (A → ℕ) → (Fault → Fault) → Fault → (ℕ → Run A) → Run A
   frames tags tagOf m w f = record {
     read = λ s a e.
@@ -320,10 +281,6 @@ sameList same [] (y ∷ ys) = false
 sameList same (x ∷ xs) [] = false
 sameList same (x ∷ xs) (y ∷ ys) = same x y && sameList same xs ys
 
-abbrev pub sameBool : Bool → Bool → Bool
-sameBool true b = b
-sameBool false b = not b
-
 module _ {A : Type 0} where
   -- a list in an array of n places, those past the count filled with z
   unfoldable pub pad : ℕ → A → List A → List A
@@ -331,9 +288,6 @@ module _ {A : Type 0} where
 
   unfoldable pub padded : ℕ → (A → Bool) → List A × ℕ → Bool
   padded n isZero p = leb (p .1) n && (eqb (length (p .0)) n && all isZero (drop (p .1) (p .0)))
-
-  unfoldable pub counted : ℕ → A → (A → Bool) → Run (List A) → Run (List A × ℕ)
-  counted n z isZero f = over (λ xs. (pad n z xs, length xs)) (λ p. take (p .1) (p .0)) (padded n isZero) f
 
 -- ---- octets in place: xs stands in s from place a on
 abbrev pub Holds : List ℕ → ℕ → List ℕ → Type 0

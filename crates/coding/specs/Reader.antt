@@ -107,12 +107,8 @@ constructed tag body s at end =
     after (body s (e .start) (e .stop)) (λ v last.
     closed v last (e .stop) next))
 
--- An element that stands alone: its tag, its length octets, its end and that nothing comes after it are judged before its contents.
-unfoldable pub entered : ℕ → (Fault → Fault) → Fault → Reader Extent
-entered tag m over s at end =
-    after (blamed m (opened tag s at end)) (λ e next. if_then_else (eqb next end) (got e next) (halt over next))
-
--- The same where the tag is one of a list.
+-- An element that stands alone and whose tag is one of a list: its tag, its length octets, its end and that nothing comes after it are judged
+-- before its contents.
 unfoldable pub enteredAny : List ℕ → (Fault → Fault) → Fault → Reader Extent
 enteredAny tags m over s at end =
     if_then_else (leb end at) (halt (m missing) end)

@@ -1,7 +1,7 @@
 -- What writing into a lent buffer leaves.
 use Prim.Native.Nat.{ℕ, _+_}
 use mathlib.Core.Path.{_≡_}
-use mathlib.Core.List.{List, [], _∷_, _++_}
+use mathlib.Core.List.{List, _∷_, _++_}
 use lib.ListN.{length}
 use lib.Seq.{sets}
 use Rattle.coding.specs.Codec.{lengthOctets}

@@ -6,11 +6,11 @@
 // the place after them.
 ghost use Prim.Native.Nat.{ℕ, _+_, _*_, _≤_, _<_, min};
 ghost use mathlib.Core.Path.{_≡_};
-ghost use mathlib.Core.Bool.{Bool, true, false};
+ghost use mathlib.Core.Bool.{true, false};
 ghost use mathlib.Core.List.{[], _∷_, _++_};
 ghost use lib.ListN.{length, take};
 ghost use lib.Dec.{ltb};
-ghost use Rattle.coding.specs.Reader.{tagged, neither, extent, lengthAt, opened, closed, primitive, part};
+ghost use Rattle.coding.specs.Reader.{tagged, extent, lengthAt, opened, part};
 ghost use Rattle.coding.specs.Contents.{natural, shortest, negative, numberFrom, every};
 ghost use Rattle.coding.specs.Codec.{prim, lengthOctets};
 ghost use Rattle.coding.specs.Leaves.{number, nullLeaf, given, signed16, identifier, width, digits};
@@ -124,7 +124,7 @@ pub fn length_at(s: &[u8], tag: usize, at: usize, end: usize) -> Opened
 }
 
 // The length of contents where the element at a place has the tag, a length of one octet, and lies inside; 256 otherwise.
-pub fn short_length(s: &[u8], at: usize, end: usize, tag: u8) -> usize
+fn short_length(s: &[u8], at: usize, end: usize, tag: u8) -> usize
     requires { ⌜ end ≤ length (now s) ⌝ }
     ensures { λ r. ⌜ r ≡ shortAt (now (s .entry)) at end tag ⌝ }
     ensures found { λ r. ⌜ (r ≤ 256) × ((r < 128) → Short (now (s .entry)) at end tag r) ⌝ }
@@ -432,7 +432,7 @@ pub struct Empty {
 }
 
 // Whether the element at a place is tag 00, inside.
-pub fn bare(s: &[u8], at: usize, end: usize, tag: u8) -> bool
+fn bare(s: &[u8], at: usize, end: usize, tag: u8) -> bool
     requires { ⌜ end ≤ length (now s) ⌝ }
     ensures { λ r. ⌜ r ≡ bareAt (now (s .entry)) at end tag ⌝ }
     ensures found { λ r. ⌜ ((r ≡ true) → Short (now (s .entry)) at end tag 0) ⌝ }
@@ -465,7 +465,7 @@ pub fn null_at(s: &[u8], at: usize, end: usize, tag: u8) -> Empty
 }
 
 // The same, by its length octets of any form.
-pub fn null_long(s: &[u8], at: usize, end: usize, tag: u8) -> Empty
+fn null_long(s: &[u8], at: usize, end: usize, tag: u8) -> Empty
     requires { ⌜ end ≤ length (now s) ⌝ }
     ensures { λ r. ⌜ (r .fault, r .place, tt, r .next) ≡ shown (tt {0}) ((prim tag nullLeaf) .read (now (s .entry)) at end) ⌝ }
 {
@@ -616,7 +616,7 @@ pub fn put_lead(buf: &mut [u8], at: usize, tag: u8, n: usize) -> usize
     ensures { λ r. ⌜ Wrote (now (buf .entry)) (now (buf .exit)) at (lead tag n) r ⌝ }
 {
     buf[at] = tag;
-    if n < 128 {
+    if n <= 127 {
         buf[at + 1] = n as u8;
         return at + 2;
     }

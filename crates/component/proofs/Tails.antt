@@ -1,26 +1,32 @@
 -- What is left to read after a head: an argument or result, and then the ends.
 -- Assumes nothing.
-use Prim.Native.Nat.{ℕ, _+_, _≤_, _<_}
+use Prim.Native.Nat.{ℕ, _≤_, _<_}
 use native.Mathlib.Omega.{arith}
-use mathlib.Core.Path.{_≡_, refl, ap, sym, _∙_, subst}
+use mathlib.Core.Path.{_≡_, refl, ap, sym, _∙_}
 use mathlib.Core.Bool.{Bool, true, false, not, _&&_, _||_, true≢false}
 use mathlib.Core.List.{List}
 use lib.ListN.{length}
 use lib.Dec.{leb, eqb}
-use borrow.Author.Tests.{leb-false, le-leb, lt-leb, eqb-true, eqb-false, eq-eqb, ne-eqb}
-use Rattle.coding.specs.Reader.{after, blamed, closed, choice, tagged, if_then_else}
+use borrow.Author.Tests.{leb-false, le-leb, lt-leb, eqb-true, eqb-false, ne-eqb}
+use Rattle.coding.specs.Reader.{Ans, choice, tagged, if_then_else}
+use Rattle.coding.specs.Reader.Ans.{got, halt}
 use Rattle.coding.specs.Codec.{Run, pickRun, sort, canonical, over, marked}
 use Rattle.coding.specs.Shown.{shown}
 use Rattle.coding.proofs.Basic.{and-left, and-right}
 use Rattle.coding.proofs.Reading.{flat}
 use Rattle.types.specs.declared.Record.{Record}
 use Rattle.types.specs.declared.Answer.{Answer}
-use Rattle.types.specs.Arguments.{available, chargeOf}
-use Rattle.types.specs.Frames.{inArgument, sameRecord, request, carrying, argument, accepted, refused, answered}
+use Rattle.types.specs.declared.Entries.{Entries}
+use Rattle.types.specs.declared.Charge.{Charge}
+use Rattle.types.specs.Entries.{noEntries}
+use Rattle.types.specs.Arguments.{noCharge, available, chargeOf}
+use Rattle.types.specs.Frames.{inArgument, sameRecord, request, carrying, argument, accepted, refused}
 use Rattle.heads.specs.declared.Head.{Head}
 use Rattle.heads.specs.Heads.{argumentCode, numberCode, headRecord, tailOf, restOf}
 use Rattle.heads.proofs.Answers.{goes-in, refuses-in, ends, leaves, twice, over-in}
-use Rattle.component.specs.Whole.{isRequest, isPlain, mayList}
+use Rattle.component.specs.declared.MainAnswer.{MainAnswer}
+use Rattle.component.specs.Whole.{withEntries}
+use Rattle.component.specs.Ways.{isRequest, isPlain, mayList, plainAnswer, listOf}
 
 module _ {A : Type 0} (to : A → Record) (from : Record → A) (g : Run A) (h : Head) (s : List ℕ) (z : A) {k p n : ℕ} {v : A}
     (e : (k, p, v, n) ≡ shown z (g .read s (h .at) (h .stop))) where
@@ -44,6 +50,24 @@ module _ {A : Type 0} (to : A → Record) (from : Record → A) (g : Run A) (h :
 pub untagged : (o : ℕ) (s : List ℕ) (at end : ℕ) → tagged s at end 0x05 ≡ false → (available o) .read s at end ≡ (chargeOf o) .read s at end
 unfolding chargeOf sort choice
 untagged o s at end t = rw t
+
+-- ---- an answer and the list that is left
+
+-- a fault has none
+pub none-read : (x : Ans Charge) {k p n : ℕ} {c : Charge} → (k, p, c, n) ≡ shown noCharge x → (k ≡ 0 → ⊥) → c .entries ≡ noEntries
+unfolding shown
+none-read (got v n) e k0 = absurd (k0 (ap (λ t. t .0) e))
+none-read (halt w p) e k0 = ap (λ t. t .2 .entries) e
+
+pub none-left : (m : MainAnswer) {e : Entries} → e ≡ noEntries → withEntries m (listOf (m .number) e) ≡ plainAnswer m
+none-left m q = ap (withEntries m) (ap (listOf (m .number)) q ∙ none (eqb (m .number) 0))
+  where
+    none : (b : Bool) → if_then_else b noEntries noEntries ≡ noEntries
+    none true = refl
+    none false = refl
+
+pub refused-left : (m : MainAnswer) (e : Entries) {n : ℕ} → (n ≡ 0 → ⊥) → plainAnswer m ≡ refused n → withEntries m (listOf (m .number) e) ≡ refused n
+refused-left m e n0 q = rw (ne-eqb (m .number) 0 (λ z. n0 (sym (ap (λ (a : Answer). a .number) q) ∙ z))) q
 
 -- ---- what is left, by the head
 

@@ -1,18 +1,22 @@
 // Components: read whole.
 //
-// The head is read into a small struct, then the argument or result; a record is made once, at the end.
+// The head is read into a small struct, then the argument or result: its list into two arrays that are lent, the rest as the answer.
 ghost use mathlib.Core.Path.{_≡_};
-ghost use mathlib.Core.Bool.{Bool, true, false, _||_};
-ghost use Prim.Native.Nat.{_+_, _≤_, _<_};
+ghost use mathlib.Core.Bool.{true, false, _||_};
+ghost use Prim.Native.Nat.{_≤_};
 ghost use lib.ListN.{length};
 ghost use Rattle.coding.specs.Reader.{tagged};
 ghost use Rattle.coding.specs.Shown.{shown};
+ghost use Rattle.types.specs.declared.Entries.{Entries};
 ghost use Rattle.types.specs.Arguments.{plain, noCharge, chargeOf};
 ghost use Rattle.types.specs.Frames.{request, carrying, accepted, refused, readOf};
 ghost use Rattle.heads.specs.Heads.{headRecord, tailOf, restOf};
-ghost use Rattle.component.specs.Whole.{isRequest, isPlain, mayList, fullAnswer};
+ghost use Rattle.lists.specs.Readers.{Zero};
+ghost use Rattle.component.specs.Whole.{entries, withEntries, wholeAnswer};
+ghost use Rattle.component.specs.Ways.{isRequest, isPlain, mayList, plainAnswer, Reads, listOf};
 
-// A record without its list, and its answer.
+// A record (types::Record) but for its list, and the answer that holds it.
+#[repr(C)]
 pub struct Main {
     pub frame: u8,
     pub unnamed: u8,
@@ -24,6 +28,7 @@ pub struct Main {
     pub figure: types::Figure,
 }
 
+#[repr(C)]
 pub struct MainAnswer {
     pub number: u32,
     pub value: Main,
@@ -31,32 +36,8 @@ pub struct MainAnswer {
 
 // ---- arguments and results
 
-const NO_FIGURE: types::Figure = types::Figure {
-    money: types::Money {
-        currency: types::Currency {
-            count: 0,
-            octets: [0; 10],
-        },
-        multiplier: 0,
-        number: 0,
-    },
-    association: types::Association {
-        id: 0,
-        count: 0,
-        kind: 0,
-        plan: 0,
-        digits: [0; 20],
-    },
-    kind: 0,
-    total: 0,
-    billed: 0,
-    billing: 0,
-    arrangement: 0,
-    count: 0,
-};
-
 fn no_main(number: u8) -> MainAnswer
-    ensures { λ r. ⌜ fullAnswer r ≡ refused number ⌝ }
+    ensures { λ r. ⌜ plainAnswer r ≡ refused number ⌝ }
 {
     MainAnswer {
         number: number as u32,
@@ -68,14 +49,14 @@ fn no_main(number: u8) -> MainAnswer
             error: 0,
             problem: 0,
             detail: 0,
-            figure: NO_FIGURE,
+            figure: figures::NO_FIGURE,
         },
     }
 }
 
 // A record of its head alone.
 fn bare_main(h: heads::Head) -> MainAnswer
-    ensures { λ r. ⌜ fullAnswer r ≡ accepted (headRecord h) ⌝ }
+    ensures { λ r. ⌜ plainAnswer r ≡ accepted (headRecord h) ⌝ }
 {
     MainAnswer {
         number: 0,
@@ -87,7 +68,7 @@ fn bare_main(h: heads::Head) -> MainAnswer
             error: h.error,
             problem: h.problem,
             detail: h.detail,
-            figure: NO_FIGURE,
+            figure: figures::NO_FIGURE,
         },
     }
 }
@@ -124,7 +105,7 @@ fn is_plain(operation: u8) -> bool
 // The argument of operation 30.
 fn asked(s: &[u8], h: heads::Head) -> MainAnswer
     requires { ⌜ h .stop ≤ length (now s) ⌝ }
-    ensures { λ r. ⌜ fullAnswer r ≡ tailOf (request (h .id)) h (now (s .entry)) ⌝ }
+    ensures { λ r. ⌜ plainAnswer r ≡ tailOf (request (h .id)) h (now (s .entry)) ⌝ }
 {
     let n = coding::natural_at(s, h.at, h.stop, 0x0a, 0, 2);
     if n.fault != 0 {
@@ -147,7 +128,7 @@ fn asked(s: &[u8], h: heads::Head) -> MainAnswer
             error: 0,
             problem: 0,
             detail,
-            figure: NO_FIGURE,
+            figure: figures::NO_FIGURE,
         },
     }
 }
@@ -163,12 +144,10 @@ fn figure_of(s: &[u8], at: usize, stop: usize, operation: u8) -> figures::Figure
     figures::figure_at(s, at, stop, operation)
 }
 
-// An argument or result without a list.
-fn carried(s: &[u8], h: heads::Head) -> MainAnswer
-    requires { ⌜ (h .stop ≤ length (now s)) × (isPlain (h .operation) || tagged (now s) (h .at) (h .stop) 0x05 ≡ true) ⌝ }
-    ensures { λ r. ⌜ fullAnswer r ≡ tailOf (carrying (h .frame) (h .id) (h .operation)) h (now (s .entry)) ⌝ }
+// An argument or result whose charge is read: the charge's fault, or what is left over, or the record.
+fn ended(s: &[u8], h: heads::Head, f: figures::FigureRead) -> MainAnswer
+    ensures { λ r. ⌜ ((e : Entries) → Reads f e h (now (s .entry)) → withEntries r (listOf (r .number) e) ≡ tailOf (carrying (h .frame) (h .id) (h .operation)) h (now (s .entry))) ⌝ }
 {
-    let f = figure_of(s, h.at, h.stop, h.operation);
     if f.fault != 0 {
         return no_main(heads::number_of(heads::inner(f.fault)));
     }
@@ -194,10 +173,19 @@ fn carried(s: &[u8], h: heads::Head) -> MainAnswer
     }
 }
 
+// An argument or result without a list.
+fn carried(s: &[u8], h: heads::Head) -> MainAnswer
+    requires { ⌜ (h .stop ≤ length (now s)) × (isPlain (h .operation) || tagged (now s) (h .at) (h .stop) 0x05 ≡ true) ⌝ }
+    ensures { λ r. ⌜ plainAnswer r ≡ tailOf (carrying (h .frame) (h .id) (h .operation)) h (now (s .entry)) ⌝ }
+{
+    let f = figure_of(s, h.at, h.stop, h.operation);
+    ended(s, h, f)
+}
+
 // What is left to read after a head, where it holds no list.
 fn main_of(s: &[u8], h: heads::Head) -> MainAnswer
     requires { ⌜ (h .stop ≤ length (now s)) × (mayList h (now s) ≡ false) ⌝ }
-    ensures { λ r. ⌜ fullAnswer r ≡ restOf h (now (s .entry)) ⌝ }
+    ensures { λ r. ⌜ plainAnswer r ≡ restOf h (now (s .entry)) ⌝ }
 {
     if h.frame == 0 {
         return no_main(h.number);
@@ -234,71 +222,49 @@ fn may_list(s: &[u8], h: heads::Head) -> bool
     true
 }
 
-const NO_ENTRIES: types::Entries = types::Entries {
-    numbers: [0; 32],
-    octets: [0; 192],
-};
-
-fn refuse(number: u8) -> types::Answer
-    ensures { λ r. ⌜ r ≡ refused number ⌝ }
+// A refusal leaves no list, whatever was read before it.
+fn clear_refused(number: u32, numbers: &mut [u32; 32], rows: &mut [u8; 192])
+    ensures { λ _. ⌜ entries (now (numbers .exit)) (now (rows .exit)) ≡ listOf number (entries (now (numbers .entry)) (now (rows .entry))) ⌝ }
 {
-    types::Answer {
-        number: number as u32,
-        value: types::Record {
-            frame: 0,
-            unnamed: 0,
-            id: 0,
-            operation: 0,
-            error: 0,
-            problem: 0,
-            detail: 0,
-            charge: types::Charge {
-                figure: NO_FIGURE,
-                entries: NO_ENTRIES,
-            },
-        },
+    if number == 0 {
+        return;
     }
+    *numbers = [0; 32];
+    *rows = [0; 192];
 }
+
 // An argument or result that may hold a list.
-fn listed(s: &[u8], h: heads::Head) -> types::Answer
+fn listed(s: &[u8], h: heads::Head, numbers: &mut [u32; 32], rows: &mut [u8; 192]) -> MainAnswer
     requires { ⌜ (h .stop ≤ length (now s)) × (mayList h (now s) ≡ true) ⌝ }
-    ensures { λ r. ⌜ r ≡ restOf h (now (s .entry)) ⌝ }
+    requires { ⌜ Zero (now numbers) (now rows) ⌝ }
+    ensures { λ r. ⌜ wholeAnswer r (now (numbers .exit)) (now (rows .exit)) ≡ restOf h (now (s .entry)) ⌝ }
 {
-    let c = lists::charge_at(s, h.at, h.stop, h.operation);
-    if c.fault != 0 {
-        return refuse(heads::number_of(heads::inner(c.fault)));
-    }
-    if c.next != h.stop {
-        return refuse(6);
-    }
-    if h.next != s.len() {
-        return refuse(6);
-    }
-    let charge = c.value;
-    types::Answer {
-        number: 0,
-        value: types::Record {
-            frame: h.frame,
-            unnamed: 0,
-            id: h.id,
-            operation: h.operation,
-            error: 0,
-            problem: 0,
-            detail: 0,
-            charge,
-        },
-    }
+    let f = lists::charge_into(s, h.at, h.stop, h.operation, numbers, rows);
+    let m = ended(s, h, f);
+    clear_refused(m.number, numbers, rows);
+    m
 }
 
-// Reads a component: its record, or the number by which it is refused and zeros.
+// Reads a component: its list into two arrays that are lent, whatever they hold, and the rest as the answer.
+pub fn read_into(octets: &[u8], numbers: &mut [u32; 32], rows: &mut [u8; 192]) -> MainAnswer
+    ensures { λ r. ⌜ wholeAnswer r (now (numbers .exit)) (now (rows .exit)) ≡ readOf (now (octets .entry)) ⌝ }
+{
+    *numbers = [0; 32];
+    *rows = [0; 192];
+    let h = heads::head_of(octets);
+    if may_list(octets, h) {
+        return listed(octets, h, numbers, rows);
+    }
+    main_of(octets, h)
+}
+
+// Reads a component whole: its record, or the number by which it is refused and zeros.
 pub fn read(octets: &[u8]) -> types::Answer
     ensures { λ r. ⌜ r ≡ readOf (now (octets .entry)) ⌝ }
 {
-    let h = heads::head_of(octets);
-    if may_list(octets, h) {
-        return listed(octets, h);
-    }
-    let m = main_of(octets, h);
+    let mut numbers: [u32; 32] = [0; 32];
+    let mut rows: [u8; 192] = [0; 192];
+    let m = read_into(octets, &mut numbers, &mut rows);
     let figure = m.value.figure;
     types::Answer {
         number: m.number,
@@ -312,7 +278,10 @@ pub fn read(octets: &[u8]) -> types::Answer
             detail: m.value.detail,
             charge: types::Charge {
                 figure,
-                entries: NO_ENTRIES,
+                entries: types::Entries {
+                    numbers,
+                    octets: rows,
+                },
             },
         },
     }

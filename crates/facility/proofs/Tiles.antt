@@ -11,7 +11,7 @@ use lib.Seq.{drop-length, take-append-seam, drop-drop, getD-take, getD-drop, get
 use lib.Dec.{ltb, eqb}
 use borrow.Author.Tests.{ltb-true, eqb-true, eqb-false, eq-eqb, ne-eqb, lt-ltb}
 use Rattle.coding.specs.declared.Extent.{Extent}
-use Rattle.coding.specs.Reader.{if_then_else, Ans, after, part, lengthAt, opened}
+use Rattle.coding.specs.Reader.{if_then_else, Ans, after, part, lengthAt}
 use Rattle.coding.specs.Reader.Ans.{got, halt}
 use Rattle.coding.specs.Codec.{LengthForm, short, one, two, pad}
 use Rattle.coding.proofs.Basic.{never, chain, same-got, picked, unpicked, followed, and-left}

@@ -1,6 +1,6 @@
 // The Facility information element: where its components begin.
 ghost use mathlib.Core.Path.{_≡_};
-ghost use mathlib.Core.Bool.{Bool, true, false};
+ghost use mathlib.Core.Bool.{true, false};
 ghost use Prim.Native.Nat.{_≤_, _<_};
 ghost use lib.ListN.{length};
 ghost use Rattle.facility.specs.Element.{elementOf, malformed, answered, tiled, led};

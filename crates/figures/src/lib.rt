@@ -8,7 +8,7 @@ ghost use lib.ListN.{length};
 ghost use Rattle.coding.specs.Reader.{part, primitive};
 ghost use Rattle.coding.specs.Codec.{cons, sort};
 ghost use Rattle.coding.specs.Shown.{shown, verdict, refusal};
-ghost use Rattle.types.specs.Charges.{flag, noCurrency, noMoney, noAssociation, currencyLeaf, currency, scaled, money, isDigit, ofKind, identified, publicParty, plainParty, party, association};
+ghost use Rattle.types.specs.Charges.{flag, noCurrency, noMoney, noAssociation, currencyLeaf, currency, scaled, money, ofKind, identified, publicParty, plainParty, party, association};
 ghost use Rattle.types.specs.Rates.{noScaled};
 ghost use Rattle.types.specs.Arguments.{plain, noCharge, sign, inMoney, during, subtotals, ending, settled, finals, arrangement, available};
 ghost use Rattle.figures.specs.Numbers.{numbered};
@@ -25,24 +25,24 @@ pub fn flag(b: bool) -> u8
 
 // ---- currency
 
-pub const NO_CURRENCY: types::Currency = types::Currency {
+const NO_CURRENCY: types::Currency = types::Currency {
     count: 0,
     octets: [0; 10],
 };
 
-pub struct CurrencyVerdict {
+struct CurrencyVerdict {
     pub fault: u8,
     pub value: types::Currency,
 }
 
-pub struct CurrencyRead {
+struct CurrencyRead {
     pub fault: u8,
     pub place: usize,
     pub value: types::Currency,
     pub next: usize,
 }
 
-pub fn no_currency(fault: u8, place: usize) -> CurrencyRead
+fn no_currency(fault: u8, place: usize) -> CurrencyRead
     ensures { λ r. ⌜ (r .fault, r .place, r .value, r .next) ≡ refusal noCurrency fault place ⌝ }
 {
     CurrencyRead {
@@ -93,7 +93,7 @@ fn currency_in(s: &[u8], start: usize, stop: usize) -> CurrencyVerdict
     }
 }
 
-pub fn currency_at(s: &[u8], at: usize, end: usize) -> CurrencyRead
+fn currency_at(s: &[u8], at: usize, end: usize) -> CurrencyRead
     requires { ⌜ end ≤ length (now s) ⌝ }
     ensures { λ r. ⌜ (r .fault, r .place, r .value, r .next) ≡ shown noCurrency ((currency 0x81) .read (now (s .entry)) at end) ⌝ }
 {
@@ -128,7 +128,7 @@ pub struct ScaledRead {
     pub next: usize,
 }
 
-pub fn no_scaled(fault: u8, place: usize) -> ScaledRead
+fn no_scaled(fault: u8, place: usize) -> ScaledRead
     ensures { λ r. ⌜ (r .fault, r .place, r .value, r .next) ≡ refusal noScaled fault place ⌝ }
     ensures bounded { λ r. ⌜ (r .value .number ≤ 0) × (r .value .scale ≤ 0) ⌝ }
 {
@@ -190,7 +190,7 @@ pub struct MoneyRead {
     pub next: usize,
 }
 
-pub fn no_money(fault: u8, place: usize) -> MoneyRead
+fn no_money(fault: u8, place: usize) -> MoneyRead
     ensures { λ r. ⌜ (r .fault, r .place, r .value, r .next) ≡ refusal noMoney fault place ⌝ }
 {
     MoneyRead {
@@ -228,7 +228,7 @@ pub fn money_at(s: &[u8], at: usize, end: usize) -> MoneyRead
 }
 
 // The A1 of operations 33 and 35.
-pub fn recorded_at(s: &[u8], at: usize, end: usize) -> MoneyRead
+fn recorded_at(s: &[u8], at: usize, end: usize) -> MoneyRead
     requires { ⌜ end ≤ length (now s) ⌝ }
     ensures { λ r. ⌜ (r .fault, r .place, r .value, r .next) ≡ shown noMoney ((cons 0xa1 money) .read (now (s .entry)) at end) ⌝ }
 {
@@ -262,7 +262,7 @@ pub const NO_ASSOCIATION: types::Association = types::Association {
     digits: [0; 20],
 };
 
-pub struct AssociationVerdict {
+struct AssociationVerdict {
     pub fault: u8,
     pub value: types::Association,
 }
@@ -274,7 +274,7 @@ pub struct AssociationRead {
     pub next: usize,
 }
 
-pub fn no_association(fault: u8, place: usize) -> AssociationRead
+fn no_association(fault: u8, place: usize) -> AssociationRead
     ensures { λ r. ⌜ (r .fault, r .place, r .value, r .next) ≡ refusal noAssociation fault place ⌝ }
 {
     AssociationRead {
@@ -294,19 +294,6 @@ fn bad_number(fault: u8) -> AssociationVerdict
     }
 }
 
-// 0 to 9, or space.
-fn is_digit(x: u8) -> bool
-    ensures { λ r. ⌜ r ≡ isDigit x ⌝ }
-{
-    if x == 0x20 {
-        return true;
-    }
-    if x < 0x30 {
-        return false;
-    }
-    x <= 0x39
-}
-
 // The contents of a number: 1 to 20 digits.
 fn digits_in(s: &[u8], start: usize, stop: usize, kind: u8, plan: u8) -> AssociationVerdict
     requires { ⌜ (start ≤ stop) × (stop ≤ length (now s)) ⌝ }
@@ -323,7 +310,7 @@ fn digits_in(s: &[u8], start: usize, stop: usize, kind: u8, plan: u8) -> Associa
     let mut i = 0;
     while i < n {
         let x = s[start + i];
-        if !is_digit(x) {
+        if !types::is_digit(x) {
             return bad_number(44);
         }
         digits[i] = x;
@@ -543,7 +530,7 @@ pub fn sign_at(s: &[u8], at: usize, end: usize, tag: u8, kind: u8) -> FigureRead
 }
 
 // The 30 of operation 33: A1, 82 type, optional 83 billing.
-pub fn during_at(s: &[u8], at: usize, end: usize) -> FigureRead
+fn during_at(s: &[u8], at: usize, end: usize) -> FigureRead
     requires { ⌜ end ≤ length (now s) ⌝ }
     ensures { λ r. ⌜ (r .fault, r .place, plain (r .value), r .next) ≡ shown noCharge ((during inMoney) .read (now (s .entry)) at end) ⌝ }
 {
@@ -585,7 +572,7 @@ pub fn during_at(s: &[u8], at: usize, end: usize) -> FigureRead
 }
 
 // The argument of operation 33: free, or a subtotal or total.
-pub fn subtotals_at(s: &[u8], at: usize, end: usize) -> FigureRead
+fn subtotals_at(s: &[u8], at: usize, end: usize) -> FigureRead
     requires { ⌜ end ≤ length (now s) ⌝ }
     ensures { λ r. ⌜ (r .fault, r .place, plain (r .value), r .next) ≡ shown noCharge ((subtotals inMoney) .read (now (s .entry)) at end) ⌝ }
 {
@@ -596,7 +583,7 @@ pub fn subtotals_at(s: &[u8], at: usize, end: usize) -> FigureRead
 }
 
 // The inner 30 of operation 35: A1, optional 82 billing.
-pub fn ending_at(s: &[u8], at: usize, end: usize) -> FigureRead
+fn ending_at(s: &[u8], at: usize, end: usize) -> FigureRead
     requires { ⌜ end ≤ length (now s) ⌝ }
     ensures { λ r. ⌜ (r .fault, r .place, plain (r .value), r .next) ≡ shown noCharge ((ending inMoney) .read (now (s .entry)) at end) ⌝ }
 {
@@ -634,7 +621,7 @@ pub fn ending_at(s: &[u8], at: usize, end: usize) -> FigureRead
 }
 
 // Free, or the inner 30 of operation 35.
-pub fn settled_at(s: &[u8], at: usize, end: usize) -> FigureRead
+fn settled_at(s: &[u8], at: usize, end: usize) -> FigureRead
     requires { ⌜ end ≤ length (now s) ⌝ }
     ensures { λ r. ⌜ (r .fault, r .place, plain (r .value), r .next) ≡ shown noCharge ((settled inMoney) .read (now (s .entry)) at end) ⌝ }
 {
@@ -645,7 +632,7 @@ pub fn settled_at(s: &[u8], at: usize, end: usize) -> FigureRead
 }
 
 // The argument of operation 35: a settled charge, optional association.
-pub fn finals_at(s: &[u8], at: usize, end: usize) -> FigureRead
+fn finals_at(s: &[u8], at: usize, end: usize) -> FigureRead
     requires { ⌜ end ≤ length (now s) ⌝ }
     ensures { λ r. ⌜ (r .fault, r .place, plain (r .value), r .next) ≡ shown noCharge ((finals inMoney) .read (now (s .entry)) at end) ⌝ }
 {

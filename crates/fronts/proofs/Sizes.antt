@@ -2,7 +2,7 @@
 -- Assumes nothing.
 use Prim.Native.Nat.{ℕ, _+_, _≤_, _<_}
 use native.Mathlib.Omega.{arith}
-use mathlib.Core.Path.{_≡_, refl, ap, sym, _∙_}
+use mathlib.Core.Path.{_≡_, refl, sym}
 use mathlib.Core.Bool.{Bool, true, false, _&&_, true≢false}
 use mathlib.Core.Logic.{_⊎_, inl, inr}
 use mathlib.Core.List.{List, [], _∷_, _++_}
@@ -10,11 +10,11 @@ use lib.ListN.{length, length-append}
 use lib.Dec.{leb, eqb}
 use borrow.Author.Tests.{leb-true, eqb-true, eq-eqb, ne-eqb}
 use Rattle.coding.specs.Reader.{if_then_else}
-use Rattle.coding.specs.Codec.{has, prim}
+use Rattle.coding.specs.Codec.{has}
 use Rattle.coding.specs.Leaves.{identifier}
 use Rattle.coding.specs.Written.{lead, fullNumber}
 use Rattle.coding.proofs.Basic.{and-left, and-right}
-use Rattle.coding.proofs.Small.{small-length, id-length, id-range, null-length}
+use Rattle.coding.proofs.Small.{id-length, id-range, null-length}
 use Rattle.coding.proofs.Writing.{number-length, width-range}
 use Rattle.types.specs.Frames.{operations, errors}
 use Rattle.heads.proofs.Codes.{has-below}
@@ -118,9 +118,6 @@ module _ (f : Front) (v : frontFine f ≡ true) where
 
 pub id-many : (f : Front) → (length (idOctets f) ≡ 2 + length (identifier .write (f .id)))
 id-many f = id-length 0x02 (f .id)
-
-pub two-parts : (xs ys : List ℕ) {a b : ℕ} → length xs ≡ a → length ys ≡ b → length (xs ++ ys) ≡ a + b
-two-parts xs ys p q = omega (arith, length-append xs ys, p, q)
 
 -- at least five, whatever is in it
 pub front-least : (f : Front) (n : ℕ) → 5 ≤ length (frontOctets f n)

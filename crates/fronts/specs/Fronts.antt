@@ -1,7 +1,7 @@
 -- All of a record but its charge: which may be written, and its octets. For the writer's inner functions.
 use Prim.Native.Nat.{ℕ, _+_}
 use mathlib.Core.List.{List, [], _∷_, _++_}
-use mathlib.Core.Bool.{Bool, true, false, not, _&&_, _||_}
+use mathlib.Core.Bool.{Bool, false, not, _&&_, _||_}
 use lib.Dec.{leb, eqb}
 use Rattle.coding.specs.Reader.{if_then_else}
 use Rattle.coding.specs.Codec.{has, prim}
@@ -17,10 +17,6 @@ abbrev pub sameFront : Front → Front → Bool
 sameFront f g =
     ((eqb (f .frame) (g .frame) && eqb (f .unnamed) (g .unnamed)) && (eqb (f .id) (g .id) && eqb (f .operation) (g .operation)))
     && ((eqb (f .error) (g .error) && eqb (f .problem) (g .problem)) && eqb (f .detail) (g .detail))
-
--- operation 30 asks for a service
-abbrev pub asking : Front → Bool
-asking f = eqb (f .frame) 1 && eqb (f .operation) 30
 
 -- a charge follows
 abbrev pub charged : Front → Bool

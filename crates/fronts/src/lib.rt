@@ -1,17 +1,16 @@
 // All of a record but its charge: whether it may be written, how many octets it takes, and its octets.
 ghost use mathlib.Core.Path.{_≡_};
-ghost use mathlib.Core.Bool.{Bool, true, false};
-ghost use mathlib.Core.List.{List, [], _∷_, _++_};
+ghost use mathlib.Core.Bool.{true, false};
+ghost use mathlib.Core.List.{[], _++_};
 ghost use Prim.Native.Nat.{_+_, _≤_, _<_};
 ghost use lib.ListN.{length};
-ghost use Rattle.coding.specs.Codec.{has, prim};
-ghost use Rattle.coding.specs.Leaves.{identifier};
 ghost use Rattle.coding.specs.Written.{Wrote, lead, fullNumber};
 ghost use Rattle.coding.specs.Reader.{if_then_else};
 ghost use lib.Dec.{eqb};
-ghost use Rattle.types.specs.Frames.{operations, errors};
-ghost use Rattle.fronts.specs.Fronts.{frontFine, frontOctets, problemFine, called, charged, idOctets};
+ghost use Rattle.fronts.specs.Fronts.{frontFine, frontOctets, problemFine, charged, idOctets};
 
+// All of a record but its charge, as C hands it over.
+#[repr(C)]
 pub struct Front {
     pub frame: u8,
     pub unnamed: u8,
@@ -23,39 +22,6 @@ pub struct Front {
 }
 
 // ---- which may be written
-
-fn is_operation(n: u8) -> bool
-    ensures { λ r. ⌜ r ≡ has operations n ⌝ }
-{
-    if n < 30 {
-        return false;
-    }
-    if 36 < n {
-        return false;
-    }
-    true
-}
-
-fn is_error(n: u8) -> bool
-    ensures { λ r. ⌜ r ≡ has errors n ⌝ }
-{
-    if n == 0 {
-        return true;
-    }
-    if n == 3 {
-        return true;
-    }
-    if n == 4 {
-        return true;
-    }
-    if n == 7 {
-        return true;
-    }
-    if n == 26 {
-        return true;
-    }
-    false
-}
 
 fn problem_fine(problem: u8, detail: u8) -> bool
     ensures { λ r. ⌜ r ≡ problemFine problem detail ⌝ }
@@ -102,7 +68,7 @@ fn invoke_fine(f: Front) -> bool
     if f.operation == 30 {
         return request_fine(f);
     }
-    if !is_operation(f.operation) {
+    if !heads::known_operation(f.operation as u32) {
         return false;
     }
     if f.unnamed != 0 {
@@ -158,7 +124,7 @@ fn error_fine(f: Front) -> bool
     if f.detail != 0 {
         return false;
     }
-    is_error(f.error)
+    heads::known_error(f.error as u32)
 }
 
 fn reject_fine(f: Front) -> bool

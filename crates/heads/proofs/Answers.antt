@@ -1,22 +1,21 @@
 -- How the answer's number goes with what was read so far.
 -- Assumes nothing.
-use Prim.Native.Nat.{ℕ, _+_, _-_, _≤_, _<_}
-use native.Mathlib.Omega.{arith}
-use mathlib.Core.Path.{_≡_, refl, ap, sym, _∙_}
+use Prim.Native.Nat.{ℕ}
+use mathlib.Core.Path.{_≡_, refl, ap, _∙_}
 use mathlib.Core.Bool.{Bool, true, false}
-use mathlib.Core.List.{List, [], _∷_}
-use lib.ListN.{length, getD}
-use lib.Dec.{ltb, leb, eqb}
-use borrow.Author.Tests.{lt-ltb, le-ltb, eq-eqb, ne-eqb}
-use Rattle.coding.specs.Reader.{Ans, Fault, Reader, code, if_then_else, after, blamed, closed, choice, tagged, enteredAny}
+use mathlib.Core.List.{List}
+use lib.ListN.{length}
+use lib.Dec.{eqb}
+use borrow.Author.Tests.{eq-eqb, ne-eqb}
+use Rattle.coding.specs.Reader.{Ans, Fault, if_then_else, after, blamed, closed}
 use Rattle.coding.specs.Reader.Ans.{got, halt}
-use Rattle.coding.specs.Codec.{Run, pickRun, frames}
+use Rattle.coding.specs.Codec.{Run}
 use Rattle.coding.specs.Shown.{shown}
 use Rattle.coding.proofs.Reading.{got-of}
 use Rattle.types.specs.declared.Record.{Record}
 use Rattle.types.specs.declared.Answer.{Answer}
-use Rattle.types.specs.Frames.{inArgument, numberOf, outside, noRecord, accepted, refused, answered, component, frame, readOf}
-use Rattle.heads.specs.Heads.{argumentCode, numberCode, contentsOf, tailOf, restOf}
+use Rattle.types.specs.Frames.{inArgument, accepted, refused, answered}
+use Rattle.heads.specs.Heads.{argumentCode, numberCode, tailOf}
 use Rattle.heads.specs.declared.Head.{Head}
 use Rattle.heads.proofs.Codes.{argument-code, number-code}
 

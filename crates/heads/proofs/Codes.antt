@@ -2,24 +2,20 @@
 -- Assumes nothing.
 use Prim.Native.Nat.{ℕ, zero, suc, _+_, _-_, _≤_, _<_, min}
 use native.Mathlib.Omega.{arith}
-use mathlib.Core.Path.{_≡_, refl, ap, sym, _∙_}
-use mathlib.Core.Bool.{Bool, true, false, _&&_, _||_, true≢false}
+use mathlib.Core.Path.{_≡_, refl, ap, sym}
+use mathlib.Core.Bool.{Bool, true, false, _||_, true≢false}
 use mathlib.Core.List.{List, [], _∷_}
 use lib.ListN.{length}
-use lib.Dec.{ltb, leb, eqb}
-use borrow.Author.Tests.{lt-ltb, le-ltb, ltb-true, ltb-false, eqb-true, eq-eqb, ne-eqb}
-use Rattle.coding.specs.Reader.{Ans, Fault, code, if_then_else}
-use Rattle.coding.specs.Reader.Ans.{got, halt}
+use lib.Dec.{ltb, eqb}
+use borrow.Author.Tests.{lt-ltb, le-ltb, ltb-true, ltb-false, eqb-true, ne-eqb}
+use Rattle.coding.specs.Reader.{Fault, code, if_then_else}
 use Rattle.coding.specs.Reader.Fault.{missing, unexpected, cut, form, shortest, contents, limit, named}
 use Rattle.coding.specs.Contents.{negative, numberFrom}
 use Rattle.coding.specs.Contents as Contents
 use Rattle.coding.specs.Codec.{has, all}
 use Rattle.coding.specs.Leaves.{listing}
-use Rattle.coding.specs.Shown.{shown, verdict}
+use Rattle.coding.specs.Shown.{verdict}
 use Rattle.coding.proofs.Basic.{and-left, and-right}
-use Rattle.coding.proofs.Reading.{got-of}
-use Rattle.types.specs.declared.Record.{Record}
-use Rattle.types.specs.declared.Answer.{Answer}
 use Rattle.types.specs.Frames.{outside, inArgument, numberOf, namedNumber, operations, errors}
 use Rattle.heads.specs.Heads.{outsideCode, argumentCode, numberCode, knownIn}
 

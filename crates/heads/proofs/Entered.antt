@@ -2,61 +2,46 @@
 -- Assumes nothing.
 use Prim.Native.Nat.{ℕ, zero, suc, _+_, _-_, _≤_, _<_}
 use native.Mathlib.Omega.{arith}
-use mathlib.Core.Path.{_≡_, refl, ap, sym, _∙_, subst}
-use mathlib.Core.Bool.{Bool, true, false}
+use mathlib.Core.Path.{_≡_, refl, ap, sym, _∙_}
+use mathlib.Core.Bool.{true, false}
 use mathlib.Core.List.{List, [], _∷_}
 use lib.ListN.{length, getD}
-use lib.Dec.{ltb, leb, eqb}
-use borrow.Author.Tests.{lt-ltb, le-ltb, leb-false, eqb-true, eq-eqb, ne-eqb}
-use Rattle.coding.specs.Reader.{Ans, Fault, if_then_else, after, blamed, lengthAt, opened, choice, enteredAny, closed, has}
+use borrow.Author.Tests.{ne-eqb}
+use Rattle.coding.specs.Reader.{Ans, after, enteredAny, has}
 use Rattle.coding.specs.Reader.Ans.{got, halt}
 use Rattle.coding.specs.Reader.Fault.{named}
-use Rattle.coding.specs.Codec.{Run, frames}
+use Rattle.coding.specs.Codec.{frames}
 use Rattle.coding.specs.Shown.{shown}
 use Rattle.coding.specs.declared.Extent.{Extent}
-use Rattle.coding.proofs.Basic.{never, passing, failing, chain, same-got, picked}
-use Rattle.coding.proofs.Header.{tagged-yes, opened-sound}
+use Rattle.coding.proofs.Header.{opened-sound}
+use Rattle.coding.proofs.Frames.{any-got}
 use Rattle.coding.proofs.Reading.{got-of}
-use Rattle.types.specs.declared.Record.{Record}
-use Rattle.types.specs.Frames.{outside, refused, answered, component, frame, invoke, returnResult, returnError, reject, readOf}
+use Rattle.types.specs.Frames.{outside, refused, component, frame, invoke, returnResult, returnError, reject, readOf}
+use Rattle.types.proofs.Theorems.{read-short}
 use Rattle.heads.specs.Heads.{numberCode, contentsOf}
 use Rattle.heads.proofs.Answers.{goes, refuses}
 
 abbrev pub tags : List ℕ
 tags = 0xa1 ∷ 0xa2 ∷ 0xa3 ∷ 0xa4 ∷ []
 
-blamed-got : {A : Type 0} (m : Fault → Fault) (r : Ans A) {x : A} {n : ℕ} → blamed m r ≡ got x n → r ≡ got x n
-unfolding blamed
-blamed-got m (got v k) e = e
-blamed-got m (halt w p) e = absurd (never e)
-
 -- it ends where the octets end, and so do its contents
 pub entered-ends : (s : List ℕ) (x : Extent) (n : ℕ) → enteredAny tags outside (named 5) s 0 (length s) ≡ got x n
     → (x .stop ≡ length s) × (n ≡ length s) × (x .start ≤ length s)
-unfolding enteredAny opened choice
 entered-ends s x n r =
-    let p = failing (leb (length s) 0) _ _ _ r in
-    let b = chain (blamed outside (lengthAt 0 s 1 (length s))) _ (passing (has tags (getD s 0 0)) _ _ _ (p .1) .1) in
-    let t = passing (eqb (b .1) (length s)) _ _ _ (b .3) in
-    let e = eqb-true (b .1) (length s) (t .0) in
-    let l = blamed-got outside (lengthAt 0 s 1 (length s)) (b .2) in
-    let o = opened-sound (getD s 0 0) s 0 (length s) (b .0) (b .1) (picked _ _ (tagged-yes s 0 (length s) (getD s 0 0) (leb-false (length s) 0 (p .0)) refl) ∙ l) in
-    same-got (λ y k. (y .stop ≡ length s) × (k ≡ length s) × (y .start ≤ length s)) (t .1) (o .1 ∙ e, e, omega (arith, o .0 .2, e))
-
-pub read-long : (s : List ℕ) → 254 < length s → refused 3 ≡ readOf s
-unfolding readOf
-read-long s h = rw (lt-ltb 254 (length s) h)
+    let g = any-got tags outside (named 5) s 0 (length s) r in
+    let o = opened-sound (getD s 0 0) s 0 (length s) x n (g .1) in
+    (o .1 ∙ g .2, g .2, omega (arith, o .0 .2, g .2))
 
 module _ (s : List ℕ) (l : length s ≤ 254) (z : Extent) {k p n : ℕ} {v : Extent} (e : (k, p, v, n) ≡ shown z (enteredAny tags outside (named 5) s 0 (length s))) where
   pub read-refused : (k ≡ 0 → ⊥) → refused (numberCode k) ≡ readOf s
-  unfolding readOf component frames
-  read-refused h = rw (le-ltb 254 (length s) l) (refuses _ _ z e h)
+  unfolding component frames
+  read-refused h = rw (read-short s l) (refuses _ _ z e h)
 
   read-entered : k ≡ 0 → contentsOf (frame (getD s 0 0)) s (v .start) ≡ readOf s
-  unfolding readOf component frames contentsOf
+  unfolding component frames contentsOf
   read-entered h =
       let q = entered-ends s v n (got-of _ z e h) in
-      rw (le-ltb 254 (length s) l) (goes _ _ z e h (rw (q .0, q .1)))
+      rw (read-short s l) (goes _ _ z e h (rw (q .0, q .1)))
 
   module _ (h : k ≡ 0) where
     pub as-invoke : getD s 0 0 ≡ 0xa1 → contentsOf invoke s (v .start) ≡ readOf s

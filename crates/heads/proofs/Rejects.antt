@@ -1,12 +1,12 @@
 -- A reject's contents: who is answered, then the problem.
 -- Assumes nothing.
 use Prim.Native.Nat.{ℕ}
-use mathlib.Core.Path.{_≡_, refl, sym, _∙_}
+use mathlib.Core.Path.{_≡_, _∙_}
 use mathlib.Core.Logic.{_⊎_}
 use mathlib.Core.List.{List}
 use lib.ListN.{length}
-use Rattle.coding.specs.Reader.{Ans, after, closed}
-use Rattle.coding.specs.Reader.Ans.{got, halt}
+use Rattle.coding.specs.Reader.{after, closed}
+use Rattle.coding.specs.Reader.Ans.{got}
 use Rattle.coding.specs.Codec.{sort, canonical, over, leads}
 use Rattle.coding.proofs.Reading.{flat}
 use Rattle.types.specs.Frames.{rejects, problem, problems, caller, reject, answered}

@@ -3,12 +3,11 @@
 use Prim.Native.Nat.{ℕ, _+_, _≤_, _<_}
 use native.Mathlib.Omega.{arith}
 use mathlib.Core.Path.{_≡_, refl, ap, sym, _∙_}
-use mathlib.Core.Bool.{Bool, true, false}
+use mathlib.Core.Bool.{true, false}
 use mathlib.Core.List.{List, [], _∷_}
 use lib.ListN.{length, getD}
-use lib.Dec.{ltb, eqb}
 use borrow.Author.Tests.{lt-leb, lt-ltb, ne-eqb}
-use Rattle.coding.specs.Reader.{if_then_else, tagged, choice, has}
+use Rattle.coding.specs.Reader.{tagged, choice, has}
 use Rattle.coding.specs.Contents.{shortest, negative, numberFrom}
 use Rattle.coding.specs.Codec.{barring}
 use Rattle.coding.specs.Leaves.{listing, listed}

@@ -1,18 +1,17 @@
 -- What stands before an argument or result, and what is left to read once it is known. For the reader's inner functions.
 use Prim.Native.Nat.{ℕ, _+_, _-_}
 use mathlib.Core.List.{List, [], _∷_}
-use mathlib.Core.Bool.{Bool, true, false, not}
 use mathlib.Core.Logic.{_⊎_, inl, inr}
 use lib.ListN.{length}
 use lib.Dec.{ltb, leb, eqb}
-use Rattle.coding.specs.Reader.{Ans, Fault, Reader, if_then_else, after, closed, choice}
+use Rattle.coding.specs.Reader.{Reader, if_then_else, after, closed, choice}
 use Rattle.coding.specs.Reader.Ans.{got}
 use Rattle.coding.specs.Codec.{Run, pickRun, prim}
 use Rattle.coding.specs.Leaves.{number}
 use Rattle.types.specs.declared.Record.{Record}
 use Rattle.types.specs.declared.Answer.{Answer}
 use Rattle.types.specs.Arguments.{noCharge}
-use Rattle.types.specs.Frames.{namedNumber, operations, errors, value, argument, carrying, answered, accepted, refused}
+use Rattle.types.specs.Frames.{namedNumber, operations, errors, argument, carrying, answered, accepted, refused}
 use Rattle.heads.specs.declared.Head.{Head}
 use Rattle.heads.specs.declared.Caller.{Caller}
 use Rattle.heads.specs.declared.Problem.{Problem}

@@ -1,15 +1,15 @@
 // Heads of components: all that stands before an argument or result. Of a return error or a reject, all.
 ghost use mathlib.Core.Path.{_≡_};
-ghost use mathlib.Core.List.{List, [], _∷_};
-ghost use mathlib.Core.Logic.{_⊎_, inl, inr};
+ghost use mathlib.Core.List.{[], _∷_};
+ghost use mathlib.Core.Logic.{inr};
 ghost use Prim.Native.Nat.{ℕ, _+_, _≤_, _<_};
 ghost use lib.ListN.{length};
-ghost use Rattle.coding.specs.Reader.{Fault, part, enteredAny};
+ghost use Rattle.coding.specs.Reader.{part, enteredAny};
 ghost use Rattle.coding.specs.Reader.Fault.{named};
 ghost use Rattle.coding.specs.Codec.{has};
 ghost use Rattle.coding.specs.Leaves.{listing};
 ghost use Rattle.coding.specs.Shown.{shown, verdict};
-ghost use Rattle.types.specs.Frames.{outside, value, invoke, returnResult, returnError, reject, caller, problems, rejects, readOf};
+ghost use Rattle.types.specs.Frames.{outside, operations, errors, value, invoke, returnResult, returnError, reject, caller, rejects, readOf};
 ghost use Rattle.heads.specs.Heads.{outsideCode, argumentCode, numberCode, knownIn, unknownIn, contentsOf, restOf, callerBy, rejectedBy, problemIn, problemsIn};
 
 // What stands before an argument or result, which lies from at to stop, in an element that ends at next; of a return error or reject, all.
@@ -102,8 +102,8 @@ pub fn number_of(fault: u8) -> u8
 
 // ---- operation and error values
 
-fn known_operation(n: u32) -> bool
-    ensures { λ r. ⌜ r ≡ has (30 ∷ 31 ∷ 32 ∷ 33 ∷ 34 ∷ 35 ∷ 36 ∷ []) n ⌝ }
+pub fn known_operation(n: u32) -> bool
+    ensures { λ r. ⌜ r ≡ has operations n ⌝ }
 {
     if n < 30 {
         return false;
@@ -114,8 +114,8 @@ fn known_operation(n: u32) -> bool
     true
 }
 
-fn known_error(n: u32) -> bool
-    ensures { λ r. ⌜ r ≡ has (0 ∷ 3 ∷ 4 ∷ 7 ∷ 26 ∷ []) n ⌝ }
+pub fn known_error(n: u32) -> bool
+    ensures { λ r. ⌜ r ≡ has errors n ⌝ }
 {
     if n == 0 {
         return true;
@@ -377,12 +377,12 @@ fn error_head(s: &[u8], start: usize) -> Head
 }
 
 // What a reject answers: an identifier, or NULL.
-pub struct Caller {
+struct Caller {
     pub unnamed: u8,
     pub id: u16,
 }
 
-pub struct CallerRead {
+struct CallerRead {
     pub fault: u8,
     pub place: usize,
     pub value: Caller,
@@ -429,7 +429,7 @@ fn caller_at(s: &[u8], at: usize, end: usize) -> CallerRead
     }
 }
 
-pub struct ProblemRead {
+struct ProblemRead {
     pub fault: u8,
     pub place: usize,
     pub value: Problem,
@@ -437,7 +437,7 @@ pub struct ProblemRead {
 }
 
 // A reject's problem: its tag and its value.
-pub struct Problem {
+struct Problem {
     pub tag: u8,
     pub detail: u8,
 }

@@ -1,23 +1,23 @@
 -- What the program prints: the machine's text, once the input ends, is `outputOf` the input, however the input comes in parts.
 -- Assumes nothing.
-use Prim.Native.Nat.{ℕ, suc, _+_, _-_, _*_, _%_, _≤_, _<_, min}
-use mathlib.Core.Path.{_≡_, refl, sym, ap, _∙_, subst}
+use Prim.Native.Nat.{ℕ, _+_, _-_, _*_, _≤_, _<_, min}
+use mathlib.Core.Path.{_≡_, refl, sym, ap, _∙_}
 use mathlib.Core.List.{List, [], _∷_, _++_, append-nil, append-assoc}
-use mathlib.Core.Bool.{Bool, true, false, _&&_, _||_}
+use mathlib.Core.Bool.{Bool, true, false, _&&_}
 use native.Mathlib.Omega.{arith}
 use native.Mathlib.Nat.{mod-eq-of-lt}
 use native.Mathlib.Numerals.{add-one}
 use lib.ListN.{length, take, set, length-append, length-set}
 use lib.Seq.{take-all, take-append-le, take-suc-set}
 use lib.Dec.{leb, ltb, eqb}
-use borrow.Author.Tests.{le-leb, lt-leb, lt-ltb, le-ltb, ltb-true, ltb-false, leb-true, leb-false, ne-eqb, eq-eqb, eqb-true, eqb-false}
+use borrow.Author.Tests.{le-leb, lt-leb, lt-ltb, ltb-true, ltb-false, leb-false, ne-eqb, eq-eqb}
 use Rattle.coding.specs.Reader.{if_then_else}
 use Rattle.types.specs.Frames.{readOf}
 use Rattle.lines.specs.declared.input.Line.{Line}
-use Rattle.lines.specs.Text.{badText, refusedText}
+use Rattle.lines.specs.Text.{refusedText}
 use Rattle.lines.specs.Lines.{digitOf, Meant, led, pairs, lineOf, replyTo, answerTo, before, linesOf, answersTo, outputOf}
 use Rattle.lines.specs.Lines.Meant.{bad, octets}
-use Rattle.lines.specs.Machine.{State, state, madeLine, newLine, badLine, stepLine, stepOctets, octetOf, answerText, turn, turns, ended}
+use Rattle.lines.specs.Machine.{state, madeLine, newLine, badLine, stepLine, stepOctets, octetOf, answerText, turn, turns, ended}
 
 -- ---- a line's octets as its characters come, however many
 

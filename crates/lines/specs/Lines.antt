@@ -1,10 +1,9 @@
 -- What the program prints for an input: its lines, the octets of a line, and the answer to it.
 use Prim.Native.Nat.{ℕ, _+_, _-_, _*_}
 use mathlib.Core.List.{List, [], _∷_, _++_}
-use mathlib.Core.Bool.{Bool, true, false, _&&_}
+use mathlib.Core.Bool.{_&&_}
 use lib.Dec.{ltb, leb, eqb}
 use Rattle.coding.specs.Reader.{if_then_else}
-use Rattle.coding.specs.Codec.{Run}
 use Rattle.types.specs.Frames.{component, readOf}
 use Rattle.lines.specs.Text.{hexText, refusedText, badText}
 

@@ -1,8 +1,8 @@
 -- How the program goes through an input, character by character. proofs/Meaning.antt shows that this prints what Lines.antt says.
-use Prim.Native.Nat.{ℕ, _+_, _-_, _*_, _%_, _≤_, _<_}
+use Prim.Native.Nat.{ℕ, _+_, _*_, _%_, _≤_, _<_}
 use mathlib.Core.Path.{_≡_}
 use mathlib.Core.List.{List, [], _∷_, _++_}
-use mathlib.Core.Bool.{Bool, true, false, _||_}
+use mathlib.Core.Bool.{_||_}
 use lib.ListN.{length, take, set}
 use lib.Dec.{ltb, leb, eqb}
 use Rattle.coding.specs.Reader.{if_then_else, part}

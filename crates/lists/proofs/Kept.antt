@@ -2,12 +2,12 @@
 -- Assumes nothing.
 use Prim.Native.Nat.{ℕ, _+_, _-_, _*_, _≤_, _<_}
 use native.Mathlib.Omega.{arith}
-use mathlib.Core.Path.{_≡_, refl, sym, ap, ap₂, _∙_}
+use mathlib.Core.Path.{_≡_, refl, ap₂, _∙_}
 use mathlib.Core.List.{List, [], _∷_, _++_}
-use lib.ListN.{length, getD, replicate, length-append, length-take, length-replicate}
+use lib.ListN.{length, getD, length-append}
 use lib.Seq.{sets}
 use Rattle.coding.specs.Reader.{Ans, Reader, after, listOf}
-use Rattle.coding.specs.Reader.Ans.{got, halt}
+use Rattle.coding.specs.Reader.Ans.{got}
 use Rattle.coding.specs.Codec.{pad}
 use Rattle.coding.specs.Rows.{rows}
 use Rattle.coding.specs.Shown.{shown}
@@ -15,8 +15,6 @@ use Rattle.coding.proofs.Reading.{gives}
 use Rattle.coding.proofs.Rows.{rows-more-at}
 use Rattle.coding.proofs.Lists.{Going, going-start, going-more, list-done, list-fault, list-limit, list-strange}
 use Rattle.types.specs.declared.Charge.{Charge}
-use Rattle.types.specs.declared.Rate.{Rate}
-use Rattle.types.specs.Rates.{rateOctets}
 use Rattle.types.specs.Arguments.{noCharge, listFigure}
 use Rattle.lists.specs.Readers.{whole, Zero, figureRead}
 
@@ -64,8 +62,3 @@ module _ {A : Type 0} (most : ℕ) (entry : Reader A) (low small : A → List �
 
       pub kept-strange : i < end → most ≤ count → (getD s i 0 ≡ 0x30 → ⊥) → (41, i, noCharge, 0) ≡ shown noCharge (after (listOf 0x30 most entry s at end) f)
       kept-strange h l e = list-strange _ _ _ _ _ _ f _ (kept .known) _ (kept .going) h (omega (arith, kept .counted)) e
-
--- a row of a rate's octets has 18, whatever its currency is
-pub rate-wide : (r : Rate) → length (rateOctets r) ≡ 18
-unfolding pad
-rate-wide r = simp (length-take, length-append, length-replicate) (omega arith)

@@ -3,7 +3,7 @@
 use Prim.Native.Nat.{ℕ}
 use mathlib.Core.Path.{_≡_}
 use mathlib.Core.List.{List}
-use Rattle.coding.specs.Reader.{after, opened, closed, optional, constructed, choice}
+use Rattle.coding.specs.Reader.{after, opened, closed, optional, constructed}
 use Rattle.coding.specs.Codec.{Run, prim, cons, pair, alt, maybe, canonical, over}
 use Rattle.coding.specs.Leaves.{number, given}
 use Rattle.coding.proofs.Reading.{flat}

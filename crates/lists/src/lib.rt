@@ -1,7 +1,7 @@
 // Reading charges that may hold a list: the arguments of operations 31, 34 and 36, and the result of operation 30.
 //
 // The readers store a list in two arrays that are lent to them, zero before and zero again after a fault, and answer the rest of the charge:
-// so no list is copied from level to level, and the whole charge is made once.
+// so no list is copied from level to level.
 ghost use mathlib.Core.Path.{_≡_};
 ghost use Prim.Native.Nat.{_+_, _*_, _≤_, _<_};
 ghost use lib.ListN.{length};
@@ -497,32 +497,4 @@ pub fn charge_into(
         return units_subtotals_at(s, at, end, numbers, octets);
     }
     units_finals_at(s, at, end, numbers, octets)
-}
-
-pub struct ChargeRead {
-    pub fault: u8,
-    pub place: usize,
-    pub value: types::Charge,
-    pub next: usize,
-}
-
-// The same, as one charge.
-pub fn charge_at(s: &[u8], at: usize, end: usize, operation: u8) -> ChargeRead
-    requires { ⌜ end ≤ length (now s) ⌝ }
-    requires { ⌜ (operation ≡ 32 → ⊥) × (operation ≡ 33 → ⊥) × (operation ≡ 35 → ⊥) ⌝ }
-    ensures { λ r. ⌜ (r .fault, r .place, r .value, r .next) ≡ shown noCharge ((available operation) .read (now (s .entry)) at end) ⌝ }
-{
-    let mut numbers: [u32; 32] = [0; 32];
-    let mut octets: [u8; 192] = [0; 192];
-    let f = charge_into(s, at, end, operation, &mut numbers, &mut octets);
-    let figure = f.value;
-    ChargeRead {
-        fault: f.fault,
-        place: f.place,
-        value: types::Charge {
-            figure,
-            entries: types::Entries { numbers, octets },
-        },
-        next: f.next,
-    }
 }

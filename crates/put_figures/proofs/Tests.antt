@@ -55,6 +55,10 @@ zeros-whole s i n b e l q =
 pub zeros-array : (s : List ℕ) (n : ℕ) (b : Bool) → b ≡ sameList eqb (replicate (length s) 0) s → length s ≡ n → b ≡ sameList eqb (replicate n 0) s
 zeros-array s n b q e = q ∙ ap (λ (k : ℕ). sameList eqb (replicate k 0) s) e
 
+-- the same of an array that is lent beside the struct that has it
+pub zeros-lent : (s t : List ℕ) (n : ℕ) (b : Bool) → b ≡ sameList eqb (replicate (length s) 0) s → length s ≡ n → s ≡ t → b ≡ sameList eqb (replicate n 0) t
+zeros-lent s t n b q e w = zeros-array s n b q e ∙ ap (sameList eqb (replicate n 0)) w
+
 -- ---- amounts, currencies, money
 
 pub no-money-is : (m : Money) → sameMoney noMoney m

@@ -67,6 +67,10 @@ unitsFine e n = sameEntries (unitRows (unitList e n)) e && (some·more 0x30 32 u
 unfoldable pub ratesFine : Entries → ℕ → Bool
 ratesFine e n = sameEntries (rateRows (rateList e n)) e && (some·more 0x30 10 rate) .valid (rateList e n)
 
+-- the two arrays of a list
+abbrev pub laid : List ℕ → List ℕ → Entries
+laid numbers octets = record { numbers = numbers; octets = octets }
+
 -- the list: units, rates, or none
 unfoldable pub entriesFine : Charge → Bool
 entriesFine c =

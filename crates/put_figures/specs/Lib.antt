@@ -1,2 +1,3 @@
 pub mod Fine
 pub mod Octets
+pub mod Handed

@@ -4,12 +4,11 @@
 // buffer from a place on and gives the place after them.
 use types::Association;
 use types::Currency;
-use types::Entries;
 use types::Figure;
 use types::Money;
 use types::Scaled;
 ghost use mathlib.Core.Path.{_≡_};
-ghost use mathlib.Core.Bool.{Bool, true, _&&_, _||_};
+ghost use mathlib.Core.Bool.{true, _&&_, _||_};
 ghost use Prim.Native.Nat.{ℕ, _+_, _≤_, _<_};
 ghost use mathlib.Core.List.{List, _++_};
 ghost use lib.ListN.{length, replicate};
@@ -21,13 +20,63 @@ ghost use Rattle.coding.specs.Written.{Wrote, lead};
 ghost use Rattle.types.specs.Charges.{noMoney, noAssociation, sameAssociation, scaled, currency, money, isDigit, identified, publicParty, plainParty, association};
 ghost use Rattle.types.specs.Entries.{noEntries};
 ghost use Rattle.types.specs.Arguments.{plain, sameMoney, sameEntries, chargeOf};
+ghost use Rattle.put_figures.specs.Handed.{outlined};
 ghost use Rattle.put_figures.specs.Octets.{billingOctets, marks, framed, ended, before, after};
-ghost use Rattle.put_figures.specs.Fine.{billingFine, unmarked, pricedMarks, arrangedMarks, bareKind, marksFine, moneyFine, associationFine, figureFine, digitsFine};
+ghost use Rattle.put_figures.specs.Fine.{laid, billingFine, unmarked, pricedMarks, arrangedMarks, bareKind, marksFine, moneyFine, associationFine, figureFine, digitsFine};
+
+// A figure's small numbers: all of it but the number of its amount, which goes beside them, and its two arrays, which are lent.
+// currency: the count of the currency's octets; digits: of the association's digits; party: the association's kind.
+#[repr(C)]
+pub struct Outline {
+    pub id: u16,
+    pub digits: u16,
+    pub currency: u8,
+    pub multiplier: u8,
+    pub party: u8,
+    pub plan: u8,
+    pub kind: u8,
+    pub total: u8,
+    pub billed: u8,
+    pub billing: u8,
+    pub arrangement: u8,
+    pub count: u8,
+}
+
+// The figure that is handed over so.
+pub fn figure_of(o: Outline, number: u32, currency: &[u8; 10], digits: &[u8; 20]) -> Figure
+    ensures { λ r. ⌜ r ≡ outlined o number (now (currency .entry)) (now (digits .entry)) ⌝ }
+{
+    let octets = *currency;
+    let places = *digits;
+    Figure {
+        money: Money {
+            currency: Currency {
+                count: o.currency,
+                octets,
+            },
+            multiplier: o.multiplier,
+            number,
+        },
+        association: Association {
+            id: o.id,
+            count: o.digits,
+            kind: o.party,
+            plan: o.plan,
+            digits: places,
+        },
+        kind: o.kind,
+        total: o.total,
+        billed: o.billed,
+        billing: o.billing,
+        arrangement: o.arrangement,
+        count: o.count,
+    }
+}
 
 // ---- zeros
 
 // A test goes on over another octet. No loop over these has a way out but its end: several octets are then tested at a time.
-fn still(clear: bool, x: u32) -> bool
+pub fn still(clear: bool, x: u32) -> bool
     ensures { λ r. ⌜ r ≡ clear && eqb 0 x ⌝ }
 {
     if x != 0 {
@@ -48,42 +97,41 @@ fn zeros(s: &[u8]) -> bool
     clear
 }
 
-fn wide32(x: u8) -> u32
+pub fn wide32(x: u8) -> u32
     ensures { λ r. ⌜ r ≡ x ⌝ }
 {
     x as u32
 }
 
-fn zero_numbers(a: [u32; 32]) -> bool
-    ensures { λ r. ⌜ r ≡ sameList eqb (replicate 32 0) a ⌝ }
+fn zero_numbers(s: &[u32]) -> bool
+    ensures { λ r. ⌜ r ≡ sameList eqb (replicate (length (now (s .entry))) 0) (now (s .entry)) ⌝ }
 {
     let mut clear = true;
     let mut i = 0;
-    while i < 32 {
-        clear = still(clear, a[i]);
+    while i < s.len() {
+        clear = still(clear, s[i]);
         i += 1;
     }
     clear
 }
 
 // Whether a charge has no list.
-pub fn no_entries(e: Entries) -> bool
-    ensures { λ r. ⌜ r ≡ sameEntries noEntries e ⌝ }
+pub fn no_entries(numbers: &[u32; 32], octets: &[u8; 192]) -> bool
+    ensures { λ r. ⌜ r ≡ sameEntries noEntries (laid (now (numbers .entry)) (now (octets .entry))) ⌝ }
 {
-    let numbers = e.numbers;
-    let octets = e.octets;
     if !zero_numbers(numbers) {
         return false;
     }
-    zeros(&octets)
+    zeros(octets)
 }
 
-fn no_money(m: Money) -> bool
+// The two arrays of a figure, the octets of its currency and the digits of its association, are lent beside it: so they are
+// tested where they lie.
+pub fn no_money(m: Money, currency: &[u8; 10]) -> bool
+    requires { ⌜ now currency ≡ m .currency .octets ⌝ }
     ensures { λ r. ⌜ r ≡ sameMoney noMoney m ⌝ }
 {
-    let c = m.currency;
-    let octets = c.octets;
-    if c.count != 0 {
+    if m.currency.count != 0 {
         return false;
     }
     if m.multiplier != 0 {
@@ -92,13 +140,13 @@ fn no_money(m: Money) -> bool
     if m.number != 0 {
         return false;
     }
-    zeros(&octets)
+    zeros(currency)
 }
 
-fn no_association(a: Association) -> bool
+fn no_association(a: Association, digits: &[u8; 20]) -> bool
+    requires { ⌜ now digits ≡ a .digits ⌝ }
     ensures { λ r. ⌜ r ≡ sameAssociation noAssociation a ⌝ }
 {
-    let digits = a.digits;
     if a.id != 0 {
         return false;
     }
@@ -111,7 +159,7 @@ fn no_association(a: Association) -> bool
     if a.plan != 0 {
         return false;
     }
-    zeros(&digits)
+    zeros(digits)
 }
 
 // ---- which may be written
@@ -157,18 +205,6 @@ pub fn money_fine(m: Money) -> bool
     currency_fine(c)
 }
 
-fn is_digit(x: u8) -> bool
-    ensures { λ r. ⌜ r ≡ isDigit x ⌝ }
-{
-    if x == 0x20 {
-        return true;
-    }
-    if x < 0x30 {
-        return false;
-    }
-    x <= 0x39
-}
-
 // Whether the first n octets are digits.
 fn all_digits(s: &[u8], n: usize) -> bool
     requires { ⌜ n ≤ length (now s) ⌝ }
@@ -176,7 +212,7 @@ fn all_digits(s: &[u8], n: usize) -> bool
 {
     let mut i = 0;
     while i < n {
-        if !is_digit(s[i]) {
+        if !types::is_digit(s[i]) {
             return false;
         }
         i += 1;
@@ -201,10 +237,10 @@ fn digits_fine(digits: [u8; 20], count: u16) -> bool
     all_digits(&digits, n)
 }
 
-fn identified_fine(a: Association) -> bool
+fn identified_fine(a: Association, digits: &[u8; 20]) -> bool
+    requires { ⌜ now digits ≡ a .digits ⌝ }
     ensures { λ r. ⌜ r ≡ identified .valid a ⌝ }
 {
-    let digits = a.digits;
     if a.kind != 1 {
         return false;
     }
@@ -214,7 +250,7 @@ fn identified_fine(a: Association) -> bool
     if a.plan != 0 {
         return false;
     }
-    zeros(&digits)
+    zeros(digits)
 }
 
 fn public_fine(a: Association) -> bool
@@ -252,14 +288,15 @@ fn plain_fine(a: Association) -> bool
     digits_fine(digits, a.count)
 }
 
-pub fn association_fine(a: Association) -> bool
+fn association_fine(a: Association, digits: &[u8; 20]) -> bool
+    requires { ⌜ now digits ≡ a .digits ⌝ }
     ensures { λ r. ⌜ r ≡ association .valid a ⌝ }
 {
     if a.kind == 0 {
-        return no_association(a);
+        return no_association(a, digits);
     }
     if a.kind == 1 {
-        return identified_fine(a);
+        return identified_fine(a, digits);
     }
     if a.kind == 3 {
         return public_fine(a);
@@ -395,52 +432,43 @@ fn marks_fine(f: Figure, operation: u8) -> bool
     unmarked(f)
 }
 
-fn money_by_kind(f: Figure) -> bool
+fn money_by_kind(f: Figure, currency: &[u8; 10]) -> bool
+    requires { ⌜ now currency ≡ f .money .currency .octets ⌝ }
     ensures { λ r. ⌜ r ≡ moneyFine f ⌝ }
 {
     let m = f.money;
     if f.kind == 2 {
         return money_fine(m);
     }
-    no_money(m)
+    no_money(m, currency)
 }
 
-fn association_by_kind(f: Figure, operation: u8) -> bool
+fn association_by_kind(f: Figure, digits: &[u8; 20], operation: u8) -> bool
+    requires { ⌜ now digits ≡ f .association .digits ⌝ }
     ensures { λ r. ⌜ r ≡ associationFine operation f ⌝ }
 {
     let a = f.association;
     if operation < 35 {
-        return no_association(a);
+        return no_association(a, digits);
     }
     if f.kind == 0 {
-        return no_association(a);
+        return no_association(a, digits);
     }
-    association_fine(a)
+    association_fine(a, digits)
 }
 
 // All of a charge but its list.
-pub fn parts_fine(f: Figure, operation: u8) -> bool
+pub fn parts_fine(f: Figure, currency: &[u8; 10], digits: &[u8; 20], operation: u8) -> bool
+    requires { ⌜ (now currency ≡ f .money .currency .octets) × (now digits ≡ f .association .digits) ⌝ }
     ensures { λ r. ⌜ r ≡ figureFine operation f ⌝ }
 {
     if !marks_fine(f, operation) {
         return false;
     }
-    if !money_by_kind(f) {
+    if !money_by_kind(f, currency) {
         return false;
     }
-    association_by_kind(f, operation)
-}
-
-// A charge that is neither units nor rates.
-pub fn figure_fine(f: Figure, operation: u8) -> bool
-    requires { ⌜ (30 ≤ operation) × (operation ≤ 36) ⌝ }
-    requires { ⌜ (f .kind ≡ 3 → ⊥) × (f .kind ≡ 4 → ⊥) ⌝ }
-    ensures { λ r. ⌜ r ≡ (chargeOf operation) .valid (plain f) ⌝ }
-{
-    if f.count != 0 {
-        return false;
-    }
-    parts_fine(f, operation)
+    association_by_kind(f, digits, operation)
 }
 
 // ---- sizes

@@ -10,8 +10,8 @@ use native.Mathlib.Numerals.{add-one}
 use lib.ListN.{length, getD, take, drop}
 use Rattle.coding.specs.Codec.{all}
 use Rattle.types.specs.Entries.{unit, unitNumbers, unitOctets, unitAt, unitList}
-use Rattle.put_figures.specs.Fine.{unitsFine}
-use Rattle.put_rates.specs.Arrays.{laid, unusedZero}
+use Rattle.put_figures.specs.Fine.{laid, unitsFine}
+use Rattle.put_rates.specs.Arrays.{unusedZero}
 use Rattle.put_rates.proofs.Tables.{picks, picks-taken, list-none, list-over, list-fine}
 
 -- a row holds its entry: a number and two octets

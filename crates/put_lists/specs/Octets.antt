@@ -12,6 +12,7 @@ use Rattle.types.specs.declared.Charge.{Charge}
 use Rattle.types.specs.Entries.{unit, unitList}
 use Rattle.types.specs.Rates.{rate, rateList}
 use Rattle.put_figures.specs.Octets.{element, framed, ended}
+use Rattle.put_figures.specs.Fine.{laid}
 
 -- 02 number, or 05 00 where it is not available
 unfoldable pub numberOctets : Units → List ℕ
@@ -21,9 +22,9 @@ numberOctets u = if_then_else (eqb (u .known) 1) (fullNumber 0x02 (u .number)) (
 unfoldable pub typeOctets : Units → List ℕ
 typeOctets u = if_then_else (eqb (u .kind) 0) [] (fullNumber 0x02 (u .kind))
 
--- a charge by its parts
-abbrev pub charged : Figure → Entries → Charge
-charged f e = record { figure = f; entries = e }
+-- a charge whose list lies in two arrays
+abbrev pub withList : Figure → List ℕ → List ℕ → Charge
+withList f numbers octets = record { figure = f; entries = laid numbers octets }
 
 -- a figure whose A1 holds units, of operation 34 or 36
 abbrev pub unitsCharge : ℕ → Figure → Entries → List ℕ

@@ -1,8 +1,6 @@
 // Charges that may hold a list: which may be written, how many octets they take, and their octets.
 //
 // A list stands in two arrays, which are lent and never copied in a loop.
-use types::Charge;
-use types::Entries;
 use types::Figure;
 use types::Units;
 ghost use mathlib.Core.Path.{_≡_};
@@ -12,11 +10,9 @@ ghost use lib.ListN.{length};
 ghost use Rattle.coding.specs.Codec.{all, writeAll};
 ghost use Rattle.coding.specs.Written.{Wrote};
 ghost use Rattle.types.specs.Entries.{unit, unitAt, unitList};
-ghost use Rattle.types.specs.Rates.{rate, rateList};
 ghost use Rattle.types.specs.Arguments.{chargeOf};
-ghost use Rattle.put_figures.specs.Fine.{figureFine, unitsFine, ratesFine, entriesFine};
-ghost use Rattle.put_rates.specs.Arrays.{laid};
-ghost use Rattle.put_lists.specs.Octets.{numberOctets, typeOctets, charged, unitsCharge, ratesCharge};
+ghost use Rattle.put_figures.specs.Fine.{laid, figureFine, unitsFine, ratesFine, entriesFine};
+ghost use Rattle.put_lists.specs.Octets.{numberOctets, typeOctets, withList, unitsCharge, ratesCharge};
 
 // ---- an entry of units
 
@@ -177,126 +173,122 @@ fn put_units(buf: &mut [u8], at: usize, numbers: &[u32; 32], octets: &[u8; 192],
 // ---- charges
 
 // Whether a list fits the kind of its charge.
-fn entries_fine(f: Figure, e: Entries) -> bool
-    ensures { λ r. ⌜ r ≡ entriesFine (charged f e) ⌝ }
+fn entries_fine(f: Figure, numbers: &[u32; 32], octets: &[u8; 192]) -> bool
+    requires { ⌜ (length (now numbers) ≡ 32) × (length (now octets) ≡ 192) ⌝ }
+    ensures { λ r. ⌜ r ≡ entriesFine (withList f (now (numbers .entry)) (now (octets .entry))) ⌝ }
 {
     if f.kind == 3 {
-        let numbers = e.numbers;
-        let octets = e.octets;
-        return units_fine(&numbers, &octets, f.count);
+        return units_fine(numbers, octets, f.count);
     }
     if f.kind == 4 {
-        let numbers = e.numbers;
-        let octets = e.octets;
-        return put_rates::rates_fine(&numbers, &octets, f.count);
+        return put_rates::rates_fine(numbers, octets, f.count);
     }
     if f.count != 0 {
         return false;
     }
-    put_figures::no_entries(e)
+    put_figures::no_entries(numbers, octets)
 }
 
 // Whether a charge may be written as the argument or result of an operation.
-pub fn charge_fine(c: Charge, operation: u8) -> bool
+pub fn charge_fine(
+    f: Figure,
+    currency: &[u8; 10],
+    digits: &[u8; 20],
+    numbers: &[u32; 32],
+    octets: &[u8; 192],
+    operation: u8,
+) -> bool
     requires { ⌜ (30 ≤ operation) × (operation ≤ 36) ⌝ }
-    ensures { λ r. ⌜ r ≡ (chargeOf operation) .valid c ⌝ }
+    requires { ⌜ (now currency ≡ f .money .currency .octets) × (now digits ≡ f .association .digits) ⌝ }
+    requires { ⌜ (length (now numbers) ≡ 32) × (length (now octets) ≡ 192) ⌝ }
+    ensures { λ r. ⌜ r ≡ (chargeOf operation) .valid (withList f (now (numbers .entry)) (now (octets .entry))) ⌝ }
 {
-    let f = c.figure;
-    let e = c.entries;
-    if !put_figures::parts_fine(f, operation) {
+    if !put_figures::parts_fine(f, currency, digits, operation) {
         return false;
     }
-    entries_fine(f, e)
-}
-
-// The octets of a list of units.
-fn units_octets(e: Entries, count: u8) -> usize
-    requires { ⌜ unitsFine e count ≡ true ⌝ }
-    ensures { λ r. ⌜ r ≡ length (writeAll (unit .write) (unitList e count)) ⌝ }
-    ensures few { λ r. ⌜ r ≤ 352 ⌝ }
-{
-    let numbers = e.numbers;
-    let octets = e.octets;
-    units_size(&numbers, &octets, count as usize)
-}
-
-// The octets of a list of rates.
-fn rates_octets(e: Entries, count: u8) -> usize
-    requires { ⌜ ratesFine e count ≡ true ⌝ }
-    ensures { λ r. ⌜ r ≡ length (writeAll (rate .write) (rateList e count)) ⌝ }
-    ensures few { λ r. ⌜ r ≤ 550 ⌝ }
-{
-    let numbers = e.numbers;
-    let octets = e.octets;
-    put_rates::rates_size(&numbers, &octets, count as usize)
+    entries_fine(f, numbers, octets)
 }
 
 // The octets of a valid charge, which may be too many for a component.
-pub fn charge_size(c: Charge, operation: u8) -> usize
+pub fn charge_size(f: Figure, numbers: &[u32; 32], octets: &[u8; 192], operation: u8) -> usize
     requires { ⌜ (30 ≤ operation) × (operation ≤ 36) ⌝ }
-    requires { ⌜ (chargeOf operation) .valid c ≡ true ⌝ }
-    ensures { λ r. ⌜ r ≡ length ((chargeOf operation) .write c) ⌝ }
+    requires { ⌜ length (now octets) ≡ 192 ⌝ }
+    requires { ⌜ (chargeOf operation) .valid (withList f (now numbers) (now octets)) ≡ true ⌝ }
+    ensures { λ r. ⌜ r ≡ length ((chargeOf operation) .write (withList f (now (numbers .entry)) (now (octets .entry)))) ⌝ }
     ensures few { λ r. ⌜ r ≤ 600 ⌝ }
 {
-    let f = c.figure;
+    let n = f.count as usize;
     if f.kind == 3 {
-        let e = c.entries;
-        return put_figures::priced_size(f, operation, units_octets(e, f.count));
+        return put_figures::priced_size(f, operation, units_size(numbers, octets, n));
     }
     if f.kind == 4 {
-        let e = c.entries;
-        return put_figures::sized(rates_octets(e, f.count));
+        return put_figures::sized(put_rates::rates_size(numbers, octets, n));
     }
     put_figures::figure_size(f, operation)
 }
 
 // A figure whose A1 holds units.
-fn put_units_charge(buf: &mut [u8], at: usize, f: Figure, e: Entries, operation: u8) -> usize
-    requires { ⌜ (figureFine operation f ≡ true) × (unitsFine e (f .count) ≡ true) ⌝ }
-    requires { ⌜ length (unitsCharge operation f e) ≤ 254 ⌝ }
-    requires { ⌜ at + length (unitsCharge operation f e) ≤ length (now buf) ⌝ }
-    ensures { λ r. ⌜ Wrote (now (buf .entry)) (now (buf .exit)) at (unitsCharge operation f e) r ⌝ }
+fn put_units_charge(
+    buf: &mut [u8],
+    at: usize,
+    f: Figure,
+    numbers: &[u32; 32],
+    octets: &[u8; 192],
+    operation: u8,
+) -> usize
+    requires { ⌜ (figureFine operation f ≡ true) × (unitsFine (laid (now numbers) (now octets)) (f .count) ≡ true) ⌝ }
+    requires { ⌜ length (unitsCharge operation f (laid (now numbers) (now octets))) ≤ 254 ⌝ }
+    requires { ⌜ at + length (unitsCharge operation f (laid (now numbers) (now octets))) ≤ length (now buf) ⌝ }
+    ensures { λ r. ⌜ Wrote (now (buf .entry)) (now (buf .exit)) at (unitsCharge operation f (laid (now (numbers .entry)) (now (octets .entry)))) r ⌝ }
 {
-    let numbers = e.numbers;
-    let octets = e.octets;
     let n = f.count as usize;
-    let size = units_size(&numbers, &octets, n);
+    let size = units_size(numbers, octets, n);
     let p = put_figures::put_before(buf, at, f, operation, size);
-    let q = put_units(buf, p, &numbers, &octets, n);
+    let q = put_units(buf, p, numbers, octets, n);
     put_figures::put_after(buf, q, f, operation)
 }
 
 // A 30 that holds rates.
-fn put_rates_charge(buf: &mut [u8], at: usize, e: Entries, count: u8) -> usize
-    requires { ⌜ ratesFine e count ≡ true ⌝ }
-    requires { ⌜ length (ratesCharge e count) ≤ 254 ⌝ }
-    requires { ⌜ at + length (ratesCharge e count) ≤ length (now buf) ⌝ }
-    ensures { λ r. ⌜ Wrote (now (buf .entry)) (now (buf .exit)) at (ratesCharge e count) r ⌝ }
+fn put_rates_charge(
+    buf: &mut [u8],
+    at: usize,
+    numbers: &[u32; 32],
+    octets: &[u8; 192],
+    count: u8,
+) -> usize
+    requires { ⌜ length (now octets) ≡ 192 ⌝ }
+    requires { ⌜ ratesFine (laid (now numbers) (now octets)) count ≡ true ⌝ }
+    requires { ⌜ length (ratesCharge (laid (now numbers) (now octets)) count) ≤ 254 ⌝ }
+    requires { ⌜ at + length (ratesCharge (laid (now numbers) (now octets)) count) ≤ length (now buf) ⌝ }
+    ensures { λ r. ⌜ Wrote (now (buf .entry)) (now (buf .exit)) at (ratesCharge (laid (now (numbers .entry)) (now (octets .entry))) count) r ⌝ }
 {
-    let numbers = e.numbers;
-    let octets = e.octets;
     let n = count as usize;
-    let size = put_rates::rates_size(&numbers, &octets, n);
+    let size = put_rates::rates_size(numbers, octets, n);
     let p = coding::put_lead(buf, at, 0x30, size);
-    put_rates::put_rates(buf, p, &numbers, &octets, n)
+    put_rates::put_rates(buf, p, numbers, octets, n)
 }
 
 // A valid charge of at most 254 octets.
-pub fn put_charge(buf: &mut [u8], at: usize, c: Charge, operation: u8) -> usize
+pub fn put_charge(
+    buf: &mut [u8],
+    at: usize,
+    f: Figure,
+    numbers: &[u32; 32],
+    octets: &[u8; 192],
+    operation: u8,
+) -> usize
     requires { ⌜ (30 ≤ operation) × (operation ≤ 36) ⌝ }
-    requires { ⌜ (chargeOf operation) .valid c ≡ true ⌝ }
-    requires { ⌜ length ((chargeOf operation) .write c) ≤ 254 ⌝ }
-    requires { ⌜ at + length ((chargeOf operation) .write c) ≤ length (now buf) ⌝ }
-    ensures { λ r. ⌜ Wrote (now (buf .entry)) (now (buf .exit)) at ((chargeOf operation) .write c) r ⌝ }
+    requires { ⌜ length (now octets) ≡ 192 ⌝ }
+    requires { ⌜ (chargeOf operation) .valid (withList f (now numbers) (now octets)) ≡ true ⌝ }
+    requires { ⌜ length ((chargeOf operation) .write (withList f (now numbers) (now octets))) ≤ 254 ⌝ }
+    requires { ⌜ at + length ((chargeOf operation) .write (withList f (now numbers) (now octets))) ≤ length (now buf) ⌝ }
+    ensures { λ r. ⌜ Wrote (now (buf .entry)) (now (buf .exit)) at ((chargeOf operation) .write (withList f (now (numbers .entry)) (now (octets .entry)))) r ⌝ }
 {
-    let f = c.figure;
     if f.kind == 3 {
-        let e = c.entries;
-        return put_units_charge(buf, at, f, e, operation);
+        return put_units_charge(buf, at, f, numbers, octets, operation);
     }
     if f.kind == 4 {
-        let e = c.entries;
-        return put_rates_charge(buf, at, e, f.count);
+        return put_rates_charge(buf, at, numbers, octets, f.count);
     }
     put_figures::put_figure(buf, at, f, operation)
 }

@@ -14,8 +14,8 @@ use Rattle.coding.proofs.Arrays.{padded-more}
 use Rattle.types.specs.declared.Currency.{Currency}
 use Rattle.types.specs.declared.Rate.{Rate}
 use Rattle.types.specs.Rates.{rate, rateNumbers, rateOctets, rateAt, rateList}
-use Rattle.put_figures.specs.Fine.{ratesFine}
-use Rattle.put_rates.specs.Arrays.{laid, unusedZero}
+use Rattle.put_figures.specs.Fine.{laid, ratesFine}
+use Rattle.put_rates.specs.Arrays.{unusedZero}
 use Rattle.put_rates.proofs.Tables.{picks, picks-taken, list-none, list-over, list-fine}
 
 -- ---- a loop that copies n octets from a place on

@@ -2,25 +2,19 @@
 -- Assumes nothing.
 use Prim.Native.Nat.{ℕ, _≤_}
 use mathlib.Core.Path.{_≡_, refl, sym, ap, _∙_}
-use mathlib.Core.List.{List, [], _∷_}
+use mathlib.Core.List.{List}
 use mathlib.Core.Bool.{Bool, true, false, _&&_, and-comm}
 use native.Mathlib.Omega.{arith}
-use lib.ListN.{length, take, replicate}
-use lib.Seq.{take-all}
-use lib.Dec.{ltb, leb, eqb, leb·zero}
-use borrow.Author.Tests.{eqb-true, eqb-false, eq-eqb, ne-eqb, leb-true, le-leb, lt-leb, lt-ltb, le-ltb}
-use Rattle.coding.specs.Reader.{if_then_else, part}
-use Rattle.coding.specs.Contents.{every}
+use lib.ListN.{replicate}
+use lib.Dec.{leb, eqb, leb·zero}
+use borrow.Author.Tests.{eqb-true, eq-eqb, ne-eqb, leb-true, le-leb, lt-leb}
 use Rattle.coding.specs.Codec.{cons, prim, pair, sort, maybe, over, canonical, sameList, validMaybe}
 use Rattle.coding.specs.Leaves.{number, nullLeaf, isSome}
-use Rattle.coding.proofs.Basic.{picked, unpicked}
 use Rattle.coding.proofs.Padded.{eqbEqual, listEqual}
-use Rattle.types.specs.declared.Money.{Money}
 use Rattle.types.specs.declared.Rate.{Rate}
 use Rattle.types.specs.Charges.{flag, noMoney, scaled, money}
 use Rattle.types.specs.Rates.{scaledOr0, moneyOf, timeOf, stepOf, duration, flatRate, volume, coded, plainRate, price, itemised, rate}
 use Rattle.types.specs.Arguments.{sameMoney}
-use Rattle.put_figures.proofs.Tests.{no-money-is}
 use Rattle.put_figures.proofs.Truth.{same-truth, and-assoc, and-true, and-false, kinds}
 use Rattle.put_rates.specs.Prices.{detailFine, unstepped, stepFine, timesFine, amountFine, priceFine}
 
@@ -59,29 +53,6 @@ coded-order s p q m n t u c d = simp ands
 plain-order : (k d s p q m n t u c : Bool)
     → ((k && (d && s)) && (((p && q) && (m && n)) && ((t && u) && c))) && true ≡ (k && d) && (((p && t) && (s && (q && u))) && (c && (m && n)))
 plain-order k d s p q m n t u c = simp ands
-
--- ---- no amount
-
--- zeros, octet by octet
-zero-octets : (xs : List ℕ) → every (λ x. ltb x 1) xs ≡ sameList eqb (replicate (length xs) 0) xs
-unfolding every
-zero-octets [] = refl
-zero-octets (x ∷ xs) = go (eqb 0 x) refl (zero-octets xs)
-  where
-    go : (t : Bool) → eqb 0 x ≡ t → every (λ y. ltb y 1) xs ≡ sameList eqb (replicate (length xs) 0) xs
-        → if_then_else (ltb x 1) (every (λ y. ltb y 1) xs) false ≡ t && sameList eqb (replicate (length xs) 0) xs
-    go true e h = picked _ _ (lt-ltb x 1 (omega (arith, eqb-true 0 x e))) ∙ h
-    go false e h = unpicked _ _ (le-ltb x 1 (omega (arith, eqb-false 0 x e)))
-
--- no amount: no count, no multiplier, no number, and ten zeros
-pub no-amount-is : (m : Money) → length (m .currency .octets) ≡ 10 → sameMoney noMoney m
-    ≡ (eqb 0 (m .currency .count) && (eqb 0 (m .multiplier) && eqb 0 (m .number))) && every (λ x. ltb x 1) (part (m .currency .octets) 0 10)
-unfolding part
-no-amount-is m e =
-    let os = m .currency .octets in
-    let w : every (λ x. ltb x 1) (take 10 os) ≡ sameList eqb (replicate 10 0) os =
-    ap (every (λ x. ltb x 1)) (take-all 10 os (omega (arith, e))) ∙ zero-octets os ∙ ap (λ (k : ℕ). sameList eqb (replicate k 0) os) e in
-    no-money-is m ∙ ap (λ (t : Bool). (eqb 0 (m .currency .count) && (eqb 0 (m .multiplier) && eqb 0 (m .number))) && t) (sym w)
 
 -- ---- by the kind
 

@@ -20,7 +20,8 @@ use Rattle.coding.proofs.Rows.{table-length, table-more, rows-append}
 use Rattle.put_figures.proofs.Truth.{and-false}
 use Rattle.put_figures.proofs.Tests.{zeros-more, zeros-whole}
 use Rattle.types.specs.Arguments.{sameEntries}
-use Rattle.put_rates.specs.Arrays.{laid, zeroPast, unusedZero}
+use Rattle.put_figures.specs.Fine.{laid}
+use Rattle.put_rates.specs.Arrays.{zeroPast, unusedZero}
 
 -- ---- a loop that tests the entries: x is entry i, taken out of the arrays
 

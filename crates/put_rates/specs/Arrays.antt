@@ -5,11 +5,6 @@ use mathlib.Core.List.{List}
 use lib.ListN.{length, drop, replicate}
 use lib.Dec.{eqb}
 use Rattle.coding.specs.Codec.{sameList}
-use Rattle.types.specs.declared.Entries.{Entries}
-
--- the two arrays of a list
-abbrev pub laid : List ℕ → List ℕ → Entries
-laid numbers octets = record { numbers = numbers; octets = octets }
 
 -- all is zero past the first n places
 abbrev pub zeroPast : ℕ → List ℕ → Bool

@@ -4,36 +4,17 @@ use types::Money;
 use types::Rate;
 use types::Scaled;
 ghost use mathlib.Core.Path.{_≡_};
-ghost use mathlib.Core.Bool.{true, _&&_};
+ghost use mathlib.Core.Bool.{true};
 ghost use Prim.Native.Nat.{_+_, _≤_, _<_};
 ghost use lib.ListN.{length, getD, take, drop};
-ghost use lib.Dec.{eqb};
 ghost use Rattle.coding.specs.Codec.{all, writeAll};
 ghost use Rattle.coding.specs.Written.{Wrote};
-ghost use Rattle.types.specs.Charges.{noMoney};
 ghost use Rattle.types.specs.Rates.{moneyOf, rate, rateAt, rateList};
-ghost use Rattle.types.specs.Arguments.{sameMoney};
-ghost use Rattle.put_figures.specs.Fine.{ratesFine};
-ghost use Rattle.put_rates.specs.Arrays.{laid, zeroPast, unusedZero};
+ghost use Rattle.put_figures.specs.Fine.{laid, ratesFine};
+ghost use Rattle.put_rates.specs.Arrays.{zeroPast, unusedZero};
 ghost use Rattle.put_rates.specs.Prices.{detailFine, unstepped, stepFine, timesFine, amountFine, stepOctets, termOctets, pricedOctets, priceOctets};
 
 // ---- what is not used is zero
-
-// A test goes on over another number. No loop over these has a way out but its end: several numbers are then tested at a time.
-fn still(clear: bool, x: u32) -> bool
-    ensures { λ r. ⌜ r ≡ clear && eqb 0 x ⌝ }
-{
-    if x != 0 {
-        return false;
-    }
-    clear
-}
-
-fn wide32(x: u8) -> u32
-    ensures { λ r. ⌜ r ≡ x ⌝ }
-{
-    x as u32
-}
 
 // Whether all numbers past the first n are zero.
 fn numbers_zero(numbers: &[u32; 32], n: usize) -> bool
@@ -43,7 +24,7 @@ fn numbers_zero(numbers: &[u32; 32], n: usize) -> bool
     let mut clear = true;
     let mut j = 0;
     while j < 32 - n {
-        clear = still(clear, numbers[n + j]);
+        clear = put_figures::still(clear, numbers[n + j]);
         j += 1;
     }
     clear
@@ -57,7 +38,7 @@ fn octets_zero(octets: &[u8; 192], n: usize) -> bool
     let mut clear = true;
     let mut j = 0;
     while j < 192 - n {
-        clear = still(clear, wide32(octets[n + j]));
+        clear = put_figures::still(clear, put_figures::wide32(octets[n + j]));
         j += 1;
     }
     clear
@@ -201,32 +182,17 @@ fn times_fine(r: Rate) -> bool
     no_step(r)
 }
 
-fn no_amount(r: Rate) -> bool
-    ensures { λ b. ⌜ b ≡ sameMoney noMoney (moneyOf r) ⌝ }
-{
-    let c = r.currency;
-    let octets = c.octets;
-    if c.count != 0 {
-        return false;
-    }
-    if r.multiplier != 0 {
-        return false;
-    }
-    if r.number != 0 {
-        return false;
-    }
-    coding::below(&octets, 0, 10, 1)
-}
-
 // Durations, flat rates and volumes have an amount.
 fn amount_fine(r: Rate) -> bool
     ensures { λ b. ⌜ b ≡ amountFine r ⌝ }
 {
+    let m = money_of(r);
+    let currency = m.currency;
+    let octets = currency.octets;
     if r.kind <= 3 {
-        let m = money_of(r);
         return put_figures::money_fine(m);
     }
-    no_amount(r)
+    put_figures::no_money(m, &octets)
 }
 
 fn rate_fine(r: Rate) -> bool

@@ -5,16 +5,16 @@ ghost use lib.ListN.{length, take};
 ghost use lib.Seq.{sets};
 ghost use Rattle.coding.specs.Codec.{pad};
 ghost use Rattle.coding.specs.Shown.{shown, refusal};
-ghost use Rattle.types.specs.Rates.{noRate, duration, flatRate, volume, coded, plainRate, price, rate, itemised, rateNumbers, rateOctets};
+ghost use Rattle.types.specs.Rates.{noRate, duration, flatRate, volume, coded, plainRate, price, rate, rateNumbers, rateOctets};
 ghost use Rattle.rates.specs.Readers.{accepted, noStep, stepTime, ratedAs};
 
 // The time of a step, which may be absent.
-pub struct Step {
+struct Step {
     pub given: u8,
     pub time: types::Scaled,
 }
 
-pub struct StepRead {
+struct StepRead {
     pub fault: u8,
     pub place: usize,
     pub value: Step,
@@ -126,7 +126,7 @@ fn no_rate(fault: u8, place: usize) -> RateRead
 }
 
 // A1: currency, amount, 83 type, A4 time, optional A5 time.
-pub fn duration_at(s: &[u8], at: usize, end: usize) -> RateRead
+fn duration_at(s: &[u8], at: usize, end: usize) -> RateRead
     requires { ⌜ end ≤ length (now s) ⌝ }
     ensures { λ r. ⌜ (r .fault, r .place, r .value, r .next) ≡ shown noRate (duration .read (now (s .entry)) at end) ⌝ }
 {
@@ -157,7 +157,7 @@ pub fn duration_at(s: &[u8], at: usize, end: usize) -> RateRead
 }
 
 // A2: currency, amount.
-pub fn flat_at(s: &[u8], at: usize, end: usize) -> RateRead
+fn flat_at(s: &[u8], at: usize, end: usize) -> RateRead
     requires { ⌜ end ≤ length (now s) ⌝ }
     ensures { λ r. ⌜ (r .fault, r .place, r .value, r .next) ≡ shown noRate (flatRate .read (now (s .entry)) at end) ⌝ }
 {
@@ -176,7 +176,7 @@ pub fn flat_at(s: &[u8], at: usize, end: usize) -> RateRead
 }
 
 // A3: currency, amount, 83 unit.
-pub fn volume_at(s: &[u8], at: usize, end: usize) -> RateRead
+fn volume_at(s: &[u8], at: usize, end: usize) -> RateRead
     requires { ⌜ end ≤ length (now s) ⌝ }
     ensures { λ r. ⌜ (r .fault, r .place, r .value, r .next) ≡ shown noRate (volume .read (now (s .entry)) at end) ⌝ }
 {
@@ -206,7 +206,7 @@ pub fn volume_at(s: &[u8], at: usize, end: usize) -> RateRead
 }
 
 // 02: a code.
-pub fn coded_at(s: &[u8], at: usize, end: usize) -> RateRead
+fn coded_at(s: &[u8], at: usize, end: usize) -> RateRead
     requires { ⌜ end ≤ length (now s) ⌝ }
     ensures { λ r. ⌜ (r .fault, r .place, r .value, r .next) ≡ shown noRate (coded .read (now (s .entry)) at end) ⌝ }
 {
@@ -225,7 +225,7 @@ pub fn coded_at(s: &[u8], at: usize, end: usize) -> RateRead
 }
 
 // 84 00 free, 85 00 unknown: a tag with no contents stands for a kind.
-pub fn plain_rate_at(s: &[u8], at: usize, end: usize, tag: u8, kind: u8) -> RateRead
+fn plain_rate_at(s: &[u8], at: usize, end: usize, tag: u8, kind: u8) -> RateRead
     requires { ⌜ end ≤ length (now s) ⌝ }
     ensures { λ r. ⌜ (r .fault, r .place, r .value, r .next) ≡ shown noRate ((plainRate tag kind) .read (now (s .entry)) at end) ⌝ }
 {
@@ -244,7 +244,7 @@ pub fn plain_rate_at(s: &[u8], at: usize, end: usize, tag: u8, kind: u8) -> Rate
 }
 
 // What an entry says of its item, by the next tag.
-pub fn price_at(s: &[u8], at: usize, end: usize) -> RateRead
+fn price_at(s: &[u8], at: usize, end: usize) -> RateRead
     requires { ⌜ end ≤ length (now s) ⌝ }
     ensures { λ r. ⌜ (r .fault, r .place, r .value, r .next) ≡ shown noRate (price .read (now (s .entry)) at end) ⌝ }
 {

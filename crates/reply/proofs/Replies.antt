@@ -1,13 +1,13 @@
 -- Every reply is a reject that may be written, of at most nine octets, and it is read back.
 -- Assumes nothing.
-use Prim.Native.Nat.{ℕ, _+_, _≤_, _<_}
+use Prim.Native.Nat.{ℕ, _≤_, _<_}
 use native.Mathlib.Omega.{arith}
-use mathlib.Core.Path.{_≡_, refl, ap, sym, _∙_}
-use mathlib.Core.Bool.{Bool, true, false, _&&_}
+use mathlib.Core.Path.{_≡_, refl, ap, _∙_}
+use mathlib.Core.Bool.{Bool, true, false}
 use mathlib.Core.Logic.{_⊎_, inl, inr}
-use mathlib.Core.List.{List, [], _∷_, _++_, append-nil}
+use mathlib.Core.List.{List, [], _++_}
 use lib.ListN.{length, length-append}
-use lib.Dec.{ltb, leb, eqb}
+use lib.Dec.{leb, eqb}
 use borrow.Author.Tests.{eq-eqb, ltb-true, le-leb}
 use Rattle.coding.specs.Reader.{Ans, if_then_else, after, enteredAny}
 use Rattle.coding.specs.Reader.Ans.{got, halt}
@@ -16,18 +16,18 @@ use Rattle.coding.specs.Codec.{prim}
 use Rattle.coding.specs.Leaves.{identifier}
 use Rattle.coding.specs.Written.{lead, fullNumber}
 use Rattle.coding.specs.declared.Extent.{Extent}
-use Rattle.coding.proofs.Basic.{and-left, and-right, and-both}
+use Rattle.coding.proofs.Basic.{and-both}
 use Rattle.coding.proofs.Laws.{Octets}
 use Rattle.coding.proofs.Combine.{primLaws}
 use Rattle.coding.proofs.Leaves.{identifierLaws}
 use Rattle.coding.proofs.Small.{small-length, id-range, id-length, null-length}
 use Rattle.coding.proofs.Writing.{lead-length-short}
 use Rattle.types.specs.declared.Record.{Record}
-use Rattle.types.specs.Arguments.{noCharge, sameCharge}
+use Rattle.types.specs.Arguments.{noCharge}
 use Rattle.types.specs.Frames.{component, outside, rejects, readOf, accepted}
 use Rattle.types.proofs.ArgumentLaws.{chargeEqual}
 use Rattle.types.proofs.Theorems.{reads-back}
-use Rattle.fronts.specs.Fronts.{frontFine, frontBy, frontOctets, idOctets, problemFine}
+use Rattle.fronts.specs.Fronts.{frontFine, frontOctets, idOctets, problemFine}
 use Rattle.writer.specs.Parts.{frontOf, bodyOf}
 use Rattle.writer.proofs.Valid.{valid-parts}
 use Rattle.writer.proofs.Octets.{write-parts}

@@ -1,13 +1,12 @@
 -- What is answered, by what the component's refusal and first octet are.
 -- Assumes nothing.
 use Prim.Native.Nat.{ℕ}
-use mathlib.Core.Path.{_≡_, refl, ap, sym, _∙_}
+use mathlib.Core.Path.{_≡_, refl}
 use mathlib.Core.Bool.{Bool, true, false, _||_}
 use mathlib.Core.List.{List}
 use lib.ListN.{length}
 use lib.Dec.{eqb}
 use borrow.Author.Tests.{eq-eqb, ne-eqb}
-use Rattle.coding.specs.Reader.{if_then_else}
 use Rattle.types.specs.declared.Record.{Record}
 use Rattle.types.specs.Frames.{readOf}
 use Rattle.writer.specs.declared.Written.{Written}

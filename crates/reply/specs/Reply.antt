@@ -1,11 +1,11 @@
 -- The reject sent in reply to a component that is refused.
 use Prim.Native.Nat.{ℕ}
 use mathlib.Core.List.{List, [], _∷_}
-use mathlib.Core.Bool.{Bool, true, false, _&&_, _||_}
-use mathlib.Core.Logic.{_⊎_, inl, inr}
+use mathlib.Core.Bool.{Bool, _||_}
+use mathlib.Core.Logic.{inl, inr}
 use lib.ListN.{length, getD}
-use lib.Dec.{ltb, eqb}
-use Rattle.coding.specs.Reader.{Ans, if_then_else, after, enteredAny, has}
+use lib.Dec.{eqb}
+use Rattle.coding.specs.Reader.{Ans, if_then_else, after, enteredAny}
 use Rattle.coding.specs.Reader.Ans.{got, halt}
 use Rattle.coding.specs.Reader.Fault.{named}
 use Rattle.coding.specs.Codec.{prim}

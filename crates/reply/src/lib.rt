@@ -1,8 +1,6 @@
 // The reject sent in reply to a component that is refused.
 ghost use mathlib.Core.Path.{_≡_};
-ghost use mathlib.Core.Bool.{Bool, true, false};
-ghost use mathlib.Core.Logic.{_⊎_, inl, inr};
-ghost use Prim.Native.Nat.{_≤_, _<_};
+ghost use mathlib.Core.Logic.{inl, inr};
 ghost use lib.ListN.{length};
 ghost use Rattle.types.specs.Frames.{rejects};
 ghost use Rattle.reply.specs.Reply.{firstOf, identifierOf, replyBy, replyOf, replyLeft};
@@ -121,7 +119,9 @@ pub fn reply(octets: &[u8], buf: &mut [u8]) -> writer::Written
     ensures { λ r. ⌜ r ≡ replyOf (now (octets .entry)) (length (now (buf .entry))) ⌝ }
     ensures left { λ r. ⌜ now (buf .exit) ≡ replyLeft (now (octets .entry)) (now (buf .entry)) ⌝ }
 {
-    let a = component::read(octets);
+    let mut numbers: [u32; 32] = [0; 32];
+    let mut rows: [u8; 192] = [0; 192];
+    let a = component::read_into(octets, &mut numbers, &mut rows);
     let number = a.number;
     if number == 0 {
         return nothing();

@@ -1,7 +1,7 @@
 -- When two finals are the same: both free; or equal currency octets and thousandths; or equal unit lists, entry by entry.
 -- Billing and association are not compared.
 use Prim.Native.Nat.{ℕ, zero, suc, _*_}
-use mathlib.Core.Bool.{Bool, true, false, _&&_}
+use mathlib.Core.Bool.{Bool, true, _&&_}
 use lib.ListN.{getD}
 use lib.Dec.{eqb, leb}
 use Rattle.coding.specs.Reader.{if_then_else}

@@ -260,9 +260,6 @@ available-beside o =
     (picked-beside (eqb o 35) _ _ (finals-beside 2 (omega arith) inMoney inMoneyLaws money-is)
     (finals-beside 3 (omega arith) inUnits inUnitsLaws units-is))))))
 
-pub availableLaws : (o : ℕ) → RunLaws (available o)
-availableLaws o = available-beside o .laws
-
 pub chargeLaws : (o : ℕ) → RunLaws (chargeOf o)
 unfolding chargeOf sign canonical over prim
 chargeLaws o =

@@ -76,7 +76,7 @@ module _ (unknown : ℕ) (known : List ℕ) where
 
 pub carryingLaws : (k i o : ℕ) → RunLaws (carrying k i o)
 unfolding carrying
-carryingLaws k i o = canonicalLaws (carries k i o) (λ r. r .charge) sameRecord _ recordEqual (λ c v. refl) (markedLaws _ _ (chargeLaws o))
+carryingLaws k i o = canonicalLaws (carries k i o) (λ r. r .charge) sameRecord _ recordEqual (λ c v. refl) (markedLaws _ _ (chargeLaws _))
 
 -- a record of a frame, with its identifier and its operation
 abbrev Of : ℕ → ℕ → ℕ → Record → Type 0

@@ -1,6 +1,6 @@
 -- What reading octets answers, and what is written of a record: the theorems about whole components.
 -- Assumes nothing.
-use Prim.Native.Nat.{ℕ, _+_, _≤_}
+use Prim.Native.Nat.{ℕ, _+_, _≤_, _<_}
 use mathlib.Core.Path.{_≡_, refl, sym, ap, _∙_, subst}
 use mathlib.Core.List.{List, [], _∷_}
 use mathlib.Core.Bool.{Bool, true, false}
@@ -8,12 +8,12 @@ use mathlib.Core.Logic.{_⊎_, inl, inr, _↔_}
 use native.Mathlib.Omega.{arith}
 use lib.ListN.{length}
 use lib.Dec.{ltb, leb, eqb}
-use borrow.Author.Tests.{ltb-false, le-ltb, eqb-false}
+use borrow.Author.Tests.{ltb-true, ltb-false, lt-ltb, le-ltb, eqb-false}
 use Rattle.coding.specs.Reader.{Ans, Fault, if_then_else}
 use Rattle.coding.specs.Reader.Ans.{got, halt}
 use Rattle.coding.specs.Reader.Fault.{missing, unexpected, cut, form, shortest, contents, limit, named}
 use Rattle.coding.specs.Codec.{has, apart}
-use Rattle.coding.proofs.Basic.{apart-has}
+use Rattle.coding.proofs.Basic.{picked, unpicked, apart-has}
 use Rattle.coding.proofs.Laws.{Octets}
 use Rattle.coding.proofs.Whole.{Encodes, reads-meaning, one-meaning, means-itself, no-longer}
 use Rattle.coding.proofs.Whole as Whole
@@ -58,16 +58,32 @@ refusal (named n) = named-refusal n
 pub refused-some : (w : Fault) → numberOf w ≡ 0 → ⊥
 refused-some w e = omega (arith, refusal w .0)
 
+-- over 254 octets are refused with 3, and others are read
+pub read-long : (s : List ℕ) → 254 < length s → readOf s ≡ refused 3
+unfolding readOf
+read-long s h = picked _ _ (lt-ltb _ (length s) (omega (arith, h)))
+
+pub read-short : (s : List ℕ) → length s ≤ 254 → readOf s ≡ answered (component .read s 0 (length s))
+unfolding readOf
+read-short s h = unpicked _ _ (le-ltb _ (length s) (omega (arith, h)))
+
 -- octets are accepted with a record, or refused by a number from 1 to 9 with no record
 pub answers : (s : List ℕ) → ((x : Record) × (readOf s ≡ accepted x)) ⊎ ((n : ℕ) × (1 ≤ n) × (n ≤ 9) × (readOf s ≡ refused n))
-unfolding readOf
-answers s = go (ltb 254 (length s)) (component .read s 0 (length s))
+answers s = go (ltb 254 (length s)) refl (component .read s 0 (length s)) (read-short s)
   where
-    go : (t : Bool) (a : Ans Record) → ((x : Record) × (if_then_else t (refused 3) (answered a) ≡ accepted x))
-        ⊎ ((n : ℕ) × (1 ≤ n) × (n ≤ 9) × (if_then_else t (refused 3) (answered a) ≡ refused n))
-    go true a = inr (3, omega arith, omega arith, refl)
-    go false (got x n) = inl (x, refl)
-    go false (halt w p) = inr (numberOf w, refusal w .0, refusal w .1, refl)
+    go : (t : Bool) → ltb 254 (length s) ≡ t → (a : Ans Record) → (length s ≤ 254 → readOf s ≡ answered a)
+        → ((x : Record) × (readOf s ≡ accepted x)) ⊎ ((n : ℕ) × (1 ≤ n) × (n ≤ 9) × (readOf s ≡ refused n))
+    go true q a e = inr (3, omega arith, omega arith, read-long s (ltb-true 254 (length s) q))
+    go false q (got x n) e = inl (x, e (ltb-false 254 (length s) q))
+    go false q (halt w p) e = inr (numberOf w, refusal w .0, refusal w .1, e (ltb-false 254 (length s) q))
+
+-- the number of an answer is at most 9
+pub refusal-small : (s : List ℕ) → readOf s .number ≤ 9
+refusal-small s =
+    elim (answers s) [
+      | inl a ↦ let e : readOf s .number ≡ 0 = ap (λ (z : Answer). z .number) (a .1) in omega arith
+      | inr r ↦ let e : readOf s .number ≡ r .0 = ap (λ (z : Answer). z .number) (r .3) in omega (arith, r .2)
+    ]
 
 -- a refusal leaves no record
 pub no-record : (s : List ℕ) → (readOf s .number ≡ 0 → ⊥) → readOf s .value ≡ noRecord
@@ -90,19 +106,19 @@ answered-got (halt w p) x e = absurd (refused-some w (ap (λ (z : Answer). z .nu
 
 -- octets are accepted with a record exactly where they are at most 254 and, whole, mean it
 pub reads : (s : List ℕ) (x : Record) → Octets s → (readOf s ≡ accepted x) ↔ ((length s ≤ 254) × Encodes component x s)
-unfolding readOf
-reads s x os = (λ e. there (ltb 254 (length s)) refl e, λ p. back (p .0) (p .1))
+reads s x os = (
+  λ e. there (ltb 254 (length s)) refl e,
+  λ p. read-short s (p .0) ∙ ap answered (reads-meaning component componentLaws s x os .1 (p .1)),
+)
   where
-    there : (t : Bool) → ltb 254 (length s) ≡ t → if_then_else t (refused 3) (answered (component .read s 0 (length s))) ≡ accepted x
-        → (length s ≤ 254) × Encodes component x s
-    there true q e = let z : _≡_ {A = ℕ} 3 0 = ap (λ (a : Answer). a .number) e in absurd (omega arith)
+    there : (t : Bool) → ltb 254 (length s) ≡ t → readOf s ≡ accepted x → (length s ≤ 254) × Encodes component x s
+    there true q e =
+        let z : _≡_ {A = ℕ} 3 0 = ap (λ (a : Answer). a .number) (sym (read-long s (ltb-true 254 (length s) q)) ∙ e) in absurd (omega arith)
     there false q e =
-        let g = answered-got (component .read s 0 (length s)) x e in
+        let l = ltb-false 254 (length s) q in
+        let g = answered-got (component .read s 0 (length s)) x (sym (read-short s l) ∙ e) in
         let n = component-ends s 0 (length s) (g .0) x (g .1) in
-        (ltb-false 254 (length s) q, reads-meaning component componentLaws s x os .0 (g .1 ∙ ap (got x) n))
-
-    back : length s ≤ 254 → Encodes component x s → if_then_else (ltb 254 (length s)) (refused 3) (answered (component .read s 0 (length s))) ≡ accepted x
-    back l m = rw (le-ltb 254 (length s) l, reads-meaning component componentLaws s x os .1 m)
+        (l, reads-meaning component componentLaws s x os .0 (g .1 ∙ ap (got x) n))
 
 -- octets mean at most one record
 pub one-record : (s : List ℕ) (x y : Record) → Octets s → Encodes component x s → Encodes component y s → x ≡ y
@@ -116,11 +132,7 @@ written-means x v l = means-itself component componentLaws x v (omega arith)
 
 -- and is read back
 pub reads-back : (x : Record) → component .valid x ≡ true → length (component .write x) ≤ 254 → readOf (component .write x) ≡ accepted x
-unfolding readOf
-reads-back x v l =
-    let w = component .write x in
-    let r : component .read w 0 (length w) ≡ got x (length w) = Whole.reads-back component componentLaws x v (omega arith) in
-    rw (le-ltb 254 (length w) l, r)
+reads-back x v l = read-short (component .write x) l ∙ ap answered (Whole.reads-back component componentLaws x v (omega arith))
 
 -- a record that is read is valid, and what is written of it is no longer than what was read, so it always fits
 pub read-fits : (s : List ℕ) (x : Record) → Octets s → readOf s ≡ accepted x

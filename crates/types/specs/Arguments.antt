@@ -1,10 +1,8 @@
 -- The arguments of operations 31 to 36 and the result of operation 30, as charges: one line for each element.
-use Prim.Native.Nat.{ℕ, _+_, _*_}
-use mathlib.Core.List.{List, [], _∷_}
-use mathlib.Core.Bool.{Bool, true, false, not, _&&_, _||_}
+use Prim.Native.Nat.{ℕ}
+use mathlib.Core.Bool.{Bool, _&&_}
 use lib.ListN.{length}
 use lib.Dec.{eqb}
-use Rattle.coding.specs.Reader.{if_then_else}
 use Rattle.coding.specs.Codec.{Run, prim, cons, pair, sort, some·more, canonical, sameList, pickRun}
 use Rattle.coding.specs.Leaves.{number, nullLeaf, given}
 use Rattle.coding.specs.declared.Chosen.{Chosen}
@@ -13,8 +11,6 @@ use Rattle.types.specs.declared.Association.{Association}
 use Rattle.types.specs.declared.Figure.{Figure}
 use Rattle.types.specs.declared.Entries.{Entries}
 use Rattle.types.specs.declared.Charge.{Charge}
-use Rattle.types.specs.declared.Units.{Units}
-use Rattle.types.specs.declared.Rate.{Rate}
 use Rattle.types.specs.Charges.{flag, noMoney, noAssociation, sameAssociation, money, association}
 use Rattle.types.specs.Entries.{noEntries, unit, unitRows, unitList}
 use Rattle.types.specs.Rates.{rate, rateRows, rateList}

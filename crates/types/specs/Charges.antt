@@ -1,12 +1,11 @@
 -- The parts of a charge: one line for each element. Tags in hex.
-use Prim.Native.Nat.{ℕ, _+_, _*_}
-use mathlib.Core.List.{List, [], _∷_}
+use Prim.Native.Nat.{ℕ}
+use mathlib.Core.List.{List}
 use mathlib.Core.Bool.{Bool, true, false, not, _&&_, _||_}
 use lib.ListN.{length, take, replicate}
 use lib.Dec.{ltb, leb, eqb}
-use Rattle.coding.specs.Reader.{if_then_else}
 use Rattle.coding.specs.Codec.{Leaf, Run, prim, cons, pair, nothing, sort, shape, canonical, sameList, leafOver, pad, padded}
-use Rattle.coding.specs.Leaves.{number, string, nullLeaf, identifier, given, only}
+use Rattle.coding.specs.Leaves.{number, string, identifier, only}
 use Rattle.types.specs.declared.Currency.{Currency}
 use Rattle.types.specs.declared.Money.{Money}
 use Rattle.types.specs.declared.Association.{Association}

@@ -1,18 +1,17 @@
 -- Lists of units, and how entries are laid in rows.
 use Prim.Native.Nat.{ℕ, _+_, _*_}
 use mathlib.Core.List.{List, [], _∷_}
-use mathlib.Core.Bool.{Bool, true, false, not, _&&_, _||_}
+use mathlib.Core.Bool.{Bool, _&&_}
 use mathlib.Core.Logic.{_⊎_, inl, inr}
 use mathlib.Core.Option.{Option, none, some}
-use lib.ListN.{length, getD, replicate}
+use lib.ListN.{getD, replicate}
 use lib.Dec.{eqb}
 use Rattle.coding.specs.Reader.{if_then_else}
-use Rattle.coding.specs.Codec.{Run, prim, cons, pair, alt, maybe, some·more, canonical, pad}
+use Rattle.coding.specs.Codec.{Run, prim, cons, pair, alt, maybe, canonical, pad}
 use Rattle.coding.specs.Leaves.{number, nullLeaf, or0}
 use Rattle.coding.specs.Rows.{rows, table}
 use Rattle.types.specs.declared.Units.{Units}
 use Rattle.types.specs.declared.Entries.{Entries}
-use Rattle.types.specs.Charges.{flag}
 
 abbrev pub noEntries : Entries
 noEntries = record { numbers = replicate 32 0; octets = replicate 192 0 }

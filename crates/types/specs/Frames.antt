@@ -1,9 +1,8 @@
 -- Components: frames, the record, and what reading octets answers.
-use Prim.Native.Nat.{ℕ, _+_, _-_, _≤_}
-use mathlib.Core.Path.{_≡_}
+use Prim.Native.Nat.{ℕ, _+_}
 use mathlib.Core.List.{List, [], _∷_}
-use mathlib.Core.Bool.{Bool, true, false, not, _&&_, _||_}
-use mathlib.Core.Logic.{_⊎_, inl, inr, _↔_}
+use mathlib.Core.Bool.{Bool, _&&_}
+use mathlib.Core.Logic.{_⊎_, inl, inr}
 use lib.ListN.{length}
 use lib.Dec.{ltb, leb, eqb}
 use Rattle.coding.specs.Reader.{Ans, Fault, if_then_else}
@@ -14,7 +13,6 @@ use Rattle.coding.specs.Leaves.{number, nullLeaf, identifier, listed}
 use Rattle.types.specs.declared.Charge.{Charge}
 use Rattle.types.specs.declared.Record.{Record}
 use Rattle.types.specs.declared.Answer.{Answer}
-use Rattle.types.specs.Charges.{flag}
 use Rattle.types.specs.Arguments.{noCharge, sameCharge, chargeOf}
 
 -- ---- where a fault is

@@ -1,21 +1,19 @@
 -- Lists of rates: 30 {0A item 0 to 4; one of A1 duration, A2 flat, A3 volume, 02 code 1 to 10, 84 00 free, 85 00 unknown}.
-use Prim.Native.Nat.{ℕ, _+_, _*_}
-use mathlib.Core.List.{List, [], _∷_, _++_}
-use mathlib.Core.Bool.{Bool, true, false, not, _&&_, _||_}
-use mathlib.Core.Logic.{_⊎_, inl, inr}
+use Prim.Native.Nat.{ℕ, _*_}
+use mathlib.Core.List.{List, [], _∷_}
+use mathlib.Core.Bool.{Bool, _&&_}
 use mathlib.Core.Option.{Option, none, some}
-use lib.ListN.{length, getD, take, drop, replicate}
+use lib.ListN.{getD, take, drop}
 use lib.Dec.{eqb}
 use Rattle.coding.specs.Reader.{if_then_else}
 use Rattle.coding.specs.Codec.{Run, prim, cons, pair, sort, maybe, canonical, sameList, pad}
 use Rattle.coding.specs.Leaves.{number, nullLeaf, isSome}
 use Rattle.coding.specs.Rows.{rows, table}
-use Rattle.types.specs.declared.Currency.{Currency}
 use Rattle.types.specs.declared.Money.{Money}
 use Rattle.types.specs.declared.Scaled.{Scaled}
 use Rattle.types.specs.declared.Rate.{Rate}
 use Rattle.types.specs.declared.Entries.{Entries}
-use Rattle.types.specs.Charges.{flag, noCurrency, noMoney, scaled, money}
+use Rattle.types.specs.Charges.{flag, noMoney, scaled, money}
 
 abbrev pub noScaled : Scaled
 noScaled = record { number = 0; scale = 0 }

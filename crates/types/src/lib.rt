@@ -1,6 +1,8 @@
 // What a charge is: the structs of the standard's arguments, as C sees them.
 //
 // No struct has padding, no field is a bool or an enum (a host's memory may hold anything), and what is not used is zero.
+ghost use mathlib.Core.Path.{_≡_};
+ghost use Rattle.types.specs.Charges.{isDigit};
 
 // 1 to 10 octets, each below 80 (hex).
 #[repr(C)]
@@ -104,4 +106,17 @@ pub struct Record {
 pub struct Answer {
     pub number: u32,
     pub value: Record,
+}
+
+// Whether an octet may stand in a number: 0 to 9, or space.
+pub fn is_digit(x: u8) -> bool
+    ensures { λ r. ⌜ r ≡ isDigit x ⌝ }
+{
+    if x == 0x20 {
+        return true;
+    }
+    if x < 0x30 {
+        return false;
+    }
+    x <= 0x39
 }

@@ -1,24 +1,23 @@
 -- A charge and its front.
 -- Assumes nothing.
-use Prim.Native.Nat.{ℕ, _+_, _≤_, _<_}
+use Prim.Native.Nat.{ℕ, _+_, _≤_}
 use native.Mathlib.Omega.{arith}
 use mathlib.Core.Path.{_≡_, refl, ap, sym, _∙_}
 use mathlib.Core.Bool.{Bool, true, false, not, _&&_, _||_, true≢false}
-use mathlib.Core.List.{List, [], _∷_, _++_, append-nil}
-use lib.ListN.{length, length-append}
+use mathlib.Core.List.{[], _∷_}
 use lib.Dec.{ltb, eqb}
-use borrow.Author.Tests.{ltb-true, ltb-false, eqb-true, eq-eqb}
+use borrow.Author.Tests.{ltb-true, ltb-false, eqb-true, eqb-false, eq-eqb}
 use Rattle.coding.specs.Reader.{if_then_else}
-use Rattle.coding.specs.Codec.{has, all, sort, canonical, over, prim}
+use Rattle.coding.specs.Codec.{has, sort, canonical, over, prim}
 use Rattle.coding.specs.Leaves.{nullLeaf}
-use Rattle.coding.proofs.Basic.{picked, and-left, and-right}
+use Rattle.coding.proofs.Basic.{picked, unpicked, and-left, and-right}
 use Rattle.types.specs.declared.Charge.{Charge}
-use Rattle.types.specs.Arguments.{noCharge, bare, sameCharge, sign, chargeOf}
+use Rattle.types.specs.Arguments.{noCharge, sameCharge, sign, chargeOf}
 use Rattle.types.specs.Frames.{operations}
 use Rattle.types.proofs.ArgumentLaws.{chargeEqual}
 use Rattle.heads.proofs.Codes.{has-below, operation-below}
 use Rattle.fronts.specs.declared.Front.{Front}
-use Rattle.fronts.specs.Fronts.{frontFine, frontBy, sameFront, charged}
+use Rattle.fronts.specs.Fronts.{frontFine, charged}
 use Rattle.writer.specs.Parts.{chargeFine, fineOf}
 
 -- no charge is a charge of any operation that is not available
@@ -94,3 +93,24 @@ module _ (f : Front) (c : Charge) (v : fineOf f c ≡ true) where
   its-charge q =
       let w : chargeFine f c ≡ true = and-right (frontFine f) _ v in
       sym (picked ((chargeOf (f .operation)) .valid c) (sameCharge noCharge c) q) ∙ w
+
+-- where no charge follows there is none; and it is tested by its own operation, or by one to which none is fine
+module _ (f : Front) (c : Charge) (v : frontFine f ≡ true) where
+  front-first : fineOf f c ≡ chargeFine f c
+  front-first = ap (λ (b : Bool). b && chargeFine f c) v
+
+  pub held-not : (charged f || eqb (c .figure .kind) 0) ≡ false → false ≡ fineOf f c
+  held-not h = sym (front-first ∙ go (charged f) (eqb (c .figure .kind) 0) refl refl h)
+    where
+      go : (b k : Bool) → charged f ≡ b → eqb (c .figure .kind) 0 ≡ k → (b || k) ≡ false → chargeFine f c ≡ false
+      go true k q e h = absurd (true≢false h)
+      go false true q e h = absurd (true≢false h)
+      go false false q e h = unpicked _ _ q ∙ some-is-not c (eqb-false (c .figure .kind) 0 e)
+
+  pub held-tested : (charged f || eqb (c .figure .kind) 0) ≡ true → (o : ℕ) → o ≡ if_then_else (charged f) (f .operation) 32 → (chargeOf o) .valid c ≡ fineOf f c
+  held-tested h o is = ap (λ (n : ℕ). (chargeOf n) .valid c) is ∙ go (charged f) (eqb (c .figure .kind) 0) refl refl h ∙ sym front-first
+    where
+      go : (b k : Bool) → charged f ≡ b → eqb (c .figure .kind) 0 ≡ k → (b || k) ≡ true → (chargeOf (if_then_else (charged f) (f .operation) 32)) .valid c ≡ chargeFine f c
+      go true k q e h = ap (λ (n : ℕ). (chargeOf n) .valid c) (picked (f .operation) 32 q) ∙ sym (picked _ _ q)
+      go false true q e h = ap (λ (n : ℕ). (chargeOf n) .valid c) (unpicked (f .operation) 32 q) ∙ none-is c 32 (eqb-true (c .figure .kind) 0 e) ∙ sym (unpicked _ _ q)
+      go false false q e h = absurd (true≢false (sym h))

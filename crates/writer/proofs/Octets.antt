@@ -1,29 +1,27 @@
 -- The octets of a record are those of its front and then those of its charge.
 -- Assumes nothing.
-use Prim.Native.Nat.{ℕ, _+_, _≤_, _<_}
+use Prim.Native.Nat.{ℕ, _+_, _<_}
 use native.Mathlib.Omega.{arith}
 use mathlib.Core.Path.{_≡_, refl, ap, ap₂, sym, _∙_, subst}
-use mathlib.Core.Bool.{Bool, true, false, not, _&&_, _||_, true≢false}
+use mathlib.Core.Bool.{Bool, true, false}
 use mathlib.Core.Logic.{_⊎_, inl, inr}
 use mathlib.Core.List.{List, [], _∷_, _++_, append-assoc, append-nil}
 use lib.ListN.{length, length-append}
-use lib.Dec.{ltb, leb, eqb}
-use borrow.Author.Tests.{eqb-true, eqb-false, eq-eqb, ne-eqb}
+use lib.Dec.{eqb}
+use borrow.Author.Tests.{eqb-true, eqb-false}
 use Rattle.coding.specs.Reader.{if_then_else}
-use Rattle.coding.specs.Codec.{Run, has, prim, cons, alt, canonical, over, sort, frames, leads, barring, marked, pickRun, lengthOctets}
-use Rattle.coding.specs.Leaves.{number, nullLeaf, identifier, listed}
+use Rattle.coding.specs.Codec.{prim, cons, alt, canonical, over, sort, frames, leads, barring, marked, lengthOctets}
+use Rattle.coding.specs.Leaves.{number, identifier, listed}
 use Rattle.coding.specs.Written.{lead, fullNumber}
-use Rattle.coding.proofs.Basic.{and-left, and-right}
 use Rattle.coding.proofs.Small.{small-length, null-write}
-use Rattle.coding.proofs.Writing.{number-write, cons-write}
+use Rattle.coding.proofs.Writing.{number-write}
 use Rattle.types.specs.declared.Record.{Record}
 use Rattle.types.specs.declared.Charge.{Charge}
 use Rattle.types.specs.Arguments.{chargeOf}
 use Rattle.types.specs.Frames.{operations, errors, component, frame, invoke, returnResult, returnError, reject, value, argument, request, carrying, failed, caller, problem, problems}
-use Rattle.fronts.specs.declared.Front.{Front}
-use Rattle.fronts.specs.Fronts.{frontFine, frontBy, frontOctets, idOctets, charged, called, problemFine, sameFront}
+use Rattle.fronts.specs.Fronts.{frontFine, frontBy, frontOctets}
 use Rattle.fronts.proofs.Sizes.{small-2, reject-problem, problem-tag}
-use Rattle.writer.specs.Parts.{frontOf, chargeOctets, bodyOf}
+use Rattle.writer.specs.Parts.{frontOf, bodyOf}
 
 abbrev rec : ℕ → ℕ → ℕ → ℕ → ℕ → ℕ → ℕ → Charge → Record
 rec k u i o e p d c = record { frame = k; unnamed = u; id = i; operation = o; error = e; problem = p; detail = d; charge = c }

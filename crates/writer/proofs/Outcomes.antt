@@ -11,17 +11,16 @@ use lib.Seq.{sets-eq}
 use lib.Dec.{leb, ltb}
 use borrow.Author.Tests.{le-leb, lt-leb, ltb-true, ltb-false}
 use Rattle.coding.specs.Written.{Wrote, lead}
-use Rattle.coding.proofs.Basic.{picked, unpicked, and-left, and-right}
+use Rattle.coding.proofs.Basic.{picked, unpicked, and-left}
 use Rattle.coding.proofs.Writing.{lead-length, lead-length-short, lead-length-long, wrote-as, wrote-element}
 use Rattle.types.specs.declared.Record.{Record}
-use Rattle.types.specs.declared.Charge.{Charge}
 use Rattle.types.specs.Frames.{component}
 use Rattle.fronts.specs.declared.Front.{Front}
 use Rattle.fronts.specs.Fronts.{frontFine, frontOctets}
 use Rattle.fronts.proofs.Sizes.{front-least}
 use Rattle.writer.specs.declared.Written as W
 use Rattle.writer.specs.Outcome.{done, no, writeOf, leftOf}
-use Rattle.writer.specs.Parts.{frontOf, chargeFine, fineOf, chargeOctets, bodyOf}
+use Rattle.writer.specs.Parts.{frontOf, fineOf, chargeOctets, bodyOf}
 use Rattle.writer.proofs.Valid.{valid-parts}
 use Rattle.writer.proofs.Octets.{write-parts}
 
@@ -119,3 +118,8 @@ module _ (r : Record) (before : List ℕ) where
         wrote g a b =
             wrote-all _ _ valid (fits (omega (arith, e, h))) (omega (arith, whole-is, g))
             (wrote-as (sym (write-parts r front-fine)) (wrote-element (0xa0 + r .frame) m e a b))
+
+-- what is said of a record is said of the same record
+pub of-same : {r r′ : Record} {after : List ℕ} {w : W.Written} (before : List ℕ) → r ≡ r′
+    → (w ≡ writeOf r (length before)) × (after ≡ leftOf r before) → (w ≡ writeOf r′ (length before)) × (after ≡ leftOf r′ before)
+of-same before e h = (h .0 ∙ ap (λ (x : Record). writeOf x (length before)) e, h .1 ∙ ap (λ (x : Record). leftOf x before) e)

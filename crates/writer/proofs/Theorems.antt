@@ -1,16 +1,15 @@
 -- What the writer's answer and what it leaves say of reading.
 -- Assumes nothing.
-use Prim.Native.Nat.{ℕ, _+_, _≤_, _<_}
+use Prim.Native.Nat.{ℕ, _+_, _≤_}
 use native.Mathlib.Omega.{arith}
-use mathlib.Core.Path.{_≡_, refl, ap, ap₂, sym, _∙_}
-use mathlib.Core.Bool.{Bool, true, false, _&&_, true≢false}
+use mathlib.Core.Path.{_≡_, refl, ap, _∙_}
+use mathlib.Core.Bool.{Bool, true, false, _&&_}
 use mathlib.Core.List.{List, _++_}
 use lib.ListN.{length, take, drop}
 use lib.Seq.{take-append-seam}
 use lib.Dec.{leb}
 use borrow.Author.Tests.{leb-true, le-leb}
 use Rattle.coding.specs.Reader.{if_then_else}
-use Rattle.coding.proofs.Basic.{picked}
 use Rattle.coding.proofs.Laws.{Octets}
 use Rattle.types.specs.declared.Record.{Record}
 use Rattle.types.specs.Frames.{component, readOf, accepted}

@@ -1,22 +1,21 @@
 -- A record may be written exactly where its front may be and its charge fits it.
 -- Assumes nothing.
-use Prim.Native.Nat.{ℕ, _+_, _≤_, _<_}
+use Prim.Native.Nat.{ℕ, _+_, _<_}
 use native.Mathlib.Omega.{arith}
-use mathlib.Core.Path.{_≡_, refl, ap, sym, _∙_, subst}
-use mathlib.Core.Bool.{Bool, true, false, not, _&&_, _||_, true≢false}
+use mathlib.Core.Path.{_≡_, refl, sym, subst}
+use mathlib.Core.Bool.{Bool, true, false, _&&_}
 use mathlib.Core.List.{List, [], _∷_}
-use lib.Dec.{ltb, leb, eqb}
+use lib.Dec.{leb, eqb}
 use borrow.Author.Tests.{lt-ltb, le-leb, eqb-true, eqb-false, eq-eqb, ne-eqb}
-use Rattle.coding.specs.Reader.{if_then_else}
-use Rattle.coding.specs.Codec.{Run, has, prim, cons, alt, canonical, over, sort, frames, leads, barring, marked, pickRun}
+use Rattle.coding.specs.Codec.{has, prim, cons, alt, canonical, over, sort, frames, leads, barring, marked}
 use Rattle.coding.specs.Leaves.{number, nullLeaf, identifier, listed}
 use Rattle.types.specs.declared.Record.{Record}
 use Rattle.types.specs.declared.Charge.{Charge}
 use Rattle.types.specs.Arguments.{noCharge, sameCharge, chargeOf}
 use Rattle.types.specs.Frames.{operations, errors, component, frame, invoke, returnResult, returnError, reject, value, argument, request, carrying, failed, caller, problem, problems}
 use Rattle.types.proofs.ArgumentLaws.{chargeEqual}
-use Rattle.fronts.specs.Fronts.{frontFine, frontBy, charged}
-use Rattle.writer.specs.Parts.{frontOf, chargeFine, fineOf}
+use Rattle.fronts.specs.Fronts.{frontFine, frontBy}
+use Rattle.writer.specs.Parts.{frontOf, fineOf}
 use Rattle.writer.proofs.Shuffles.{last-asked, own-charge, problem-asked}
 
 abbrev rec : ℕ → ℕ → ℕ → ℕ → ℕ → ℕ → ℕ → Charge → Record

@@ -1,7 +1,7 @@
 -- What writing a record answers, and what it leaves in the buffer.
 use Prim.Native.Nat.{ℕ}
 use mathlib.Core.List.{List, _++_}
-use mathlib.Core.Bool.{Bool, true, false, _&&_}
+use mathlib.Core.Bool.{_&&_}
 use lib.ListN.{length, drop}
 use lib.Dec.{leb}
 use Rattle.coding.specs.Reader.{if_then_else}

@@ -1,7 +1,7 @@
 -- A record as its front and its charge. For the writer's inner functions.
 use Prim.Native.Nat.{ℕ}
 use mathlib.Core.List.{List, [], _++_}
-use mathlib.Core.Bool.{Bool, true, false, _&&_}
+use mathlib.Core.Bool.{Bool, _&&_}
 use lib.ListN.{length}
 use Rattle.coding.specs.Reader.{if_then_else}
 use Rattle.types.specs.declared.Record.{Record}
@@ -19,6 +19,18 @@ frontOf r = record {
   error = r .error;
   problem = r .problem;
   detail = r .detail;
+}
+
+abbrev pub recordOf : Front → Charge → Record
+recordOf f c = record {
+  frame = f .frame;
+  unnamed = f .unnamed;
+  id = f .id;
+  operation = f .operation;
+  error = f .error;
+  problem = f .problem;
+  detail = f .detail;
+  charge = c;
 }
 
 -- the charge fits its front: one that may be written where it follows, else none

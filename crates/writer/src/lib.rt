@@ -1,14 +1,18 @@
 // Components: written in their shortest form. All is decided before a single octet is stored.
+use put_figures::Outline;
+use types::Figure;
 ghost use mathlib.Core.Path.{_≡_};
-ghost use mathlib.Core.Bool.{Bool, true, false};
-ghost use mathlib.Core.List.{List, _++_};
+ghost use mathlib.Core.Bool.{true, false, _||_};
 ghost use Prim.Native.Nat.{_+_, _≤_, _<_};
 ghost use lib.ListN.{length};
-ghost use Rattle.coding.specs.Written.{Wrote, lead};
-ghost use Rattle.types.specs.Arguments.{sameCharge, noCharge, chargeOf};
-ghost use Rattle.fronts.specs.Fronts.{frontFine, frontOctets, charged};
+ghost use lib.Dec.{eqb};
+ghost use Rattle.coding.specs.Reader.{if_then_else};
+ghost use Rattle.coding.specs.Written.{Wrote};
+ghost use Rattle.fronts.specs.Fronts.{frontFine, charged};
 ghost use Rattle.writer.specs.Outcome.{no, writeOf, leftOf};
-ghost use Rattle.writer.specs.Parts.{fineOf, chargeFine, chargeOctets, bodyOf};
+ghost use Rattle.put_lists.specs.Octets.{withList};
+ghost use Rattle.writer.specs.Handed.{handed};
+ghost use Rattle.writer.specs.Parts.{recordOf, fineOf, chargeOctets, bodyOf};
 
 // What writing answers: 0 and the octets written, or the refusal's number and 0.
 #[repr(C)]
@@ -23,79 +27,104 @@ fn refuse(number: u32) -> Written
     Written { number, count: 0 }
 }
 
-// No charge at all.
-fn no_charge(c: types::Charge) -> bool
-    ensures { λ r. ⌜ r ≡ sameCharge noCharge c ⌝ }
-{
-    if c.figure.kind != 0 {
-        return false;
-    }
-    put_lists::charge_fine(c, 32)
-}
-
-// Whether a charge fits its front.
-fn charge_fine(f: fronts::Front, c: types::Charge) -> bool
-    requires { ⌜ frontFine f ≡ true ⌝ }
-    ensures { λ r. ⌜ r ≡ chargeFine f c ⌝ }
+// Whether a charge of a kind may stand beside a front: any where one follows, none where none does.
+fn may_hold(f: fronts::Front, kind: u8) -> bool
+    ensures { λ r. ⌜ r ≡ charged f || eqb kind 0 ⌝ }
 {
     if fronts::is_charged(f) {
-        return put_lists::charge_fine(c, f.operation);
+        return true;
     }
-    no_charge(c)
+    kind == 0
+}
+
+// The operation by which a charge is tested: its own, or, where none follows, one to which no charge at all is fine.
+fn tested_by(f: fronts::Front) -> u8
+    requires { ⌜ frontFine f ≡ true ⌝ }
+    ensures { λ r. ⌜ r ≡ if_then_else (charged f) (f .operation) 32 ⌝ }
+    ensures known { λ r. ⌜ (30 ≤ r) × (r ≤ 36) ⌝ }
+{
+    if fronts::is_charged(f) {
+        return f.operation;
+    }
+    32
 }
 
 // Whether a record may be written.
-fn record_fine(f: fronts::Front, c: types::Charge) -> bool
-    ensures { λ r. ⌜ r ≡ fineOf f c ⌝ }
+fn record_fine(
+    f: fronts::Front,
+    figure: Figure,
+    currency: &[u8; 10],
+    digits: &[u8; 20],
+    numbers: &[u32; 32],
+    rows: &[u8; 192],
+) -> bool
+    requires { ⌜ (now currency ≡ figure .money .currency .octets) × (now digits ≡ figure .association .digits) ⌝ }
+    ensures { λ r. ⌜ r ≡ fineOf f (withList figure (now (numbers .entry)) (now (rows .entry))) ⌝ }
+    ensures long { λ _. ⌜ length (now (rows .entry)) ≡ 192 ⌝ }
 {
+    // As slices the arrays show their lengths to the proof.
+    let places: &[u32] = numbers;
+    let octets: &[u8] = rows;
     if !fronts::front_fine(f) {
         return false;
     }
-    charge_fine(f, c)
+    if !may_hold(f, figure.kind) {
+        return false;
+    }
+    put_lists::charge_fine(figure, currency, digits, numbers, rows, tested_by(f))
 }
 
 // The octets of a charge that follows.
-fn charge_size(f: fronts::Front, c: types::Charge) -> usize
-    requires { ⌜ fineOf f c ≡ true ⌝ }
-    ensures { λ r. ⌜ r ≡ length (chargeOctets f c) ⌝ }
+fn charge_size(f: fronts::Front, figure: Figure, numbers: &[u32; 32], rows: &[u8; 192]) -> usize
+    requires { ⌜ (fineOf f (withList figure (now numbers) (now rows)) ≡ true) × (length (now rows) ≡ 192) ⌝ }
+    ensures { λ r. ⌜ r ≡ length (chargeOctets f (withList figure (now (numbers .entry)) (now (rows .entry)))) ⌝ }
 {
     if fronts::is_charged(f) {
-        return put_lists::charge_size(c, f.operation);
+        return put_lists::charge_size(figure, numbers, rows, f.operation);
     }
     0
 }
 
-// A frame's contents, after the lead.
-fn put_body(buf: &mut [u8], at: usize, f: fronts::Front, c: types::Charge, n: usize) -> usize
-    requires { ⌜ (fineOf f c ≡ true) × (n ≡ length (chargeOctets f c)) × (n < 250) × (at + length (bodyOf f c) ≤ length (now buf)) ⌝ }
-    ensures { λ r. ⌜ Wrote (now (buf .entry)) (now (buf .exit)) at (bodyOf f c) r ⌝ }
+// A frame's contents, after the lead. Its charge takes n octets.
+fn put_body(
+    buf: &mut [u8],
+    at: usize,
+    f: fronts::Front,
+    figure: Figure,
+    numbers: &[u32; 32],
+    rows: &[u8; 192],
+    n: usize,
+) -> usize
+    requires { ⌜ (fineOf f (withList figure (now numbers) (now rows)) ≡ true) × (length (now rows) ≡ 192) ⌝ }
+    requires { ⌜ (n ≡ length (chargeOctets f (withList figure (now numbers) (now rows)))) × (n < 250) ⌝ }
+    requires { ⌜ at + length (bodyOf f (withList figure (now numbers) (now rows))) ≤ length (now buf) ⌝ }
+    ensures { λ r. ⌜ Wrote (now (buf .entry)) (now (buf .exit)) at (bodyOf f (withList figure (now (numbers .entry)) (now (rows .entry)))) r ⌝ }
 {
     let p = fronts::put_front(buf, at, f, n);
     if fronts::is_charged(f) {
-        return put_lists::put_charge(buf, p, c, f.operation);
+        return put_lists::put_charge(buf, p, figure, numbers, rows, f.operation);
     }
     p
 }
 
-// Writes a record into a lent buffer.
-pub fn write(r: types::Record, buf: &mut [u8]) -> Written
-    ensures { λ w. ⌜ w ≡ writeOf r (length (now (buf .entry))) ⌝ }
-    ensures left { λ w. ⌜ now (buf .exit) ≡ leftOf r (now (buf .entry)) ⌝ }
+// Writes a record by its front, its figure and its list.
+fn put_record(
+    f: fronts::Front,
+    figure: Figure,
+    currency: &[u8; 10],
+    digits: &[u8; 20],
+    numbers: &[u32; 32],
+    rows: &[u8; 192],
+    buf: &mut [u8],
+) -> Written
+    requires { ⌜ (now currency ≡ figure .money .currency .octets) × (now digits ≡ figure .association .digits) ⌝ }
+    ensures { λ w. ⌜ w ≡ writeOf (recordOf f (withList figure (now (numbers .entry)) (now (rows .entry)))) (length (now (buf .entry))) ⌝ }
+    ensures left { λ w. ⌜ now (buf .exit) ≡ leftOf (recordOf f (withList figure (now (numbers .entry)) (now (rows .entry)))) (now (buf .entry)) ⌝ }
 {
-    let charge = r.charge;
-    let f = fronts::Front {
-        frame: r.frame,
-        unnamed: r.unnamed,
-        id: r.id,
-        operation: r.operation,
-        error: r.error,
-        problem: r.problem,
-        detail: r.detail,
-    };
-    if !record_fine(f, charge) {
+    if !record_fine(f, figure, currency, digits, numbers, rows) {
         return refuse(10);
     }
-    let n = charge_size(f, charge);
+    let n = charge_size(f, figure, numbers, rows);
     if 250 <= n {
         return refuse(11);
     }
@@ -108,9 +137,65 @@ pub fn write(r: types::Record, buf: &mut [u8]) -> Written
         return refuse(12);
     }
     let p = coding::put_lead(buf, 0, 0xa0 + f.frame, m);
-    let q = put_body(buf, p, f, charge, n);
-    Written {
-        number: 0,
-        count: q as u32,
-    }
+    let q = put_body(buf, p, f, figure, numbers, rows, n);
+    let count = q as u32;
+    Written { number: 0, count }
+}
+
+// Writes a record, handed over in parts, into a lent buffer. Numbers go by value and arrays are lent, so that none is copied.
+pub fn write_from(
+    f: fronts::Front,
+    o: Outline,
+    number: u32,
+    currency: &[u8; 10],
+    digits: &[u8; 20],
+    numbers: &[u32; 32],
+    rows: &[u8; 192],
+    buf: &mut [u8],
+) -> Written
+    ensures { λ w. ⌜ w ≡ writeOf (handed f o number (now (currency .entry)) (now (digits .entry)) (now (numbers .entry)) (now (rows .entry))) (length (now (buf .entry))) ⌝ }
+    ensures left { λ w. ⌜ now (buf .exit) ≡ leftOf (handed f o number (now (currency .entry)) (now (digits .entry)) (now (numbers .entry)) (now (rows .entry))) (now (buf .entry)) ⌝ }
+{
+    let figure = put_figures::figure_of(o, number, currency, digits);
+    put_record(f, figure, currency, digits, numbers, rows, buf)
+}
+
+// Writes a record into a lent buffer.
+pub fn write(r: types::Record, buf: &mut [u8]) -> Written
+    ensures { λ w. ⌜ w ≡ writeOf r (length (now (buf .entry))) ⌝ }
+    ensures left { λ w. ⌜ now (buf .exit) ≡ leftOf r (now (buf .entry)) ⌝ }
+{
+    let f = fronts::Front {
+        frame: r.frame,
+        unnamed: r.unnamed,
+        id: r.id,
+        operation: r.operation,
+        error: r.error,
+        problem: r.problem,
+        detail: r.detail,
+    };
+    let figure = r.charge.figure;
+    let money = figure.money;
+    let currency = money.currency;
+    let association = figure.association;
+    let entries = r.charge.entries;
+    let o = Outline {
+        id: association.id,
+        digits: association.count,
+        currency: currency.count,
+        multiplier: money.multiplier,
+        party: association.kind,
+        plan: association.plan,
+        kind: figure.kind,
+        total: figure.total,
+        billed: figure.billed,
+        billing: figure.billing,
+        arrangement: figure.arrangement,
+        count: figure.count,
+    };
+    let octets = currency.octets;
+    let digits = association.digits;
+    let numbers = entries.numbers;
+    let rows = entries.octets;
+    write_from(f, o, money.number, &octets, &digits, &numbers, &rows, buf)
 }

@@ -1,7 +1,6 @@
 -- `coding::is_negative` meets its contract.
 -- Assumes nothing.
 use borrow.Author.Needs.{needs}
-use native.Mathlib.Omega.{arith}
 use Rattle.coding.specs.Contents.{negative}
 use Rattle.coding.proofs.Parts.{part-none, part-cons}
 use Rattle.coding.proofs.is_negative.Statement.{statement}

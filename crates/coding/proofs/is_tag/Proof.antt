@@ -1,7 +1,7 @@
 -- `coding::is_tag` meets its contract.
 -- Assumes nothing.
 use borrow.Author.Needs.{needs}
-use borrow.Author.Tests.{le-ltb, lt-ltb, le-leb, lt-leb, eq-eqb, ne-eqb}
+use borrow.Author.Tests.{le-ltb, lt-ltb}
 use Rattle.coding.specs.Reader.{tagged}
 use Rattle.coding.proofs.is_tag.Statement.{statement}
 use Rattle.coding.proofs.is_tag.Tie as tie

@@ -1,9 +1,8 @@
 -- `coding::magnitude` meets its contract. The loop's invariant: n is the number that the octets passed say, held at 2^24. The measure is what is left.
 -- Assumes nothing.
-use Prim.Native.Nat.{_+_, _*_, _-_, _≤_, min}
+use Prim.Native.Nat.{_-_, _≤_, min}
 use native.Mathlib.Omega.{arith}
-use mathlib.Core.Path.{_≡_, sym, ap, _∙_}
-use lib.ListN.{getD}
+use mathlib.Core.Path.{_≡_}
 use Rattle.coding.specs.Reader.{part}
 use Rattle.coding.specs.Contents.{numberFrom}
 use Rattle.coding.proofs.Parts.{part-none, part-more, number-more}

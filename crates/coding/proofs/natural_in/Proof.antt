@@ -2,11 +2,10 @@
 -- Assumes nothing.
 use borrow.Author.Needs.{needs}
 use native.Mathlib.Omega.{arith}
-use borrow.Author.Tests.{le-ltb, lt-ltb, le-leb, lt-leb, eq-eqb, ne-eqb}
-use Prim.Native.Nat.{_+_, _≤_, _<_}
+use borrow.Author.Tests.{le-leb, lt-leb}
+use Prim.Native.Nat.{_≤_, _<_}
 use mathlib.Core.Path.{_≡_, sym, _∙_}
-use mathlib.Core.Bool.{true, false}
-use Rattle.coding.specs.Contents.{natural, numberFrom, negative, shortest}
+use Rattle.coding.specs.Contents.{natural, numberFrom}
 use Rattle.coding.specs.Reader.{part}
 use Rattle.coding.specs.Shown.{verdict}
 use Rattle.coding.proofs.natural_in.Statement.{statement}

@@ -4,8 +4,6 @@ use borrow.Author.Needs.{needs}
 use Rattle.coding.specs.Codec.{prim}
 use Rattle.coding.specs.Leaves.{nullLeaf}
 use native.Mathlib.Omega.{arith}
-use Prim.Native.Nat.{ℕ}
-use mathlib.Core.Path.{_≡_}
 use Rattle.coding.specs.Reader.{primitive}
 use Rattle.coding.proofs.Reading.{reading, step, fails}
 use Rattle.coding.proofs.Parts.{null-none, null-some}

@@ -1,7 +1,7 @@
 -- `coding::open_long` meets its contract.
 -- Assumes nothing.
 use borrow.Author.Needs.{needs}
-use borrow.Author.Tests.{le-ltb, lt-ltb, le-leb, lt-leb, eq-eqb, ne-eqb}
+use borrow.Author.Tests.{le-ltb, lt-ltb, eq-eqb, ne-eqb}
 use native.Mathlib.Omega.{arith}
 use Rattle.coding.specs.Reader.{opened, choice, neither, tagged}
 use Rattle.coding.specs.Shown.{shown}

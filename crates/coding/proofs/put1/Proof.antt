@@ -1,11 +1,7 @@
 -- `coding::put1` meets its contract.
 -- Assumes nothing.
 use borrow.Author.Needs.{needs}
-use mathlib.Core.Path.{refl, sym, ap, _∙_}
-use native.Mathlib.Omega.{arith}
-use lib.ListN.{length, length-set}
-use Rattle.coding.specs.Leaves.{digits}
-use Rattle.coding.proofs.Writing.{wrote-one, wrote-cons, wrote-as, digits-one}
+use Rattle.coding.proofs.Writing.{wrote-one, wrote-as, digits-one}
 use Rattle.coding.proofs.put1.Statement.{statement}
 use Rattle.coding.proofs.put1.Tie as tie
 

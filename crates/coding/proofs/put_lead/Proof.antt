@@ -1,9 +1,9 @@
 -- `coding::put_lead` meets its contract.
 -- Assumes nothing.
 use borrow.Author.Needs.{needs}
-use mathlib.Core.Path.{sym, ap}
+use mathlib.Core.Path.{sym}
 use native.Mathlib.Omega.{arith}
-use lib.ListN.{length, length-set}
+use lib.ListN.{length-set}
 use Rattle.coding.proofs.Writing.{lead-short, lead-long, lead-length, lead-length-short, lead-length-long, wrote-2, wrote-3, wrote-as}
 use Rattle.coding.proofs.put_lead.Statement.{statement}
 use Rattle.coding.proofs.put_lead.Tie as tie

@@ -3,9 +3,9 @@
 use Prim.Native.Nat.{ℕ, _+_, _-_, _≤_}
 use mathlib.Core.Path.{_≡_, subst}
 use native.Mathlib.Omega.{arith}
-use lib.ListN.{length, take}
+use lib.ListN.{take}
 use Rattle.coding.specs.Written.{Wrote}
-use Rattle.coding.proofs.Writing.{wrote-none, wrote-octet, wrote-next, wrote-as}
+use Rattle.coding.proofs.Writing.{wrote-none, wrote-octet}
 use Rattle.coding.proofs.put_octets.Statement.{statement}
 use Rattle.coding.proofs.put_octets.Tie as tie
 

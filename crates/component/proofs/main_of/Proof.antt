@@ -1,5 +1,4 @@
 use borrow.Author.Needs.{needs}
-use native.Mathlib.Omega.{arith}
 use mathlib.Core.Path.{_∙_, sym}
 use Rattle.component.proofs.Tails.{rest-refused, rest-whole, rest-request, rest-carried, no-list}
 use Rattle.component.proofs.main_of.Statement.{statement}

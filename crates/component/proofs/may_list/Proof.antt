@@ -1,7 +1,7 @@
 use borrow.Author.Needs.{needs}
 use borrow.Author.Tests.{eq-eqb, ne-eqb, le-leb, lt-leb}
 use mathlib.Core.Path.{_∙_, sym}
-use Rattle.component.specs.Whole.{mayList}
+use Rattle.component.specs.Ways.{mayList}
 use Rattle.component.proofs.may_list.Statement.{statement}
 use Rattle.component.proofs.may_list.Tie as tie
 

@@ -1,37 +1,18 @@
+-- `component::read` meets its contract: that of `read_into`, in one record.
 use borrow.Author.Needs.{needs}
-use mathlib.Core.Path.{_∙_, sym}
 use Rattle.component.proofs.read.Statement.{statement}
 use Rattle.component.proofs.read.Tie as tie
 
-head-of-requires : tie.Need-head-of-requires
-head-of-requires c κs = search needs
-
-may-list-requires : tie.Need-may-list-requires
-may-list-requires c κs = search needs
-
-listed-requires : tie.Need-listed-requires
-listed-requires c κs =
-    (c .before .before .head-of .ensures .1, sym (c .before .may-list .ensures) ∙ c .if1 .taken)
+read-into-requires : tie.Need-read-into-requires
+read-into-requires c κs = search needs
 
 returns : tie.Need-returns
 returns c =
-    c .listed .ensures ∙ c .before .before .before .head-of .ensures .0
-
-main-of-requires : tie.Need-main-of-requires
-main-of-requires c κs =
-    (c .before .before .head-of .ensures .1, sym (c .before .may-list .ensures) ∙ c .if1 .left)
-
-returns-2 : tie.Need-returns-2
-returns-2 c =
-    c .before .main-of .ensures ∙ c .before .before .before .before .head-of .ensures .0
+    c .before .read-into .ensures
 
 pub read-spec : {M : Type 1} → statement M
 read-spec =
     tie.close
     (tie.spec
-    head-of-requires
-    may-list-requires
-    listed-requires
-    returns
-    main-of-requires
-    returns-2)
+    read-into-requires
+    returns)

@@ -1,19 +1,17 @@
 use borrow.Author.Needs.{needs}
-use borrow.Author.Tests.{eq-eqb, ne-eqb, lt-ltb, le-ltb}
+use borrow.Author.Tests.{eq-eqb, ne-eqb}
 use native.Mathlib.Omega.{arith}
 use Prim.Native.Nat.{_+_}
-use mathlib.Core.Path.{_≡_, sym, ap, _∙_}
-use mathlib.Core.List.{List, [], _++_, append-nil}
+use mathlib.Core.Path.{_≡_, ap}
+use mathlib.Core.List.{[], _++_}
 use lib.ListN.{length, length-append}
 use lib.Dec.{eqb}
 use Rattle.coding.specs.Reader.{if_then_else}
 use Rattle.coding.specs.Written.{lead, fullNumber}
-use Rattle.coding.proofs.Writing.{wrote-both, wrote-as}
-use Rattle.fronts.specs.Fronts.{idOctets, frontOctets}
-use Rattle.coding.specs.Leaves.{identifier}
+use Rattle.fronts.specs.Fronts.{idOctets}
 use Rattle.coding.proofs.Small.{small-length, null-length}
 use Rattle.coding.proofs.Writing.{lead-length-short, lead-length-long}
-use Rattle.fronts.proofs.Sizes.{front-1, front-2, front-3, front-4, small-1, small-2, small-3, small-4, id-many, two-parts}
+use Rattle.fronts.proofs.Sizes.{front-1, front-2, front-3, front-4, small-1, small-2, small-3, small-4, id-many}
 use Rattle.fronts.proofs.front_size.Statement.{statement}
 use Rattle.fronts.proofs.front_size.Tie as tie
 

@@ -1,7 +1,6 @@
-use borrow.Author.Needs.{needs}
-use borrow.Author.Tests.{eq-eqb, ne-eqb, le-leb, lt-leb, not-true, not-false}
+use borrow.Author.Tests.{eq-eqb, ne-eqb}
 use native.Mathlib.Omega.{arith}
-use mathlib.Core.Path.{_∙_, sym, refl}
+use mathlib.Core.Path.{sym}
 use Rattle.fronts.proofs.is_charged.Statement.{statement}
 use Rattle.fronts.proofs.is_charged.Tie as tie
 

@@ -1,14 +1,8 @@
 use borrow.Author.Needs.{needs}
-use borrow.Author.Tests.{eq-eqb, ne-eqb, lt-ltb, le-ltb}
 use native.Mathlib.Omega.{arith}
-use mathlib.Core.Path.{_≡_, sym, ap, _∙_}
-use mathlib.Core.List.{List, [], _++_, append-nil}
-use lib.ListN.{length, length-append}
-use lib.Dec.{eqb}
-use Rattle.coding.specs.Reader.{if_then_else}
-use Rattle.coding.specs.Written.{lead, fullNumber}
-use Rattle.coding.proofs.Writing.{wrote-both, wrote-as}
-use Rattle.fronts.specs.Fronts.{idOctets, frontOctets}
+use mathlib.Core.Path.{sym, ap}
+use lib.ListN.{length}
+use Rattle.coding.proofs.Writing.{wrote-as}
 use Rattle.fronts.proofs.Sizes.{front-1, front-2, front-3, front-4, small-1, small-2, small-3, small-4}
 use Rattle.fronts.proofs.put_front.Statement.{statement}
 use Rattle.fronts.proofs.put_front.Tie as tie

@@ -1,5 +1,5 @@
 use borrow.Author.Needs.{needs}
-use borrow.Author.Tests.{eq-eqb, ne-eqb, lt-ltb, le-ltb, not-true, not-false}
+use borrow.Author.Tests.{eq-eqb, ne-eqb, not-true, not-false}
 use native.Mathlib.Omega.{arith}
 use mathlib.Core.Path.{_∙_, sym, refl}
 use Rattle.fronts.specs.Fronts.{frontFine}

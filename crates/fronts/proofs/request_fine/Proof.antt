@@ -1,7 +1,5 @@
-use borrow.Author.Needs.{needs}
-use borrow.Author.Tests.{eq-eqb, ne-eqb, le-leb, lt-leb, not-true, not-false}
-use native.Mathlib.Omega.{arith}
-use mathlib.Core.Path.{_∙_, sym, refl}
+use borrow.Author.Tests.{eq-eqb, ne-eqb, le-leb, lt-leb}
+use mathlib.Core.Path.{sym, refl}
 use Rattle.fronts.specs.Fronts.{frontFine}
 use Rattle.fronts.proofs.Sizes.{operation-30}
 use Rattle.fronts.proofs.request_fine.Statement.{statement}

@@ -1,7 +1,6 @@
-use borrow.Author.Needs.{needs}
-use borrow.Author.Tests.{eq-eqb, ne-eqb, lt-ltb, le-ltb, not-true, not-false}
+use borrow.Author.Tests.{eq-eqb, ne-eqb}
 use native.Mathlib.Omega.{arith}
-use mathlib.Core.Path.{_∙_, sym, refl}
+use mathlib.Core.Path.{sym, refl}
 use Rattle.fronts.specs.Fronts.{frontFine}
 use Rattle.coding.specs.Codec.{has}
 use Rattle.fronts.proofs.result_fine.Statement.{statement}

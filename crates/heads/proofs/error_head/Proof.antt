@@ -1,12 +1,10 @@
 use borrow.Author.Needs.{needs}
 use native.Mathlib.Omega.{arith}
-use mathlib.Core.Path.{_∙_, sym, ap}
-use Rattle.coding.specs.Reader.{constructed}
-use Rattle.coding.specs.Codec.{leads, cons, canonical, over}
+use Rattle.coding.specs.Codec.{leads, canonical, over}
 use Rattle.coding.proofs.Reading.{flat}
 use Rattle.types.specs.Frames.{returnError, failed}
 use Rattle.heads.specs.Heads.{contentsOf, tailOf, restOf}
-use Rattle.heads.proofs.Answers.{goes, refuses, ends, leaves, one-end}
+use Rattle.heads.proofs.Answers.{goes, refuses, ends, leaves}
 use Rattle.heads.proofs.error_head.Statement.{statement}
 use Rattle.heads.proofs.error_head.Tie as tie
 

@@ -1,8 +1,9 @@
 use borrow.Author.Needs.{needs}
 use native.Mathlib.Omega.{arith}
-use mathlib.Core.Path.{_∙_}
+use mathlib.Core.Path.{sym, _∙_}
+use Rattle.types.proofs.Theorems.{read-long}
 use Rattle.heads.specs.Heads.{restOf}
-use Rattle.heads.proofs.Entered.{read-long, read-refused, as-invoke, as-result, as-error, as-reject}
+use Rattle.heads.proofs.Entered.{read-refused, as-invoke, as-result, as-error, as-reject}
 use Rattle.heads.proofs.head_of.Statement.{statement}
 use Rattle.heads.proofs.head_of.Tie as tie
 
@@ -12,7 +13,7 @@ no-head-requires c κs = search needs
 returns : tie.Need-returns
 unfolding restOf
 returns c =
-    (rw (c .no-head .ensures) (read-long _ (c .before .if1 .taken)), rw (c .no-head .ensures) (omega arith))
+    (rw (c .no-head .ensures) (sym (read-long _ (c .before .if1 .taken))), rw (c .no-head .ensures) (omega arith))
 
 enter-requires : tie.Need-enter-requires
 enter-requires c κs = search needs

@@ -1,12 +1,11 @@
 use borrow.Author.Needs.{needs}
 use native.Mathlib.Omega.{arith}
 use mathlib.Core.Path.{refl}
-use Rattle.coding.specs.Reader.{constructed}
-use Rattle.coding.specs.Codec.{leads, cons, canonical, over}
+use Rattle.coding.specs.Codec.{leads}
 use Rattle.coding.proofs.Reading.{flat}
 use Rattle.types.specs.Frames.{invoke}
-use Rattle.heads.specs.Heads.{contentsOf, tailOf, restOf}
-use Rattle.heads.proofs.Answers.{goes, refuses, ends, leaves, tail-one}
+use Rattle.heads.specs.Heads.{contentsOf, restOf}
+use Rattle.heads.proofs.Answers.{goes, refuses, tail-one}
 use Rattle.heads.proofs.invoke_head.Statement.{statement}
 use Rattle.heads.proofs.invoke_head.Tie as tie
 

@@ -2,11 +2,11 @@ use borrow.Author.Needs.{needs}
 use native.Mathlib.Omega.{arith}
 use mathlib.Core.Path.{refl}
 use Rattle.coding.specs.Reader.{constructed}
-use Rattle.coding.specs.Codec.{leads, cons, canonical, over}
+use Rattle.coding.specs.Codec.{leads, cons}
 use Rattle.coding.proofs.Reading.{flat}
 use Rattle.types.specs.Frames.{returnResult}
 use Rattle.heads.specs.Heads.{contentsOf, tailOf, restOf}
-use Rattle.heads.proofs.Answers.{goes, refuses, ends, leaves, one-end}
+use Rattle.heads.proofs.Answers.{goes, refuses}
 use Rattle.heads.proofs.result_head.Statement.{statement}
 use Rattle.heads.proofs.result_head.Tie as tie
 

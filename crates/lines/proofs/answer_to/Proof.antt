@@ -2,7 +2,6 @@
 -- Assumes nothing.
 use native.Mathlib.Omega.{arith}
 use borrow.Author.Needs.{needs}
-use lib.ListN.{length}
 use Rattle.coding.proofs.Writing.{wrote-as}
 use Rattle.coding.proofs.Laws.{Octets}
 use Rattle.lines.proofs.Replies.{number-below, reply-refused, form-number, form-room, form-text}

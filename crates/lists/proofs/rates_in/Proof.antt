@@ -6,7 +6,8 @@ use mathlib.Core.Path.{refl, _∙_}
 use Rattle.coding.proofs.Lists.{list-none}
 use Rattle.types.specs.Rates.{rate, rateNumbers, rateOctets, noRate}
 use Rattle.lists.specs.Readers.{inRates}
-use Rattle.lists.proofs.Kept.{Kept, rate-wide, kept-start, kept-more, kept-done, kept-fault, kept-limit, kept-strange}
+use Rattle.types.proofs.RateLaws.{rate-wide}
+use Rattle.lists.proofs.Kept.{Kept, kept-start, kept-more, kept-done, kept-fault, kept-limit, kept-strange}
 use Rattle.lists.proofs.rates_in.Statement.{statement}
 use Rattle.lists.proofs.rates_in.Tie as tie
 

@@ -9,9 +9,6 @@ use Rattle.coding.proofs.Writing.{every-step, every-stop, every-end}
 use Rattle.types.specs.Charges.{isDigit}
 use Rattle.put_figures.proofs.all_digits.Statement.{statement}
 use Rattle.put_figures.proofs.all_digits.Tie as tie
-use Rattle.put_figures.proofs.all_digits.Reads as reads
-use Rattle.put_figures.proofs.all_digits.Lts as lts
-use Rattle.put_figures.proofs.is_digit.Reads as is-digit-reads
 
 abbrev Inv-loop : tie.InvT-loop
 Inv-loop s n i₀ i = (i ≤ n) × (every isDigit (part s 0 n) ≡ every isDigit (part s i n))
@@ -19,41 +16,33 @@ Inv-loop s n i₀ i = (i ≤ n) × (every isDigit (part s 0 n) ≡ every isDigit
 abbrev μ-loop : tie.MeasureT-loop
 μ-loop s n i₀ i = n - i
 
--- src/lib.rt:175:5
 loop-holds : tie.Need-loop-holds Inv-loop μ-loop
 loop-holds c = (omega arith, refl)
 
--- src/lib.rt:176:22
 shared-slice-read-is-digit : tie.Need-shared-slice-read-is-digit Inv-loop μ-loop
 shared-slice-read-is-digit c = omega arith
 
--- src/lib.rt:176:13
 is-digit-requires : tie.Need-is-digit-requires Inv-loop μ-loop
 is-digit-requires c κs = search needs
 
--- src/lib.rt:177:13
 returns : tie.Need-returns Inv-loop μ-loop
 returns c =
     let a = c .before .before .before .before .before .before .args in
     let l = c .before .before .before .before .loop in
     sym (l .inv .1 ∙ every-stop isDigit (a .s .now) (l .i) (a .n) (omega arith) (omega arith) (sym (c .before .is-digit .ensures) ∙ not-true _ (c .if1 .taken)))
 
--- src/lib.rt:179:9
 add-i : tie.Need-add-i Inv-loop μ-loop
 add-i c = omega arith
 
--- src/lib.rt:175:5
 loop-less : tie.Need-loop-less Inv-loop μ-loop
 loop-less c = omega arith
 
--- src/lib.rt:175:5
 loop-again : tie.Need-loop-again Inv-loop μ-loop
 loop-again c =
     let a = c .before .before .before .before .before .before .args in
     let l = c .before .before .before .before .loop in
     (omega arith, l .inv .1 ∙ every-step isDigit (a .s .now) (l .i) (a .n) (omega arith) (omega arith) (sym (c .before .is-digit .ensures) ∙ not-false _ (c .if1 .left)))
 
--- src/lib.rt:170:1
 returns-2 : tie.Need-returns-2 Inv-loop μ-loop
 returns-2 c =
     let a = c .before .before .before .args in

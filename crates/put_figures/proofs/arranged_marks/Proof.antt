@@ -6,51 +6,40 @@ use borrow.Author.Tests.{not-true, not-false}
 use Rattle.put_figures.proofs.Truth.{tests}
 use Rattle.put_figures.proofs.arranged_marks.Statement.{statement}
 use Rattle.put_figures.proofs.arranged_marks.Tie as tie
-use Rattle.put_figures.proofs.arranged_marks.Reads as reads
-use Rattle.put_figures.proofs.arranged_marks.Lts as lts
-use Rattle.put_figures.proofs.arranges.Reads as arranges-reads
 
--- src/lib.rt:341:9
 arranges-requires : tie.Need-arranges-requires
 arranges-requires c κs = search needs
 
--- src/lib.rt:342:9
 returns : tie.Need-returns
 returns c =
     let b : (eqb (c .before .before .args .operation) 30 || eqb (c .before .before .args .operation) 32) ≡ false = sym (c .before .arranges .ensures) ∙ not-true _ (c .if1 .taken) in
     search (tests, b)
 
--- src/lib.rt:345:9
 returns-2 : tie.Need-returns-2
 returns-2 c =
     let b : (eqb (c .before .before .before .before .args .operation) 30 || eqb (c .before .before .before .before .args .operation) 32) ≡ true = sym (c .before .before .before .arranges .ensures) ∙ not-false _ (c .before .before .if1 .left) in
     search (tests, b)
 
--- src/lib.rt:348:9
 returns-3 : tie.Need-returns-3
 returns-3 c =
     let b : (eqb (c .before .before .before .before .before .before .args .operation) 30 || eqb (c .before .before .before .before .before .before .args .operation) 32) ≡ true = sym (c .before .before .before .before .before .arranges .ensures) ∙ not-false _ (c .before .before .before .before .if1 .left) in
     search (tests, b)
 
--- src/lib.rt:351:9
 returns-4 : tie.Need-returns-4
 returns-4 c =
     let b : (eqb (c .before .before .before .before .before .before .before .before .args .operation) 30 || eqb (c .before .before .before .before .before .before .before .before .args .operation) 32) ≡ true = sym (c .before .before .before .before .before .before .before .arranges .ensures) ∙ not-false _ (c .before .before .before .before .before .before .if1 .left) in
     search (tests, b)
 
--- src/lib.rt:354:9
 returns-5 : tie.Need-returns-5
 returns-5 c =
     let b : (eqb (c .before .before .before .before .before .before .before .before .before .before .args .operation) 30 || eqb (c .before .before .before .before .before .before .before .before .before .before .args .operation) 32) ≡ true = sym (c .before .before .before .before .before .before .before .before .before .arranges .ensures) ∙ not-false _ (c .before .before .before .before .before .before .before .before .if1 .left) in
     search (tests, b)
 
--- src/lib.rt:357:9
 returns-6 : tie.Need-returns-6
 returns-6 c =
     let b : (eqb (c .before .before .before .before .before .before .before .before .before .before .before .before .args .operation) 30 || eqb (c .before .before .before .before .before .before .before .before .before .before .before .before .args .operation) 32) ≡ true = sym (c .before .before .before .before .before .before .before .before .before .before .before .arranges .ensures) ∙ not-false _ (c .before .before .before .before .before .before .before .before .before .before .if1 .left) in
     search (tests, b)
 
--- src/lib.rt:338:1
 returns-7 : tie.Need-returns-7
 returns-7 c =
     let b : (eqb (c .before .before .before .before .before .before .before .before .before .before .before .before .args .operation) 30 || eqb (c .before .before .before .before .before .before .before .before .before .before .before .before .args .operation) 32) ≡ true = sym (c .before .before .before .before .before .before .before .before .before .before .before .arranges .ensures) ∙ not-false _ (c .before .before .before .before .before .before .before .before .before .before .if1 .left) in

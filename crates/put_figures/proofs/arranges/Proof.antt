@@ -1,14 +1,10 @@
 use borrow.Author.Tests.{eq-eqb, ne-eqb}
 use Rattle.put_figures.proofs.arranges.Statement.{statement}
 use Rattle.put_figures.proofs.arranges.Tie as tie
-use Rattle.put_figures.proofs.arranges.Reads as reads
-use Rattle.put_figures.proofs.arranges.Lts as lts
 
--- src/lib.rt:329:9
 returns : tie.Need-returns
 returns c = simp (eq-eqb _ _ (c .if1 .taken))
 
--- src/lib.rt:325:1
 returns-2 : tie.Need-returns-2
 returns-2 c = simp (ne-eqb _ _ (c .if1 .left))
 

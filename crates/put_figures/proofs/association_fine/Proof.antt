@@ -3,42 +3,28 @@ use borrow.Author.Needs.{needs}
 use Rattle.put_figures.proofs.Tests.{association-0, association-1, association-2, association-3}
 use Rattle.put_figures.proofs.association_fine.Statement.{statement}
 use Rattle.put_figures.proofs.association_fine.Tie as tie
-use Rattle.put_figures.proofs.association_fine.Reads as reads
-use Rattle.put_figures.proofs.association_fine.Lts as lts
-use Rattle.put_figures.proofs.identified_fine.Reads as identified-fine-reads
-use Rattle.put_figures.proofs.no_association.Reads as no-association-reads
-use Rattle.put_figures.proofs.plain_fine.Reads as plain-fine-reads
-use Rattle.put_figures.proofs.public_fine.Reads as public-fine-reads
 
--- src/lib.rt:256:9
 no-association-requires : tie.Need-no-association-requires
-no-association-requires c κs = search needs
+no-association-requires c κs = c .before .before .pre
 
--- src/lib.rt:256:9
 returns : tie.Need-returns
 returns c = c .no-association .ensures ∙ sym (association-0 (c .before .before .before .args .a) (c .before .if1 .taken))
 
--- src/lib.rt:259:9
 identified-fine-requires : tie.Need-identified-fine-requires
-identified-fine-requires c κs = search needs
+identified-fine-requires c κs = c .before .before .before .before .pre
 
--- src/lib.rt:259:9
 returns-2 : tie.Need-returns-2
 returns-2 c = c .identified-fine .ensures ∙ sym (association-1 (c .before .before .before .before .before .args .a) (c .before .if2 .taken))
 
--- src/lib.rt:262:9
 public-fine-requires : tie.Need-public-fine-requires
 public-fine-requires c κs = search needs
 
--- src/lib.rt:262:9
 returns-3 : tie.Need-returns-3
 returns-3 c = c .public-fine .ensures ∙ sym (association-3 (c .before .before .before .before .before .before .before .args .a) (c .before .if3 .taken))
 
--- src/lib.rt:264:5
 plain-fine-requires : tie.Need-plain-fine-requires
 plain-fine-requires c κs = search needs
 
--- src/lib.rt:252:1
 returns-4 : tie.Need-returns-4
 returns-4 c = c .plain-fine .ensures ∙ sym (association-2 (c .before .before .before .before .before .before .before .args .a) (c .before .before .before .before .before .if1 .left) (c .before .before .before .if2 .left) (c .before .if3 .left))
 

@@ -2,25 +2,19 @@ use borrow.Author.Tests.{eq-eqb, ne-eqb}
 use Rattle.put_figures.specs.Fine.{bareKind}
 use Rattle.put_figures.proofs.bare_kind.Statement.{statement}
 use Rattle.put_figures.proofs.bare_kind.Tie as tie
-use Rattle.put_figures.proofs.bare_kind.Reads as reads
-use Rattle.put_figures.proofs.bare_kind.Lts as lts
 
--- src/lib.rt:367:9
 returns : tie.Need-returns
 unfolding bareKind
 returns c = simp (eq-eqb _ _ (c .if1 .taken))
 
--- src/lib.rt:370:9
 returns-2 : tie.Need-returns-2
 unfolding bareKind
 returns-2 c = rw (c .if2 .taken)
 
--- src/lib.rt:373:9
 returns-3 : tie.Need-returns-3
 unfolding bareKind
 returns-3 c = rw (c .if3 .taken)
 
--- src/lib.rt:363:1
 returns-4 : tie.Need-returns-4
 unfolding bareKind
 returns-4 c = simp (ne-eqb _ _ (c .before .before .if1 .left), ne-eqb _ _ (c .before .if2 .left), ne-eqb _ _ (c .if3 .left))

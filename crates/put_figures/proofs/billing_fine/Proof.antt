@@ -1,22 +1,16 @@
 use Rattle.put_figures.proofs.Truth.{tests}
 use Rattle.put_figures.proofs.billing_fine.Statement.{statement}
 use Rattle.put_figures.proofs.billing_fine.Tie as tie
-use Rattle.put_figures.proofs.billing_fine.Reads as reads
-use Rattle.put_figures.proofs.billing_fine.Lts as lts
 
--- src/lib.rt:273:9
 returns : tie.Need-returns
 returns c = search tests
 
--- src/lib.rt:276:9
 returns-2 : tie.Need-returns-2
 returns-2 c = search tests
 
--- src/lib.rt:279:9
 returns-3 : tie.Need-returns-3
 returns-3 c = search tests
 
--- src/lib.rt:269:1
 returns-4 : tie.Need-returns-4
 returns-4 c = search tests
 

@@ -5,14 +5,10 @@ use Rattle.coding.proofs.Small.{small-length}
 use Rattle.put_figures.proofs.Frames.{billing-some, billing-none}
 use Rattle.put_figures.proofs.billing_size.Statement.{statement}
 use Rattle.put_figures.proofs.billing_size.Tie as tie
-use Rattle.put_figures.proofs.billing_size.Reads as reads
-use Rattle.put_figures.proofs.billing_size.Lts as lts
 
--- src/lib.rt:502:9
 returns : tie.Need-returns
 returns c = (λ tag b h. omega (arith, ap length (billing-some tag (c .before .args .billed) b (c .if1 .taken)), small-length tag b (omega arith)), omega arith)
 
--- src/lib.rt:497:1
 returns-2 : tie.Need-returns-2
 returns-2 c = (λ tag b h. omega (arith, ap length (billing-none tag (c .before .args .billed) b (c .if1 .left))), omega arith)
 

@@ -11,49 +11,37 @@ use Rattle.put_figures.proofs.Tests.{currency-is}
 use Rattle.put_figures.proofs.Truth.{tests}
 use Rattle.put_figures.proofs.currency_fine.Statement.{statement}
 use Rattle.put_figures.proofs.currency_fine.Tie as tie
-use Rattle.put_figures.proofs.currency_fine.Reads as reads
-use Rattle.put_figures.proofs.currency_fine.Lts as lts
-use Rattle.coding.proofs.below.Reads as below-reads
 
--- src/lib.rt:129:13
 cast-n : tie.Need-cast-n
 cast-n c = search needs
 
--- src/lib.rt:132:9
 returns : tie.Need-returns
 returns c = search (tests, currency-is, length-unmapped)
 
--- src/lib.rt:135:9
 returns-2 : tie.Need-returns-2
 returns-2 c = search (tests, currency-is, length-unmapped)
 
--- src/lib.rt:137:23
 slice-aggregate-below : tie.Need-slice-aggregate-below
 slice-aggregate-below c = search needs
 
--- src/lib.rt:137:9
 below-requires : tie.Need-below-requires
 below-requires c κs =
     let e : length (c .before .before .before .before .before .args .c .octets) ≡ 10 = search needs in
     omega arith
 
--- src/lib.rt:138:9
 returns-3 : tie.Need-returns-3
 returns-3 c =
     let b : every (λ x. ltb x 1) (part (c .before .before .before .before .before .before .before .args .c .octets) (c .before .before .before .before .before .before .before .args .c .count) 10) ≡ false = sym (c .before .below .ensures) ∙ not-true _ (c .if3 .taken) in
     search (tests, currency-is, length-unmapped, b)
 
--- src/lib.rt:140:19
 slice-aggregate-below-2 : tie.Need-slice-aggregate-below-2
 slice-aggregate-below-2 c = search needs
 
--- src/lib.rt:140:5
 below-requires-2 : tie.Need-below-requires-2
 below-requires-2 c κs =
     let e : length (c .before .before .before .before .before .before .before .before .args .c .octets) ≡ 10 = search needs in
     omega arith
 
--- src/lib.rt:126:1
 returns-4 : tie.Need-returns-4
 returns-4 c =
     let b : every (λ x. ltb x 1) (part (c .before .before .before .before .before .before .before .before .before .args .c .octets) (c .before .before .before .before .before .before .before .before .before .args .c .count) 10) ≡ true = sym (c .before .before .before .below .ensures) ∙ not-false _ (c .before .before .if3 .left) in

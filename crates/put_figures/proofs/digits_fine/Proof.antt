@@ -9,42 +9,30 @@ use Rattle.put_figures.proofs.Tests.{digits-is}
 use Rattle.put_figures.proofs.Truth.{tests}
 use Rattle.put_figures.proofs.digits_fine.Statement.{statement}
 use Rattle.put_figures.proofs.digits_fine.Tie as tie
-use Rattle.put_figures.proofs.digits_fine.Reads as reads
-use Rattle.put_figures.proofs.digits_fine.Lts as lts
-use Rattle.coding.proofs.below.Reads as below-reads
-use Rattle.put_figures.proofs.all_digits.Reads as all-digits-reads
 
--- src/lib.rt:190:9
 returns : tie.Need-returns
 returns c = search (tests, digits-is)
 
--- src/lib.rt:193:9
 returns-2 : tie.Need-returns-2
 returns-2 c = search (tests, digits-is)
 
--- src/lib.rt:195:23
 slice-aggregate-below : tie.Need-slice-aggregate-below
 slice-aggregate-below c = search needs
 
--- src/lib.rt:195:9
 below-requires : tie.Need-below-requires
 below-requires c κs = search needs
 
--- src/lib.rt:196:9
 returns-3 : tie.Need-returns-3
 returns-3 c =
     let b : every (λ x. ltb x 1) (part (c .before .before .before .before .before .args .t1) (c .before .before .before .before .before .args .count) 20) ≡ false = sym (c .before .below .ensures) ∙ not-true _ (c .if3 .taken) in
     search (tests, digits-is, b)
 
--- src/lib.rt:198:16
 slice-aggregate-all-digits : tie.Need-slice-aggregate-all-digits
 slice-aggregate-all-digits c = search needs
 
--- src/lib.rt:198:5
 all-digits-requires : tie.Need-all-digits-requires
 all-digits-requires c κs = search needs
 
--- src/lib.rt:185:1
 returns-4 : tie.Need-returns-4
 returns-4 c =
     let b : every (λ x. ltb x 1) (part (c .before .before .before .before .before .before .before .args .t1) (c .before .before .before .before .before .before .before .args .count) 20) ≡ true = sym (c .before .before .before .below .ensures) ∙ not-false _ (c .before .before .if3 .left) in

@@ -6,19 +6,12 @@ use Rattle.put_figures.proofs.Frames.{fine-money, fine-small}
 use Rattle.put_figures.proofs.Plain.{figure-fine, figure-none, figure-free, figure-arranged, figure-kind, figure-money}
 use Rattle.put_figures.proofs.figure_size.Statement.{statement}
 use Rattle.put_figures.proofs.figure_size.Tie as tie
-use Rattle.put_figures.proofs.figure_size.Reads as reads
-use Rattle.put_figures.proofs.figure_size.Lts as lts
-use Rattle.put_figures.proofs.free_size.Reads as free-size-reads
-use Rattle.put_figures.proofs.money_size.Reads as money-size-reads
-use Rattle.put_figures.proofs.priced_size.Reads as priced-size-reads
 
--- src/lib.rt:556:9
 returns : tie.Need-returns
 returns c =
     let s = c .before .before .before in
     omega (arith, ap length (figure-none (s .args .operation) (s .args .f) (s .pre .0) (s .pre .1 .0) (s .pre .1 .1) (c .if1 .taken)), null-length 0x05)
 
--- src/lib.rt:559:9
 returns-2 : tie.Need-returns-2
 returns-2 c =
     let s = c .before .before .before .before .before in
@@ -27,19 +20,16 @@ returns-2 c =
     let z = fine-small (s .args .operation) f q in
     omega (arith, ap length (figure-arranged (s .args .operation) f (s .pre .0) (s .pre .1 .0) (s .pre .1 .1) (c .if2 .taken)), small-length 0x02 (f .arrangement) (omega arith))
 
--- src/lib.rt:562:9
 free-size-requires : tie.Need-free-size-requires
 free-size-requires c κs =
     let s = c .before .before .before .before .before .before .before in
     figure-fine (s .args .operation) (s .args .f) (s .pre .0) (s .pre .1 .0) (s .pre .1 .1)
 
--- src/lib.rt:562:9
 returns-3 : tie.Need-returns-3
 returns-3 c =
     let s = c .before .before .before .before .before .before .before .before in
     omega (arith, ap length (figure-free (s .args .operation) (s .args .f) (s .pre .0) (s .pre .1 .0) (s .pre .1 .1) (c .before .if3 .taken)))
 
--- src/lib.rt:564:31
 money-size-requires : tie.Need-money-size-requires
 money-size-requires c κs =
     let s = c .before .before .before .before .before .before .before in
@@ -47,13 +37,11 @@ money-size-requires c κs =
     let q = figure-fine (s .args .operation) f (s .pre .0) (s .pre .1 .0) (s .pre .1 .1) in
     fine-money (s .args .operation) f q (figure-kind (s .args .operation) f (s .pre .0) (s .pre .1 .0) (s .pre .1 .1) (λ z. omega arith) (λ z. omega arith) (λ z. omega arith))
 
--- src/lib.rt:564:5
 priced-size-requires : tie.Need-priced-size-requires
 priced-size-requires c κs =
     let s = c .before .before .before .before .before .before .before .before in
     (figure-fine (s .args .operation) (s .args .f) (s .pre .0) (s .pre .1 .0) (s .pre .1 .1), omega arith)
 
--- src/lib.rt:547:1
 returns-4 : tie.Need-returns-4
 returns-4 c =
     let s = c .before .before .before .before .before .before .before .before .before in

@@ -4,45 +4,31 @@ use borrow.Author.Tests.{not-true, not-false, ne-eqb}
 use Rattle.put_figures.specs.Fine.{marksFine}
 use Rattle.put_figures.proofs.marks_fine.Statement.{statement}
 use Rattle.put_figures.proofs.marks_fine.Tie as tie
-use Rattle.put_figures.proofs.marks_fine.Reads as reads
-use Rattle.put_figures.proofs.marks_fine.Lts as lts
-use Rattle.put_figures.proofs.arranged_marks.Reads as arranged-marks-reads
-use Rattle.put_figures.proofs.bare_kind.Reads as bare-kind-reads
-use Rattle.put_figures.proofs.priced_marks.Reads as priced-marks-reads
-use Rattle.put_figures.proofs.unmarked.Reads as unmarked-reads
 
--- src/lib.rt:382:9
 priced-marks-requires : tie.Need-priced-marks-requires
 priced-marks-requires c κs = search needs
 
--- src/lib.rt:382:9
 returns : tie.Need-returns
 unfolding marksFine
 returns c = rw (c .before .if1 .taken) (c .priced-marks .ensures)
 
--- src/lib.rt:385:9
 priced-marks-requires-2 : tie.Need-priced-marks-requires-2
 priced-marks-requires-2 c κs = search needs
 
--- src/lib.rt:385:9
 returns-2 : tie.Need-returns-2
 unfolding marksFine
 returns-2 c = rw (c .before .if2 .taken) (c .priced-marks2 .ensures)
 
--- src/lib.rt:388:9
 arranged-marks-requires : tie.Need-arranged-marks-requires
 arranged-marks-requires c κs = search needs
 
--- src/lib.rt:388:9
 returns-3 : tie.Need-returns-3
 unfolding marksFine
 returns-3 c = rw (c .before .if3 .taken) (c .arranged-marks .ensures)
 
--- src/lib.rt:390:9
 bare-kind-requires : tie.Need-bare-kind-requires
 bare-kind-requires c κs = search needs
 
--- src/lib.rt:391:9
 returns-4 : tie.Need-returns-4
 unfolding marksFine
 returns-4 c =
@@ -53,11 +39,9 @@ returns-4 c =
       sym (c .before .bare-kind .ensures) ∙ not-true _ (c .if4 .taken),
     )
 
--- src/lib.rt:393:5
 unmarked-requires : tie.Need-unmarked-requires
 unmarked-requires c κs = search needs
 
--- src/lib.rt:378:1
 returns-5 : tie.Need-returns-5
 unfolding marksFine
 returns-5 c =

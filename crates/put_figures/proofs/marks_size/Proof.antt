@@ -3,26 +3,19 @@ use borrow.Author.Needs.{needs}
 use Rattle.put_figures.proofs.Frames.{marks-during-length, marks-ending-length}
 use Rattle.put_figures.proofs.marks_size.Statement.{statement}
 use Rattle.put_figures.proofs.marks_size.Tie as tie
-use Rattle.put_figures.proofs.marks_size.Reads as reads
-use Rattle.put_figures.proofs.marks_size.Lts as lts
-use Rattle.put_figures.proofs.billing_size.Reads as billing-size-reads
 
--- src/lib.rt:513:9
 billing-size-requires : tie.Need-billing-size-requires
 billing-size-requires c κs = search needs
 
--- src/lib.rt:515:16
 add-result : tie.Need-add-result
 add-result c = search needs
 
--- src/lib.rt:515:9
 returns : tie.Need-returns
 returns c =
     let s = c .before .before in
     let f = s .args .f in
     omega (arith, marks-during-length (s .args .operation) f (c .if1 .taken) (s .pre .0), c .before .billing-size .ensures .0 0x83 (f .billing) (s .pre .1))
 
--- src/lib.rt:508:1
 returns-2 : tie.Need-returns-2
 returns-2 c =
     let s = c .before .before in

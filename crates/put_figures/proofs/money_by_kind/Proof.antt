@@ -3,25 +3,17 @@ use borrow.Author.Tests.{eq-eqb, ne-eqb}
 use Rattle.put_figures.specs.Fine.{moneyFine}
 use Rattle.put_figures.proofs.money_by_kind.Statement.{statement}
 use Rattle.put_figures.proofs.money_by_kind.Tie as tie
-use Rattle.put_figures.proofs.money_by_kind.Reads as reads
-use Rattle.put_figures.proofs.money_by_kind.Lts as lts
-use Rattle.put_figures.proofs.money_fine.Reads as money-fine-reads
-use Rattle.put_figures.proofs.no_money.Reads as no-money-reads
 
--- src/lib.rt:390:9
 money-fine-requires : tie.Need-money-fine-requires
 money-fine-requires c κs = search needs
 
--- src/lib.rt:390:9
 returns : tie.Need-returns
 unfolding moneyFine
 returns c = simp (eq-eqb _ _ (c .before .if1 .taken)) (c .money-fine .ensures)
 
--- src/lib.rt:392:5
 no-money-requires : tie.Need-no-money-requires
-no-money-requires c κs = search needs
+no-money-requires c κs = c .before .before .before .pre
 
--- src/lib.rt:385:1
 returns-2 : tie.Need-returns-2
 unfolding moneyFine
 returns-2 c = simp (ne-eqb _ _ (c .before .if1 .left)) (c .no-money .ensures)

@@ -5,24 +5,16 @@ use Rattle.put_figures.proofs.Tests.{money-is}
 use Rattle.put_figures.proofs.Truth.{as-test}
 use Rattle.put_figures.proofs.money_fine.Statement.{statement}
 use Rattle.put_figures.proofs.money_fine.Tie as tie
-use Rattle.put_figures.proofs.money_fine.Reads as reads
-use Rattle.put_figures.proofs.money_fine.Lts as lts
-use Rattle.put_figures.proofs.currency_fine.Reads as currency-fine-reads
-use Rattle.put_figures.proofs.scaled_fine.Reads as scaled-fine-reads
 
--- src/lib.rt:151:9
 scaled-fine-requires : tie.Need-scaled-fine-requires
 scaled-fine-requires c κs = search needs
 
--- src/lib.rt:152:9
 returns : tie.Need-returns
 returns c = as-test (money-is (c .before .before .before .args .m)) (rw (sym (c .before .scaled-fine .ensures 0xa2) ∙ not-true _ (c .if1 .taken)))
 
--- src/lib.rt:154:5
 currency-fine-requires : tie.Need-currency-fine-requires
 currency-fine-requires c κs = search needs
 
--- src/lib.rt:143:1
 returns-2 : tie.Need-returns-2
 returns-2 c = as-test (money-is (c .before .before .before .before .args .m)) (rw (sym (c .before .before .scaled-fine .ensures 0xa2) ∙ not-false _ (c .before .if1 .left)) (c .currency-fine .ensures))
 

@@ -3,45 +3,31 @@ use lib.Dec.{eqb}
 use lib.ListN.{replicate}
 use borrow.Author.Needs.{needs}
 use Rattle.coding.specs.Codec.{sameList}
-use Rattle.put_figures.proofs.Tests.{zeros-array}
+use Rattle.put_figures.proofs.Tests.{zeros-lent}
 use Rattle.put_figures.proofs.Truth.{tests}
 use Rattle.put_figures.proofs.no_association.Statement.{statement}
 use Rattle.put_figures.proofs.no_association.Tie as tie
-use Rattle.put_figures.proofs.no_association.Reads as reads
-use Rattle.put_figures.proofs.no_association.Lts as lts
-use Rattle.put_figures.proofs.zeros.Reads as zeros-reads
 
--- src/lib.rt:100:9
 returns : tie.Need-returns
 returns c = search tests
 
--- src/lib.rt:103:9
 returns-2 : tie.Need-returns-2
 returns-2 c = search tests
 
--- src/lib.rt:106:9
 returns-3 : tie.Need-returns-3
 returns-3 c = search tests
 
--- src/lib.rt:109:9
 returns-4 : tie.Need-returns-4
 returns-4 c = search tests
 
--- src/lib.rt:111:11
-slice-aggregate-zeros : tie.Need-slice-aggregate-zeros
-slice-aggregate-zeros c = search needs
-
--- src/lib.rt:111:5
 zeros-requires : tie.Need-zeros-requires
 zeros-requires c κs = search needs
 
--- src/lib.rt:95:1
 returns-5 : tie.Need-returns-5
 returns-5 c =
-    let z : c .zeros .result ≡ sameList eqb (replicate 20 0) (c .before .before .before .before .before .before .before .before .before .before .before .args .a .digits) = zeros-array (c .before .before .before .before .before .before .before .before .before .before .before .args .a .digits) 20 (c .zeros .result) (c .zeros .ensures) (search needs) in
+    let s = c .before .before .before .before .before .before .before .before .before .before in
+    let z : c .zeros .result ≡ sameList eqb (replicate 20 0) (s .args .a .digits) = zeros-lent (s .args .digits .now) _ 20 (c .zeros .result) (c .zeros .ensures) (search needs) (s .pre) in
     search tests
 
 pub no-association-spec : {M : Type 1} → statement M
-no-association-spec =
-    tie.close
-    (tie.spec returns returns-2 returns-3 returns-4 slice-aggregate-zeros zeros-requires returns-5)
+no-association-spec = tie.close (tie.spec returns returns-2 returns-3 returns-4 zeros-requires returns-5)

@@ -2,43 +2,31 @@ use borrow.Author.Needs.{needs}
 use Rattle.put_figures.proofs.Truth.{tests}
 use Rattle.put_figures.proofs.priced_marks.Statement.{statement}
 use Rattle.put_figures.proofs.priced_marks.Tie as tie
-use Rattle.put_figures.proofs.priced_marks.Reads as reads
-use Rattle.put_figures.proofs.priced_marks.Lts as lts
-use Rattle.put_figures.proofs.billing_fine.Reads as billing-fine-reads
 
--- src/lib.rt:309:13
 returns : tie.Need-returns
 returns c = search tests
 
--- src/lib.rt:312:13
 returns-2 : tie.Need-returns-2
 returns-2 c = search tests
 
--- src/lib.rt:314:9
 billing-fine-requires : tie.Need-billing-fine-requires
 billing-fine-requires c κs = search needs
 
--- src/lib.rt:314:9
 returns-3 : tie.Need-returns-3
 returns-3 c = search tests
 
--- src/lib.rt:317:9
 returns-4 : tie.Need-returns-4
 returns-4 c = search tests
 
--- src/lib.rt:320:9
 returns-5 : tie.Need-returns-5
 returns-5 c = search tests
 
--- src/lib.rt:323:9
 returns-6 : tie.Need-returns-6
 returns-6 c = search tests
 
--- src/lib.rt:325:5
 billing-fine-requires-2 : tie.Need-billing-fine-requires-2
 billing-fine-requires-2 c κs = search needs
 
--- src/lib.rt:304:1
 returns-7 : tie.Need-returns-7
 returns-7 c = search tests
 

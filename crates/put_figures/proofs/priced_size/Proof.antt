@@ -5,32 +5,22 @@ use borrow.Author.Needs.{needs}
 use Rattle.put_figures.proofs.Frames.{fine-small, fine-association, priced-during-length, priced-ending-length}
 use Rattle.put_figures.proofs.priced_size.Statement.{statement}
 use Rattle.put_figures.proofs.priced_size.Tie as tie
-use Rattle.put_figures.proofs.priced_size.Reads as reads
-use Rattle.put_figures.proofs.priced_size.Lts as lts
-use Rattle.put_figures.proofs.association_size.Reads as association-size-reads
-use Rattle.put_figures.proofs.marks_size.Reads as marks-size-reads
-use Rattle.put_figures.proofs.sized.Reads as sized-reads
 
--- src/lib.rt:527:19
 sized-requires : tie.Need-sized-requires
 sized-requires c κs = search needs
 
--- src/lib.rt:527:30
 marks-size-requires : tie.Need-marks-size-requires
 marks-size-requires c κs =
     let s = c .before .before in
     let q = fine-small (s .args .operation) (s .args .f) (s .pre .0) in
     omega arith
 
--- src/lib.rt:527:19
 add-sized : tie.Need-add-sized
 add-sized c = search needs
 
--- src/lib.rt:527:9
 sized-requires-2 : tie.Need-sized-requires-2
 sized-requires-2 c κs = search needs
 
--- src/lib.rt:529:9
 returns : tie.Need-returns
 returns c =
     let s = c .before .before .before .before .before in
@@ -40,21 +30,17 @@ returns c =
       omega arith,
     )
 
--- src/lib.rt:531:15
 association-size-requires : tie.Need-association-size-requires
 association-size-requires c κs =
     let s = c .before .before .before .before .before in
     fine-association (s .args .operation) (s .args .f) (s .pre .0)
 
--- src/lib.rt:531:11
 add-sized-2 : tie.Need-add-sized-2
 add-sized-2 c = search needs
 
--- src/lib.rt:531:5
 sized-requires-3 : tie.Need-sized-requires-3
 sized-requires-3 c κs = search needs
 
--- src/lib.rt:521:1
 returns-2 : tie.Need-returns-2
 returns-2 c =
     let s = c .before .before .before .before .before .before .before in

@@ -3,31 +3,22 @@ use Rattle.put_figures.proofs.Tests.{public-is}
 use Rattle.put_figures.proofs.Truth.{tests}
 use Rattle.put_figures.proofs.public_fine.Statement.{statement}
 use Rattle.put_figures.proofs.public_fine.Tie as tie
-use Rattle.put_figures.proofs.public_fine.Reads as reads
-use Rattle.put_figures.proofs.public_fine.Lts as lts
-use Rattle.put_figures.proofs.digits_fine.Reads as digits-fine-reads
 
--- src/lib.rt:222:9
 returns : tie.Need-returns
 returns c = search (tests, public-is)
 
--- src/lib.rt:225:9
 returns-2 : tie.Need-returns-2
 returns-2 c = search (tests, public-is)
 
--- src/lib.rt:228:9
 returns-3 : tie.Need-returns-3
 returns-3 c = search (tests, public-is)
 
--- src/lib.rt:231:9
 returns-4 : tie.Need-returns-4
 returns-4 c = search (tests, public-is)
 
--- src/lib.rt:233:5
 digits-fine-requires : tie.Need-digits-fine-requires
 digits-fine-requires c κs = search needs
 
--- src/lib.rt:217:1
 returns-5 : tie.Need-returns-5
 returns-5 c = search (tests, public-is)
 

@@ -6,12 +6,7 @@ use Rattle.coding.proofs.Writing.{wrote-as, wrote-both}
 use Rattle.put_figures.proofs.Frames.{fine-small, fine-association, after-during, after-ending, after-ending-length}
 use Rattle.put_figures.proofs.put_after.Statement.{statement}
 use Rattle.put_figures.proofs.put_after.Tie as tie
-use Rattle.put_figures.proofs.put_after.Reads as reads
-use Rattle.put_figures.proofs.put_after.Lts as lts
-use Rattle.put_figures.proofs.put_association.Reads as put-association-reads
-use Rattle.put_figures.proofs.put_marks.Reads as put-marks-reads
 
--- src/lib.rt:686:9
 put-marks-requires : tie.Need-put-marks-requires
 put-marks-requires c κs =
     let s = c .before .before .before .before in
@@ -20,17 +15,14 @@ put-marks-requires c κs =
     let z = fine-small o f (s .pre .0) in
     omega (arith, ap length (after-during o f (omega arith)), s .pre .1)
 
--- src/lib.rt:686:9
 same-length : tie.Need-same-length
 same-length c = search needs
 
--- src/lib.rt:686:9
 returns : tie.Need-returns
 returns c =
     let s = c .before .before .before .before .before .before .before in
     wrote-as (sym (after-during (s .args .operation) (s .args .f) (omega arith))) (c .before .before .put-marks .ensures)
 
--- src/lib.rt:688:9
 put-marks-requires-2 : tie.Need-put-marks-requires-2
 put-marks-requires-2 c κs =
     let s = c .before .before .before .before in
@@ -39,7 +31,6 @@ put-marks-requires-2 c κs =
     let z = fine-small o f (s .pre .0) in
     omega (arith, after-ending-length o f (omega arith), s .pre .1)
 
--- src/lib.rt:689:5
 put-association-requires : tie.Need-put-association-requires
 put-association-requires c κs =
     let s = c .before .before .before .before .before .before .before .before in
@@ -47,11 +38,9 @@ put-association-requires c κs =
     let f = s .args .f in
     (fine-association o f (s .pre .0), omega (arith, after-ending-length o f (omega arith), s .pre .1, c .before .before .before .put-marks2 .ensures))
 
--- src/lib.rt:680:1
 same-length-2 : tie.Need-same-length-2
 same-length-2 c = search needs
 
--- src/lib.rt:680:1
 returns-2 : tie.Need-returns-2
 returns-2 c =
     let s = c .before .before .before .before .before .before .before .before .before .before .before in

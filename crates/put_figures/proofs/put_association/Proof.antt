@@ -6,57 +6,42 @@ use Rattle.coding.proofs.Writing.{wrote-as, wrote-none, wrote-next}
 use Rattle.put_figures.proofs.Sizes.{association-none, association-id}
 use Rattle.put_figures.proofs.put_association.Statement.{statement}
 use Rattle.put_figures.proofs.put_association.Tie as tie
-use Rattle.put_figures.proofs.put_association.Reads as reads
-use Rattle.put_figures.proofs.put_association.Lts as lts
-use Rattle.coding.proofs.put_id.Reads as put-id-reads
-use Rattle.put_figures.proofs.put_plain.Reads as put-plain-reads
-use Rattle.put_figures.proofs.put_public.Reads as put-public-reads
 
--- src/lib.rt:623:9
 returns : tie.Need-returns
 returns c =
     let a = c .before .before .before .args in
     wrote-as (sym (association-none (a .a) (c .if1 .taken))) (wrote-next (omega arith) (wrote-none (a .buf .now) (a .at)))
 
--- src/lib.rt:626:9
 put-id-requires : tie.Need-put-id-requires
 put-id-requires c κs =
     let s = c .before .before .before .before .before .before in
     let e : s .args .a .kind ≡ 1 = omega arith in
     omega (arith, ap length (association-id (s .args .a) e), s .pre)
 
--- src/lib.rt:626:9
 same-length : tie.Need-same-length
 same-length c = search needs
 
--- src/lib.rt:626:9
 returns-2 : tie.Need-returns-2
 returns-2 c =
     let s = c .before .before .before .before .before .before .before .before .before in
     let e : s .args .a .kind ≡ 1 = omega arith in
     wrote-as (sym (association-id (s .args .a) e)) ((c .before .before .put-id) .ensures)
 
--- src/lib.rt:629:9
 put-public-requires : tie.Need-put-public-requires
 put-public-requires c κs = search needs
 
--- src/lib.rt:629:9
 same-length-2 : tie.Need-same-length-2
 same-length-2 c = search needs
 
--- src/lib.rt:629:9
 returns-3 : tie.Need-returns-3
 returns-3 c = search needs
 
--- src/lib.rt:631:5
 put-plain-requires : tie.Need-put-plain-requires
 put-plain-requires c κs = search needs
 
--- src/lib.rt:618:1
 same-length-3 : tie.Need-same-length-3
 same-length-3 c = search needs
 
--- src/lib.rt:618:1
 returns-4 : tie.Need-returns-4
 returns-4 c = search needs
 

@@ -10,30 +10,19 @@ use Rattle.put_figures.specs.Octets.{marks}
 use Rattle.put_figures.proofs.Frames.{fine-small, fine-association, after-during, after-ending-length, before-during, before-ending, before-during-length, before-ending-length}
 use Rattle.put_figures.proofs.put_before.Statement.{statement}
 use Rattle.put_figures.proofs.put_before.Tie as tie
-use Rattle.put_figures.proofs.put_before.Reads as reads
-use Rattle.put_figures.proofs.put_before.Lts as lts
-use Rattle.coding.proofs.put_lead.Reads as put-lead-reads
-use Rattle.put_figures.proofs.association_size.Reads as association-size-reads
-use Rattle.put_figures.proofs.marks_size.Reads as marks-size-reads
-use Rattle.put_figures.proofs.put_leads.Reads as put-leads-reads
-use Rattle.put_figures.proofs.sized.Reads as sized-reads
 
--- src/lib.rt:671:17
 sized-requires : tie.Need-sized-requires
 sized-requires c κs = search needs
 
--- src/lib.rt:671:28
 marks-size-requires : tie.Need-marks-size-requires
 marks-size-requires c κs =
     let s = c .before .before .before in
     let z = fine-small (s .args .operation) (s .args .f) (s .pre .0 .0) in
     omega arith
 
--- src/lib.rt:671:17
 add-inner : tie.Need-add-inner
 add-inner c = search needs
 
--- src/lib.rt:673:9
 put-leads-requires : tie.Need-put-leads-requires
 put-leads-requires c κs =
     let s = c .before .before .before .before .before .before in
@@ -51,11 +40,9 @@ put-leads-requires c κs =
       s .pre,
     )
 
--- src/lib.rt:673:9
 same-length : tie.Need-same-length
 same-length c = search needs
 
--- src/lib.rt:673:9
 returns : tie.Need-returns
 returns c =
     let s = c .before .before .before .before .before .before .before .before .before in
@@ -66,21 +53,17 @@ returns c =
     let g : k ≡ length (lead 0xa1 n) + n + length (marks o f) = omega (arith, c .before .before .before .before .before .before .sized .ensures .0 0xa1, c .before .before .before .before .before .marks-size .ensures) in
     wrote-as (sym (before-during o f n k g (omega arith))) (c .before .before .put-leads .ensures)
 
--- src/lib.rt:675:45
 sized-requires-2 : tie.Need-sized-requires-2
 sized-requires-2 c κs = search needs
 
--- src/lib.rt:675:60
 association-size-requires : tie.Need-association-size-requires
 association-size-requires c κs =
     let s = c .before .before .before .before .before .before .before in
     fine-association (s .args .operation) (s .args .f) (s .pre .0 .0)
 
--- src/lib.rt:675:45
 add-put-lead : tie.Need-add-put-lead
 add-put-lead c = search needs
 
--- src/lib.rt:675:9
 put-lead-requires : tie.Need-put-lead-requires
 put-lead-requires c κs =
     let s = c .before .before .before .before .before .before .before .before in
@@ -94,7 +77,6 @@ put-lead-requires c κs =
     let q : j ≡ length (lead 0x30 k) + k + length (association .write (f .association)) = omega (arith, c .before .sized2 .ensures .0 0x30, c .association-size .ensures) in
     omega (arith, g, q, before-ending-length o f n k g h j q, after-ending-length o f h, s .pre)
 
--- src/lib.rt:676:5
 put-leads-requires-2 : tie.Need-put-leads-requires-2
 put-leads-requires-2 c κs =
     let s = c .before .before .before .before .before .before .before .before .before .before .before .before in
@@ -117,11 +99,9 @@ put-leads-requires-2 c κs =
       c .before .before .before .put-lead .ensures,
     )
 
--- src/lib.rt:665:1
 same-length-2 : tie.Need-same-length-2
 same-length-2 c = search needs
 
--- src/lib.rt:665:1
 returns-2 : tie.Need-returns-2
 returns-2 c =
     let s = c .before .before .before .before .before .before .before .before .before .before .before .before .before .before .before in

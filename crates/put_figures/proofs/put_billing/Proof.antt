@@ -6,29 +6,22 @@ use Rattle.coding.proofs.Writing.{wrote-as, wrote-none, wrote-next}
 use Rattle.put_figures.proofs.Frames.{billing-some, billing-none}
 use Rattle.put_figures.proofs.put_billing.Statement.{statement}
 use Rattle.put_figures.proofs.put_billing.Tie as tie
-use Rattle.put_figures.proofs.put_billing.Reads as reads
-use Rattle.put_figures.proofs.put_billing.Lts as lts
-use Rattle.coding.proofs.put_small.Reads as put-small-reads
 
--- src/lib.rt:639:9
 put-small-requires : tie.Need-put-small-requires
 put-small-requires c κs =
     let a = c .before .before .before .args in
     let e : a .billed ≡ 1 = omega arith in
     omega (arith, ap length (billing-some (a .tag) (a .billed) (a .billing) e))
 
--- src/lib.rt:639:9
 same-length : tie.Need-same-length
 same-length c = search needs
 
--- src/lib.rt:639:9
 returns : tie.Need-returns
 returns c =
     let a = c .before .before .before .before .before .before .args in
     let e : a .billed ≡ 1 = omega arith in
     wrote-as (sym (billing-some (a .tag) (a .billed) (a .billing) e)) ((c .before .before .put-small) .ensures)
 
--- src/lib.rt:634:1
 returns-2 : tie.Need-returns-2
 returns-2 c =
     let a = c .before .before .args in

@@ -11,17 +11,7 @@ use Rattle.put_figures.proofs.Frames.{fine-small, fine-money, parts-len
 use Rattle.put_figures.proofs.Plain.{figure-fine, figure-none, figure-free, figure-arranged, figure-kind, figure-parts}
 use Rattle.put_figures.proofs.put_figure.Statement.{statement}
 use Rattle.put_figures.proofs.put_figure.Tie as tie
-use Rattle.put_figures.proofs.put_figure.Reads as reads
-use Rattle.put_figures.proofs.put_figure.Lts as lts
-use Rattle.coding.proofs.put_null.Reads as put-null-reads
-use Rattle.coding.proofs.put_small.Reads as put-small-reads
-use Rattle.put_figures.proofs.money_size.Reads as money-size-reads
-use Rattle.put_figures.proofs.put_after.Reads as put-after-reads
-use Rattle.put_figures.proofs.put_before.Reads as put-before-reads
-use Rattle.put_figures.proofs.put_free.Reads as put-free-reads
-use Rattle.put_figures.proofs.put_money.Reads as put-money-reads
 
--- src/lib.rt:715:9
 put-null-requires : tie.Need-put-null-requires
 put-null-requires c κs =
     let s = c .before .before .before .before .before in
@@ -30,11 +20,9 @@ put-null-requires c κs =
     let p = s .pre in
     omega (arith, ap length (figure-none o f (p .0) (p .1 .0) (p .1 .1 .0) (omega arith)), p .1 .1 .1)
 
--- src/lib.rt:715:9
 same-length : tie.Need-same-length
 same-length c = search needs
 
--- src/lib.rt:715:9
 returns : tie.Need-returns
 returns c =
     let s = c .before .before .before .before .before .before .before .before in
@@ -43,7 +31,6 @@ returns c =
     let p = s .pre in
     wrote-as (sym (figure-none o f (p .0) (p .1 .0) (p .1 .1 .0) (omega arith))) (c .before .before .put-null .ensures)
 
--- src/lib.rt:718:9
 put-small-requires : tie.Need-put-small-requires
 put-small-requires c κs =
     let s = c .before .before .before .before .before .before .before in
@@ -53,11 +40,9 @@ put-small-requires c κs =
     let z = fine-small o f (figure-fine o f (p .0) (p .1 .0) (p .1 .1 .0)) in
     omega (arith, z .arrangement, ap length (figure-arranged o f (p .0) (p .1 .0) (p .1 .1 .0) (omega arith)), p .1 .1 .1)
 
--- src/lib.rt:718:9
 same-length-2 : tie.Need-same-length-2
 same-length-2 c = search needs
 
--- src/lib.rt:718:9
 returns-2 : tie.Need-returns-2
 returns-2 c =
     let s = c .before .before .before .before .before .before .before .before .before .before in
@@ -66,7 +51,6 @@ returns-2 c =
     let p = s .pre in
     wrote-as (sym (figure-arranged o f (p .0) (p .1 .0) (p .1 .1 .0) (omega arith))) (c .before .before .put-small .ensures)
 
--- src/lib.rt:721:9
 put-free-requires : tie.Need-put-free-requires
 put-free-requires c κs =
     let s = c .before .before .before .before .before .before .before .before .before in
@@ -75,11 +59,9 @@ put-free-requires c κs =
     let p = s .pre in
     (figure-fine o f (p .0) (p .1 .0) (p .1 .1 .0), omega (arith, ap length (figure-free o f (p .0) (p .1 .0) (p .1 .1 .0) (omega arith)), p .1 .1 .1))
 
--- src/lib.rt:721:9
 same-length-3 : tie.Need-same-length-3
 same-length-3 c = search needs
 
--- src/lib.rt:721:9
 returns-3 : tie.Need-returns-3
 returns-3 c =
     let s = c .before .before .before .before .before .before .before .before .before .before .before .before in
@@ -88,7 +70,6 @@ returns-3 c =
     let p = s .pre in
     wrote-as (sym (figure-free o f (p .0) (p .1 .0) (p .1 .1 .0) (omega arith))) (c .before .before .put-free .ensures)
 
--- src/lib.rt:723:47
 money-size-requires : tie.Need-money-size-requires
 money-size-requires c κs =
     let s = c .before .before .before .before .before .before .before .before .before in
@@ -97,7 +78,6 @@ money-size-requires c κs =
     let p = s .pre in
     fine-money o f (figure-fine o f (p .0) (p .1 .0) (p .1 .1 .0)) (figure-kind o f (p .0) (p .1 .0) (p .1 .1 .0) (c .before .before .before .before .before .if1 .left) (c .before .if3 .left) (c .before .before .before .if2 .left))
 
--- src/lib.rt:723:9
 put-before-requires : tie.Need-put-before-requires
 put-before-requires c κs =
     let s = c .before .before .before .before .before .before .before .before .before .before in
@@ -111,7 +91,6 @@ put-before-requires c κs =
     parts-length o f n (money .write (f .money)) e (figure-parts o f (p .0) (p .1 .0) (p .1 .1 .0) (c .before .before .before .before .before .before .if1 .left) (c .before .before .if3 .left) (c .before .before .before .before .if2 .left)) in
     ((figure-fine o f (p .0) (p .1 .0) (p .1 .1 .0), omega (arith, before-length o f n, after-length o f (figure-fine o f (p .0) (p .1 .0) (p .1 .1 .0)), c .money-size .ensures)), omega (arith, q, e, p .1 .1 .1))
 
--- src/lib.rt:724:9
 put-money-requires : tie.Need-put-money-requires
 put-money-requires c κs =
     let s = c .before .before .before .before .before .before .before .before .before .before .before .before .before .before in
@@ -125,7 +104,6 @@ put-money-requires c κs =
     parts-length o f n (money .write (f .money)) e (figure-parts o f (p .0) (p .1 .0) (p .1 .1 .0) (c .before .before .before .before .before .before .before .before .before .before .if1 .left) (c .before .before .before .before .before .before .if3 .left) (c .before .before .before .before .before .before .before .before .if2 .left)) in
     (fine-money o f (figure-fine o f (p .0) (p .1 .0) (p .1 .1 .0)) (figure-kind o f (p .0) (p .1 .0) (p .1 .1 .0) (c .before .before .before .before .before .before .before .before .before .before .if1 .left) (c .before .before .before .before .before .before .if3 .left) (c .before .before .before .before .before .before .before .before .if2 .left)), omega (arith, q, e, p .1 .1 .1, c .before .before .before .put-before .ensures))
 
--- src/lib.rt:725:5
 put-after-requires : tie.Need-put-after-requires
 put-after-requires c κs =
     let s = c .before .before .before .before .before .before .before .before .before .before .before .before .before .before .before .before .before .before in
@@ -139,11 +117,9 @@ put-after-requires c κs =
     parts-length o f n (money .write (f .money)) e (figure-parts o f (p .0) (p .1 .0) (p .1 .1 .0) (c .before .before .before .before .before .before .before .before .before .before .before .before .before .before .if1 .left) (c .before .before .before .before .before .before .before .before .before .before .if3 .left) (c .before .before .before .before .before .before .before .before .before .before .before .before .if2 .left)) in
     (figure-fine o f (p .0) (p .1 .0) (p .1 .1 .0), omega (arith, q, e, p .1 .1 .1, c .before .before .before .before .before .before .before .put-before .ensures, c .before .before .before .put-money .ensures))
 
--- src/lib.rt:706:1
 same-length-4 : tie.Need-same-length-4
 same-length-4 c = search needs
 
--- src/lib.rt:706:1
 returns-4 : tie.Need-returns-4
 returns-4 c =
     let s = c .before .before .before .before .before .before .before .before .before .before .before .before .before .before .before .before .before .before .before .before .before in

@@ -10,40 +10,28 @@ use Rattle.types.specs.Charges.{association}
 use Rattle.put_figures.proofs.Frames.{fine-association, ended-during, wrote-free, free-ending-length}
 use Rattle.put_figures.proofs.put_free.Statement.{statement}
 use Rattle.put_figures.proofs.put_free.Tie as tie
-use Rattle.put_figures.proofs.put_free.Reads as reads
-use Rattle.put_figures.proofs.put_free.Lts as lts
-use Rattle.coding.proofs.put_lead.Reads as put-lead-reads
-use Rattle.coding.proofs.put_null.Reads as put-null-reads
-use Rattle.put_figures.proofs.association_size.Reads as association-size-reads
-use Rattle.put_figures.proofs.put_association.Reads as put-association-reads
 
--- src/lib.rt:698:9
 put-null-requires : tie.Need-put-null-requires
 put-null-requires c κs =
     let s = c .before .before .before .before in
     omega (arith, ap length (ended-during (s .args .operation) (s .args .f) (lead 0x81 0) (omega arith)), s .pre .1)
 
--- src/lib.rt:698:9
 same-length : tie.Need-same-length
 same-length c = search needs
 
--- src/lib.rt:698:9
 returns : tie.Need-returns
 returns c =
     let s = c .before .before .before .before .before .before .before in
     wrote-as (sym (ended-during (s .args .operation) (s .args .f) (lead 0x81 0) (omega arith))) (c .before .before .put-null .ensures)
 
--- src/lib.rt:700:49
 association-size-requires : tie.Need-association-size-requires
 association-size-requires c κs =
     let s = c .before .before .before .before in
     fine-association (s .args .operation) (s .args .f) (s .pre .0)
 
--- src/lib.rt:700:45
 add-put-lead : tie.Need-add-put-lead
 add-put-lead c = search needs
 
--- src/lib.rt:700:9
 put-lead-requires : tie.Need-put-lead-requires
 put-lead-requires c κs =
     let s = c .before .before .before .before .before in
@@ -55,7 +43,6 @@ put-lead-requires c κs =
     let l = free-ending-length o f k h q in
     omega (arith, l, s .pre .1)
 
--- src/lib.rt:701:9
 put-null-requires-2 : tie.Need-put-null-requires-2
 put-null-requires-2 c κs =
     let s = c .before .before .before .before .before .before .before .before .before in
@@ -67,7 +54,6 @@ put-null-requires-2 c κs =
     let l = free-ending-length o f k h q in
     omega (arith, l, s .pre .1, null-length 0x81, c .before .before .before .put-lead .ensures)
 
--- src/lib.rt:702:5
 put-association-requires : tie.Need-put-association-requires
 put-association-requires c κs =
     let s = c .before .before .before .before .before .before .before .before .before .before .before .before .before in
@@ -79,11 +65,9 @@ put-association-requires c κs =
     let l = free-ending-length o f k h q in
     (fine-association o f (s .pre .0), omega (arith, l, q, s .pre .1, null-length 0x81, c .before .before .before .before .before .before .before .put-lead .ensures, c .before .before .before .put-null2 .ensures))
 
--- src/lib.rt:692:1
 same-length-2 : tie.Need-same-length-2
 same-length-2 c = search needs
 
--- src/lib.rt:692:1
 returns-2 : tie.Need-returns-2
 returns-2 c =
     let s = c .before .before .before .before .before .before .before .before .before .before .before .before .before .before .before .before in

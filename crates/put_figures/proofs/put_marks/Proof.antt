@@ -7,46 +7,35 @@ use Rattle.coding.proofs.Writing.{wrote-as, wrote-both}
 use Rattle.put_figures.proofs.Frames.{marks-during, marks-ending, marks-during-length, marks-ending-length}
 use Rattle.put_figures.proofs.put_marks.Statement.{statement}
 use Rattle.put_figures.proofs.put_marks.Tie as tie
-use Rattle.put_figures.proofs.put_marks.Reads as reads
-use Rattle.put_figures.proofs.put_marks.Lts as lts
-use Rattle.coding.proofs.put_small.Reads as put-small-reads
-use Rattle.put_figures.proofs.put_billing.Reads as put-billing-reads
 
--- src/lib.rt:649:9
 put-billing-requires : tie.Need-put-billing-requires
 put-billing-requires c κs =
     let a = c .before .before .before .args in
     omega (arith, marks-ending-length (a .operation) (a .f) (omega arith))
 
--- src/lib.rt:649:9
 same-length : tie.Need-same-length
 same-length c = search needs
 
--- src/lib.rt:649:9
 returns : tie.Need-returns
 returns c =
     let a = c .before .before .before .before .before .before .args in
     wrote-as (sym (marks-ending (a .operation) (a .f) (omega arith))) ((c .before .before .put-billing) .ensures)
 
--- src/lib.rt:651:9
 put-small-requires : tie.Need-put-small-requires
 put-small-requires c κs =
     let a = c .before .before .before .args in
     let t : a .f .total ≤ 1 = omega arith in
     omega (arith, marks-during-length (a .operation) (a .f) (omega arith) t, small-length 0x82 (a .f .total) (omega arith))
 
--- src/lib.rt:652:5
 put-billing-requires-2 : tie.Need-put-billing-requires-2
 put-billing-requires-2 c κs =
     let a = c .before .before .before .before .before .before .before .args in
     let t : a .f .total ≤ 1 = omega arith in
     omega (arith, marks-during-length (a .operation) (a .f) (omega arith) t, small-length 0x82 (a .f .total) (omega arith), (c .before .before .before .put-small) .ensures)
 
--- src/lib.rt:644:1
 same-length-2 : tie.Need-same-length-2
 same-length-2 c = search needs
 
--- src/lib.rt:644:1
 returns-2 : tie.Need-returns-2
 returns-2 c =
     let a = c .before .before .before .before .before .before .before .before .before .before .args in

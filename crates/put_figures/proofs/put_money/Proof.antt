@@ -7,20 +7,13 @@ use Rattle.types.specs.declared.Scaled.{Scaled}
 use Rattle.put_figures.proofs.Sizes.{money-room, money-length, scaled-length, currency-write, money-write}
 use Rattle.put_figures.proofs.put_money.Statement.{statement}
 use Rattle.put_figures.proofs.put_money.Tie as tie
-use Rattle.put_figures.proofs.put_money.Reads as reads
-use Rattle.put_figures.proofs.put_money.Lts as lts
-use Rattle.coding.proofs.put_string.Reads as put-string-reads
-use Rattle.put_figures.proofs.put_scaled.Reads as put-scaled-reads
 
--- src/lib.rt:585:13
 cast-n : tie.Need-cast-n
 cast-n c = search needs
 
--- src/lib.rt:591:47
 slice-aggregate-put-string : tie.Need-slice-aggregate-put-string
 slice-aggregate-put-string c = search needs
 
--- src/lib.rt:591:9
 put-string-requires : tie.Need-put-string-requires
 put-string-requires c κs =
     let s = c .before .before .before .before .before .before in
@@ -30,7 +23,6 @@ put-string-requires c κs =
     let n = m .currency .count in
     omega (arith, r, s .pre .1, money-length m (s .pre .0), string-length 0x81 n (m .currency .octets) (omega (arith, r)), lead-length-short 0x81 n (omega (arith, r)))
 
--- src/lib.rt:592:5
 put-scaled-requires : tie.Need-put-scaled-requires
 put-scaled-requires c κs =
     let s = c .before .before .before .before .before .before .before .before .before .before in
@@ -49,11 +41,9 @@ put-scaled-requires c κs =
       c .before .before .before .put-string .ensures,
     )
 
--- src/lib.rt:580:1
 same-length : tie.Need-same-length
 same-length c = search needs
 
--- src/lib.rt:580:1
 returns : tie.Need-returns
 returns c =
     let s = c .before .before .before .before .before .before .before .before .before .before .before .before .before in

@@ -6,20 +6,13 @@ use Rattle.coding.proofs.Writing.{lead-length-short}
 use Rattle.put_figures.proofs.Sizes.{plain-room, association-plain-length, wrote-plain}
 use Rattle.put_figures.proofs.put_plain.Statement.{statement}
 use Rattle.put_figures.proofs.put_plain.Tie as tie
-use Rattle.put_figures.proofs.put_plain.Reads as reads
-use Rattle.put_figures.proofs.put_plain.Lts as lts
-use Rattle.coding.proofs.put_lead.Reads as put-lead-reads
-use Rattle.coding.proofs.put_string.Reads as put-string-reads
 
--- src/lib.rt:612:13
 cast-n : tie.Need-cast-n
 cast-n c = search needs
 
--- src/lib.rt:614:45
 add-put-lead : tie.Need-add-put-lead
 add-put-lead c = search needs
 
--- src/lib.rt:614:9
 put-lead-requires : tie.Need-put-lead-requires
 put-lead-requires c κs =
     let s = c .before .before .before .before in
@@ -30,11 +23,9 @@ put-lead-requires c κs =
     let q = association-plain-length a (r .0) (r .1) (k .0) (k .1) (k .2) in
     omega (arith, r, q, lead-length-short 0xa0 (2 + n) (omega (arith, r)), s .pre .0)
 
--- src/lib.rt:615:38
 slice-aggregate-put-string : tie.Need-slice-aggregate-put-string
 slice-aggregate-put-string c = search needs
 
--- src/lib.rt:615:5
 put-string-requires : tie.Need-put-string-requires
 put-string-requires c κs =
     let s = c .before .before .before .before .before .before .before .before .before in
@@ -45,11 +36,9 @@ put-string-requires c κs =
     let q = association-plain-length a (r .0) (r .1) (k .0) (k .1) (k .2) in
     omega (arith, r, q, lead-length-short 0xa0 (2 + n) (omega (arith, r)), string-length 0x80 n (a .digits) (r .1), lead-length-short 0x80 n (omega (arith, r)), s .pre .0, (c .before .before .before .before .put-lead) .ensures)
 
--- src/lib.rt:607:1
 same-length : tie.Need-same-length
 same-length c = search needs
 
--- src/lib.rt:607:1
 returns : tie.Need-returns
 returns c =
     let s = c .before .before .before .before .before .before .before .before .before .before .before .before in

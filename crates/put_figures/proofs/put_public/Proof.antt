@@ -6,21 +6,13 @@ use Rattle.coding.proofs.Writing.{lead-length-short}
 use Rattle.put_figures.proofs.Sizes.{public-room, association-public-length, wrote-public}
 use Rattle.put_figures.proofs.put_public.Statement.{statement}
 use Rattle.put_figures.proofs.put_public.Tie as tie
-use Rattle.put_figures.proofs.put_public.Reads as reads
-use Rattle.put_figures.proofs.put_public.Lts as lts
-use Rattle.coding.proofs.put_lead.Reads as put-lead-reads
-use Rattle.coding.proofs.put_small.Reads as put-small-reads
-use Rattle.coding.proofs.put_string.Reads as put-string-reads
 
--- src/lib.rt:599:13
 cast-n : tie.Need-cast-n
 cast-n c = search needs
 
--- src/lib.rt:601:45
 add-put-lead : tie.Need-add-put-lead
 add-put-lead c = search needs
 
--- src/lib.rt:601:9
 put-lead-requires : tie.Need-put-lead-requires
 put-lead-requires c κs =
     let s = c .before .before .before .before in
@@ -30,11 +22,9 @@ put-lead-requires c κs =
     let q = association-public-length a (r .1 .0) (r .1 .1) (r .0) (s .pre .1) in
     omega (arith, r, q, lead-length-short 0xa0 (7 + n) (omega (arith, r)), s .pre .2)
 
--- src/lib.rt:602:44
 add-put-lead-2 : tie.Need-add-put-lead-2
 add-put-lead-2 c = search needs
 
--- src/lib.rt:602:9
 put-lead-requires-2 : tie.Need-put-lead-requires-2
 put-lead-requires-2 c κs =
     let s = c .before .before .before .before .before .before .before .before in
@@ -44,7 +34,6 @@ put-lead-requires-2 c κs =
     let q = association-public-length a (r .1 .0) (r .1 .1) (r .0) (s .pre .1) in
     omega (arith, r, q, lead-length-short 0xa0 (7 + n) (omega (arith, r)), lead-length-short 0xa1 (5 + n) (omega (arith, r)), s .pre .2, (c .before .before .before .put-lead) .ensures)
 
--- src/lib.rt:603:9
 put-small-requires : tie.Need-put-small-requires
 put-small-requires c κs =
     let s = c .before .before .before .before .before .before .before .before .before .before .before .before in
@@ -54,11 +43,9 @@ put-small-requires c κs =
     let q = association-public-length a (r .1 .0) (r .1 .1) (r .0) (s .pre .1) in
     omega (arith, r, q, lead-length-short 0xa0 (7 + n) (omega (arith, r)), lead-length-short 0xa1 (5 + n) (omega (arith, r)), small-length 0x0a (a .plan) (omega (arith, r)), s .pre .2, (c .before .before .before .before .before .before .before .put-lead) .ensures, (c .before .before .before .put-lead2) .ensures)
 
--- src/lib.rt:604:38
 slice-aggregate-put-string : tie.Need-slice-aggregate-put-string
 slice-aggregate-put-string c = search needs
 
--- src/lib.rt:604:5
 put-string-requires : tie.Need-put-string-requires
 put-string-requires c κs =
     let s = c .before .before .before .before .before .before .before .before .before .before .before .before .before .before .before .before .before in
@@ -69,11 +56,9 @@ put-string-requires c κs =
     let w = string-length 0x12 n (a .digits) (r .1 .1) in
     omega (arith, r, q, lead-length-short 0xa0 (7 + n) (omega (arith, r)), lead-length-short 0xa1 (5 + n) (omega (arith, r)), small-length 0x0a (a .plan) (omega (arith, r)), w, lead-length-short 0x12 n (omega (arith, r)), s .pre .2, (c .before .before .before .before .before .before .before .before .before .before .before .before .put-lead) .ensures, (c .before .before .before .before .before .before .before .before .put-lead2) .ensures, (c .before .before .before .before .put-small) .ensures)
 
--- src/lib.rt:595:1
 same-length : tie.Need-same-length
 same-length c = search needs
 
--- src/lib.rt:595:1
 returns : tie.Need-returns
 returns c =
     let s = c .before .before .before .before .before .before .before .before .before .before .before .before .before .before .before .before .before .before .before .before in

@@ -6,22 +6,13 @@ use Rattle.coding.proofs.Writing.{width-range, number-length, lead-length-short
 use Rattle.put_figures.proofs.Sizes.{scaled-length, wrote-scaled}
 use Rattle.put_figures.proofs.put_scaled.Statement.{statement}
 use Rattle.put_figures.proofs.put_scaled.Tie as tie
-use Rattle.put_figures.proofs.put_scaled.Reads as reads
-use Rattle.put_figures.proofs.put_scaled.Lts as lts
-use Rattle.coding.proofs.put_lead.Reads as put-lead-reads
-use Rattle.coding.proofs.put_number.Reads as put-number-reads
-use Rattle.coding.proofs.put_small.Reads as put-small-reads
-use Rattle.coding.proofs.width_of.Reads as width-of-reads
 
--- src/lib.rt:574:9
 width-of-requires : tie.Need-width-of-requires
 width-of-requires c κs = search needs
 
--- src/lib.rt:575:44
 add-put-lead : tie.Need-add-put-lead
 add-put-lead c = omega (arith, c .before .width-of .ensures, width-range (c .before .before .before .args .s .number))
 
--- src/lib.rt:575:9
 put-lead-requires : tie.Need-put-lead-requires
 put-lead-requires c κs =
     let a = c .before .before .before .args in
@@ -30,7 +21,6 @@ put-lead-requires c κs =
     let r = width-range (a .s .number) in
     omega (arith, e, r, scaled-length (a .tag) (a .s) (omega arith), lead-length-short (a .tag) (5 + w) (omega (arith, e, r)))
 
--- src/lib.rt:576:9
 put-number-requires : tie.Need-put-number-requires
 put-number-requires c κs =
     let s = c .before .before .before .before .before .before .before in
@@ -40,7 +30,6 @@ put-number-requires c κs =
     let r = width-range (a .s .number) in
     omega (arith, e, r, scaled-length (a .tag) (a .s) (omega (arith, s .pre)), lead-length-short (a .tag) (5 + w) (omega (arith, e, r)), number-length 0x81 (a .s .number), c .before .before .before .put-lead .ensures, s .pre)
 
--- src/lib.rt:577:5
 put-small-requires : tie.Need-put-small-requires
 put-small-requires c κs =
     let s = c .before .before .before .before .before .before .before .before .before .before .before in
@@ -61,11 +50,9 @@ put-small-requires c κs =
       s .pre,
     )
 
--- src/lib.rt:570:1
 same-length : tie.Need-same-length
 same-length c = search needs
 
--- src/lib.rt:570:1
 returns : tie.Need-returns
 returns c =
     let s = c .before .before .before .before .before .before .before .before .before .before .before .before .before .before in

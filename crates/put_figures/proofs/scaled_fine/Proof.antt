@@ -2,14 +2,10 @@ use Rattle.put_figures.proofs.Tests.{scaled-is}
 use Rattle.put_figures.proofs.Truth.{tests}
 use Rattle.put_figures.proofs.scaled_fine.Statement.{statement}
 use Rattle.put_figures.proofs.scaled_fine.Tie as tie
-use Rattle.put_figures.proofs.scaled_fine.Reads as reads
-use Rattle.put_figures.proofs.scaled_fine.Lts as lts
 
--- src/lib.rt:121:9
 returns : tie.Need-returns
 returns c = λ tag. search (tests, scaled-is)
 
--- src/lib.rt:117:1
 returns-2 : tie.Need-returns-2
 returns-2 c = λ tag. search (tests, scaled-is)
 

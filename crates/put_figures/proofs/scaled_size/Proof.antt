@@ -4,21 +4,15 @@ use Rattle.coding.proofs.Writing.{width-range}
 use Rattle.put_figures.proofs.Sizes.{scaled-length}
 use Rattle.put_figures.proofs.scaled_size.Statement.{statement}
 use Rattle.put_figures.proofs.scaled_size.Tie as tie
-use Rattle.put_figures.proofs.scaled_size.Reads as reads
-use Rattle.put_figures.proofs.scaled_size.Lts as lts
-use Rattle.coding.proofs.width_of.Reads as width-of-reads
 
--- src/lib.rt:467:9
 width-of-requires : tie.Need-width-of-requires
 width-of-requires c κs = search needs
 
--- src/lib.rt:467:5
 add-result : tie.Need-add-result
 add-result c =
     let s = c .before .args .s in
     omega (arith, c .width-of .ensures, width-range (s .number))
 
--- src/lib.rt:462:1
 returns : tie.Need-returns
 returns c =
     let s = c .before .args .s in

@@ -5,14 +5,10 @@ use Rattle.coding.proofs.Basic.{and-no}
 use Rattle.put_figures.proofs.Truth.{tests, ne-eqb'}
 use Rattle.put_figures.proofs.still.Statement.{statement}
 use Rattle.put_figures.proofs.still.Tie as tie
-use Rattle.put_figures.proofs.still.Reads as reads
-use Rattle.put_figures.proofs.still.Lts as lts
 
--- src/lib.rt:31:9
 returns : tie.Need-returns
 returns c = sym (and-no (c .before .args .clear) _ (ne-eqb' _ _ (c .if1 .taken)))
 
--- src/lib.rt:27:1
 returns-2 : tie.Need-returns-2
 returns-2 c = let t : c .before .args .clear ≡ c .before .args .clear && eqb 0 (c .before .args .x) = search tests in t
 

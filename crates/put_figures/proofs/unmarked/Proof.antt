@@ -1,26 +1,19 @@
 use Rattle.put_figures.proofs.Truth.{tests}
 use Rattle.put_figures.proofs.unmarked.Statement.{statement}
 use Rattle.put_figures.proofs.unmarked.Tie as tie
-use Rattle.put_figures.proofs.unmarked.Reads as reads
-use Rattle.put_figures.proofs.unmarked.Lts as lts
 
--- src/lib.rt:288:9
 returns : tie.Need-returns
 returns c = search tests
 
--- src/lib.rt:291:9
 returns-2 : tie.Need-returns-2
 returns-2 c = search tests
 
--- src/lib.rt:294:9
 returns-3 : tie.Need-returns-3
 returns-3 c = search tests
 
--- src/lib.rt:297:9
 returns-4 : tie.Need-returns-4
 returns-4 c = search tests
 
--- src/lib.rt:284:1
 returns-5 : tie.Need-returns-5
 returns-5 c = search tests
 

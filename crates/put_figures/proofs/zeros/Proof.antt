@@ -9,10 +9,6 @@ use Rattle.coding.specs.Codec.{sameList}
 use Rattle.put_figures.proofs.Tests.{zeros-more, zeros-whole}
 use Rattle.put_figures.proofs.zeros.Statement.{statement}
 use Rattle.put_figures.proofs.zeros.Tie as tie
-use Rattle.put_figures.proofs.zeros.Reads as reads
-use Rattle.put_figures.proofs.zeros.Lts as lts
-use Rattle.put_figures.proofs.still.Reads as still-reads
-use Rattle.put_figures.proofs.wide32.Reads as wide32-reads
 
 abbrev Inv-loop : tie.InvT-loop
 Inv-loop s clear₀ i₀ clear i = (i ≤ length s) × (clear ≡ sameList eqb (replicate i 0) (take i s))
@@ -20,38 +16,30 @@ Inv-loop s clear₀ i₀ clear i = (i ≤ length s) × (clear ≡ sameList eqb (
 abbrev μ-loop : tie.MeasureT-loop
 μ-loop s clear₀ i₀ clear i = length s - i
 
--- src/lib.rt:41:5
 loop-holds : tie.Need-loop-holds Inv-loop μ-loop
 loop-holds c = (omega arith, refl)
 
--- src/lib.rt:42:35
 shared-slice-read-wide32 : tie.Need-shared-slice-read-wide32 Inv-loop μ-loop
 shared-slice-read-wide32 c = omega arith
 
--- src/lib.rt:42:28
 wide32-requires : tie.Need-wide32-requires Inv-loop μ-loop
 wide32-requires c κs = search needs
 
--- src/lib.rt:42:9
 still-requires : tie.Need-still-requires Inv-loop μ-loop
 still-requires c κs = search needs
 
--- src/lib.rt:43:9
 add-i : tie.Need-add-i Inv-loop μ-loop
 add-i c = omega arith
 
--- src/lib.rt:41:5
 loop-less : tie.Need-loop-less Inv-loop μ-loop
 loop-less c = omega arith
 
--- src/lib.rt:41:5
 loop-again : tie.Need-loop-again Inv-loop μ-loop
 loop-again c =
     let s = c .before .before .before .before .before .before .args .s .now in
     let l = c .before .before .before .before .loop in
     (omega arith, zeros-more s (l .i) (l .clear) (c .still .result) (omega arith) (l .inv .1) (c .still .ensures ∙ ap (λ (x : ℕ). l .clear && eqb 0 x) (c .before .wide32 .ensures)))
 
--- src/lib.rt:36:1
 returns : tie.Need-returns Inv-loop μ-loop
 returns c =
     let s = c .before .before .before .args .s .now in

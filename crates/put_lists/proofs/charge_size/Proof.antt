@@ -8,58 +8,77 @@ use Rattle.coding.specs.Codec.{writeAll}
 use Rattle.types.specs.Entries.{unit, unitList}
 use Rattle.types.specs.Arguments.{chargeOf}
 use Rattle.put_figures.proofs.Plain.{unlisted-plain, unlisted-write}
-use Rattle.put_lists.proofs.Charged.{figure-fine, units-fine, rates-fine, units-octets, rates-octets, rates-length}
+use Rattle.put_lists.specs.Octets.{withList}
+use Rattle.put_lists.proofs.Charged.{figure-fine, units-fine, units-valid, rates-fine, rates-valid, units-octets, rates-octets, rates-length}
 use Rattle.put_lists.proofs.charge_size.Statement.{statement}
 use Rattle.put_lists.proofs.charge_size.Tie as tie
 
-units-octets-requires : tie.Need-units-octets-requires
-units-octets-requires c κs = let s = c .before .before .before .before in units-fine (s .args .operation) (s .pre .0) (s .args .c) (s .pre .1) (omega arith)
+cast-n : tie.Need-cast-n
+cast-n c = search needs
+
+units-size-requires : tie.Need-units-size-requires
+units-size-requires c κs =
+    let s = c .before .before .before in
+    let a = s .args in
+    let x = withList (a .f) (a .numbers .now) (a .octets .now) in
+    units-valid (x .entries) (a .f .count) (units-fine (a .operation) (s .pre .0) x (s .pre .1 .1) (omega arith))
 
 priced-size-requires : tie.Need-priced-size-requires
-priced-size-requires c κs = let s = c .before .before .before .before .before in (figure-fine (s .args .operation) (s .pre .0) (s .args .c) (s .pre .1), omega (arith, c .units-octets .ensures .1))
+priced-size-requires c κs =
+    let s = c .before .before .before .before in
+    let a = s .args in
+    (figure-fine (a .operation) (s .pre .0) (withList (a .f) (a .numbers .now) (a .octets .now)) (s .pre .1 .1), omega (arith, c .units-size .ensures .1))
 
 returns : tie.Need-returns
 returns c =
-    let s = c .before .before .before .before .before .before in
-    let x = s .args .c in
-    let n = c .before .units-octets in
+    let s = c .before .before .before .before .before in
+    let a = s .args in
+    let x = withList (a .f) (a .numbers .now) (a .octets .now) in
+    let n = c .before .units-size in
     let r = c .priced-size in (
-      r .ensures .0 (writeAll (unit .write) (unitList (x .entries) (x .figure .count))) (sym (n .ensures .0))
-          ∙ ap length (sym (units-octets (s .args .operation) (s .pre .0) x (s .pre .1) (omega arith))),
+      r .ensures .0 (writeAll (unit .write) (unitList (x .entries) (a .f .count))) (sym (n .ensures .0))
+          ∙ ap length (sym (units-octets (a .operation) (s .pre .0) x (s .pre .1 .1) (omega arith))),
       omega (arith, r .ensures .1, n .ensures .1),
     )
 
-rates-octets-requires : tie.Need-rates-octets-requires
-rates-octets-requires c κs = let s = c .before .before .before .before .before .before in rates-fine (s .args .operation) (s .pre .0) (s .args .c) (s .pre .1) (omega arith)
+rates-size-requires : tie.Need-rates-size-requires
+rates-size-requires c κs =
+    let s = c .before .before .before .before .before in
+    let a = s .args in
+    let x = withList (a .f) (a .numbers .now) (a .octets .now) in
+    let v = rates-valid (x .entries) (a .f .count) (rates-fine (a .operation) (s .pre .0) x (s .pre .1 .1) (omega arith)) in
+    ((v .0, s .pre .1 .0), v .1)
 
 sized-requires : tie.Need-sized-requires
 sized-requires c κs = search needs
 
 returns-2 : tie.Need-returns-2
 returns-2 c =
-    let s = c .before .before .before .before .before .before .before .before in
-    let x = s .args .c in
-    let n = c .before .rates-octets in
+    let s = c .before .before .before .before .before .before .before in
+    let a = s .args in
+    let x = withList (a .f) (a .numbers .now) (a .octets .now) in
+    let n = c .before .rates-size in
     let r = c .sized in (
-      r .ensures .0 0x30 ∙ sym (rates-length (x .entries) (x .figure .count) (n .result) (n .ensures .0))
-          ∙ ap length (sym (rates-octets (s .args .operation) (s .pre .0) x (s .pre .1) (omega arith))),
+      r .ensures .0 0x30 ∙ sym (rates-length (x .entries) (a .f .count) (n .result) (n .ensures .0))
+          ∙ ap length (sym (rates-octets (a .operation) (s .pre .0) x (s .pre .1 .1) (omega arith))),
       omega (arith, r .ensures .1, n .ensures .1),
     )
 
 figure-size-requires : tie.Need-figure-size-requires
 figure-size-requires c κs =
     let s = c .before .before .before .before .before in
-    let o = s .args .operation in
+    let a = s .args in
+    let o = a .operation in
     let k3 = c .before .before .if1 .left in
     let k4 = c .if2 .left in
-    (s .pre .0, ((k3, k4), ap ((chargeOf o) .valid) (unlisted-plain o (s .pre .0 .0) (s .pre .0 .1) (s .args .c) k3 k4 (s .pre .1)) ∙ s .pre .1))
+    (s .pre .0, ((k3, k4), ap ((chargeOf o) .valid) (unlisted-plain o (s .pre .0 .0) (s .pre .0 .1) (withList (a .f) (a .numbers .now) (a .octets .now)) k3 k4 (s .pre .1 .1)) ∙ s .pre .1 .1))
 
 returns-3 : tie.Need-returns-3
 returns-3 c =
     let s = c .before .before .before .before .before .before in
-    let o = s .args .operation in
+    let a = s .args in
     let r = c .figure-size in (
-      r .ensures .0 ∙ ap length (sym (unlisted-write o (s .pre .0 .0) (s .pre .0 .1) (s .args .c) (c .before .before .before .if1 .left) (c .before .if2 .left) (s .pre .1))),
+      r .ensures .0 ∙ ap length (sym (unlisted-write (a .operation) (s .pre .0 .0) (s .pre .0 .1) (withList (a .f) (a .numbers .now) (a .octets .now)) (c .before .before .before .if1 .left) (c .before .if2 .left) (s .pre .1 .1))),
       omega (arith, r .ensures .1),
     )
 
@@ -67,10 +86,11 @@ pub charge-size-spec : {M : Type 1} → statement M
 charge-size-spec =
     tie.close
     (tie.spec
-    units-octets-requires
+    cast-n
+    units-size-requires
     priced-size-requires
     returns
-    rates-octets-requires
+    rates-size-requires
     sized-requires
     returns-2
     figure-size-requires

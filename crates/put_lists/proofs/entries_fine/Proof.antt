@@ -4,27 +4,27 @@ use native.Mathlib.Omega.{arith}
 use borrow.Author.Needs.{needs}
 use borrow.Author.Tests.{eq-eqb, ne-eqb}
 use Rattle.put_figures.proofs.Truth.{as-test}
-use Rattle.put_lists.specs.Octets.{charged}
+use Rattle.put_lists.specs.Octets.{withList}
 use Rattle.put_lists.proofs.Charged.{entries-units, entries-rates, entries-none}
 use Rattle.put_lists.proofs.entries_fine.Statement.{statement}
 use Rattle.put_lists.proofs.entries_fine.Tie as tie
 
 units-fine-requires : tie.Need-units-fine-requires
-units-fine-requires c κs = search needs
+units-fine-requires c κs = c .before .before .pre
 
 returns : tie.Need-returns
-returns c = let a = c .before .before .before .before .before .before .before .args in as-test (entries-units (charged (a .f) (a .e)) (omega arith)) (c .units-fine .ensures)
+returns c = let a = c .before .before .before .args in as-test (entries-units (withList (a .f) (a .numbers .now) (a .octets .now)) (omega arith)) (c .units-fine .ensures)
 
 rates-fine-requires : tie.Need-rates-fine-requires
-rates-fine-requires c κs = let g = c .before .before .before .before .before .before .before .before .good .1 .0 in (search needs, search needs)
+rates-fine-requires c κs = c .before .before .before .before .pre
 
 returns-2 : tie.Need-returns-2
-returns-2 c = let a = c .before .before .before .before .before .before .before .before .before .args in as-test (entries-rates (charged (a .f) (a .e)) (omega arith)) (c .rates-fine .ensures)
+returns-2 c = let a = c .before .before .before .before .before .args in as-test (entries-rates (withList (a .f) (a .numbers .now) (a .octets .now)) (omega arith)) (c .rates-fine .ensures)
 
 returns-3 : tie.Need-returns-3
 returns-3 c =
     let a = c .before .before .before .before .before .before .args in
-    as-test (entries-none (charged (a .f) (a .e)) (λ z. omega arith) (λ z. omega arith)) (rw (ne-eqb 0 (a .f .count) (λ z. omega arith)))
+    as-test (entries-none (withList (a .f) (a .numbers .now) (a .octets .now)) (λ z. omega arith) (λ z. omega arith)) (rw (ne-eqb 0 (a .f .count) (λ z. omega arith)))
 
 no-entries-requires : tie.Need-no-entries-requires
 no-entries-requires c κs = search needs
@@ -32,7 +32,7 @@ no-entries-requires c κs = search needs
 returns-4 : tie.Need-returns-4
 returns-4 c =
     let a = c .before .before .before .before .before .before .before .args in
-    as-test (entries-none (charged (a .f) (a .e)) (λ z. omega arith) (λ z. omega arith)) (rw (eq-eqb 0 (a .f .count) (omega arith)) (c .no-entries .ensures))
+    as-test (entries-none (withList (a .f) (a .numbers .now) (a .octets .now)) (λ z. omega arith) (λ z. omega arith)) (rw (eq-eqb 0 (a .f .count) (omega arith)) (c .no-entries .ensures))
 
 pub entries-fine-spec : {M : Type 1} → statement M
 entries-fine-spec =

@@ -8,7 +8,7 @@ use Rattle.coding.specs.Written.{Wrote}
 use Rattle.coding.specs.Rows.{table}
 use Rattle.coding.proofs.Writing.{wrote-none, wrote-next}
 use Rattle.types.specs.Entries.{unit, unitAt, unitList}
-use Rattle.put_rates.specs.Arrays.{laid}
+use Rattle.put_figures.specs.Fine.{laid}
 use Rattle.put_rates.proofs.Tables.{all-at, size-more, size-most, wrote-more}
 use Rattle.put_lists.proofs.put_units.Statement.{statement}
 use Rattle.put_lists.proofs.put_units.Tie as tie

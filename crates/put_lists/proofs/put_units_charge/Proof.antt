@@ -2,60 +2,61 @@
 -- Assumes nothing.
 use native.Mathlib.Omega.{arith}
 use borrow.Author.Needs.{needs}
-use Rattle.put_figures.proofs.Frames.{ended-split, parts-length, wrote-parts}
 use Rattle.coding.specs.Codec.{writeAll}
 use Rattle.types.specs.Entries.{unit, unitList}
+use Rattle.put_figures.specs.Fine.{laid}
+use Rattle.put_figures.proofs.Frames.{ended-split, parts-length, wrote-parts}
 use Rattle.put_lists.proofs.Charged.{units-valid}
 use Rattle.put_lists.proofs.put_units_charge.Statement.{statement}
 use Rattle.put_lists.proofs.put_units_charge.Tie as tie
-
--- `put_lists::put_units_charge` meets its contract.
--- Assumes nothing.
 
 cast-n : tie.Need-cast-n
 cast-n c = search needs
 
 units-size-requires : tie.Need-units-size-requires
-units-size-requires c κs = let s = c .before .before .before .before .before .before in units-valid (s .args .e) (s .args .f .count) (s .pre .0 .1)
+units-size-requires c κs =
+    let s = c .before .before in
+    let a = s .args in
+    units-valid (laid (a .numbers .now) (a .octets .now)) (a .f .count) (s .pre .0 .1)
 
 put-before-requires : tie.Need-put-before-requires
 put-before-requires c κs =
-    let s = c .before .before .before .before .before .before .before .before in
+    let s = c .before .before .before .before in
     let a = s .args in
     let n = c .before .units-size in
-    let xs = writeAll (unit .write) (unitList (a .e) (a .f .count)) in
+    let xs = writeAll (unit .write) (unitList (laid (a .numbers .now) (a .octets .now)) (a .f .count)) in
     let q = parts-length (a .operation) (a .f) (n .result) xs (n .ensures .0) (ended-split (a .operation) (a .f) xs) in
     ((s .pre .0 .0, omega (arith, s .pre .1 .0, n .ensures .0, q)), omega (arith, s .pre .1 .1, q))
 
 put-units-requires : tie.Need-put-units-requires
 put-units-requires c κs =
-    let s = c .before .before .before .before .before .before .before .before .before .before .before .before .before .before in
+    let s = c .before .before .before .before .before .before .before .before in
     let a = s .args in
-    let n = c .before .before .before .before .before .before .before .units-size in
-    let xs = writeAll (unit .write) (unitList (a .e) (a .f .count)) in
+    let n = c .before .before .before .before .before .units-size in
+    let xs = writeAll (unit .write) (unitList (laid (a .numbers .now) (a .octets .now)) (a .f .count)) in
     let q = parts-length (a .operation) (a .f) (n .result) xs (n .ensures .0) (ended-split (a .operation) (a .f) xs) in
-    let v = units-valid (a .e) (a .f .count) (s .pre .0 .1) in
-    (v .0, (v .1, omega (arith, s .pre .1 .1, q, c .before .before .before .before .before .put-before .ensures .place)))
+    let v = units-valid (laid (a .numbers .now) (a .octets .now)) (a .f .count) (s .pre .0 .1) in
+    (v .0, (v .1, omega (arith, s .pre .1 .1, q, c .before .before .before .put-before .ensures .place)))
 
 put-after-requires : tie.Need-put-after-requires
 put-after-requires c κs =
-    let s = c .before .before .before .before .before .before .before .before .before .before .before .before .before .before .before .before .before .before in
+    let s = c .before .before .before .before .before .before .before .before .before .before .before .before in
     let a = s .args in
-    let n = c .before .before .before .before .before .before .before .before .before .before .before .units-size in
-    let xs = writeAll (unit .write) (unitList (a .e) (a .f .count)) in
+    let n = c .before .before .before .before .before .before .before .before .before .units-size in
+    let xs = writeAll (unit .write) (unitList (laid (a .numbers .now) (a .octets .now)) (a .f .count)) in
     let q = parts-length (a .operation) (a .f) (n .result) xs (n .ensures .0) (ended-split (a .operation) (a .f) xs) in
-    (s .pre .0 .0, omega (arith, s .pre .1 .1, q, c .before .before .before .before .before .before .before .before .before .put-before .ensures .place, c .before .before .before .put-units .ensures .place))
+    (s .pre .0 .0, omega (arith, s .pre .1 .1, q, c .before .before .before .before .before .before .before .put-before .ensures .place, c .before .before .before .put-units .ensures .place))
 
 same-length : tie.Need-same-length
 same-length c = search needs
 
 returns : tie.Need-returns
 returns c =
-    let a = c .before .before .before .before .before .before .before .before .before .before .before .before .before .before .before .before .before .before .before .before .before .args in
-    let n = c .before .before .before .before .before .before .before .before .before .before .before .before .before .before .units-size in
-    let xs = writeAll (unit .write) (unitList (a .e) (a .f .count)) in
+    let a = c .before .before .before .before .before .before .before .before .before .before .before .before .before .before .before .args in
+    let n = c .before .before .before .before .before .before .before .before .before .before .before .before .units-size in
+    let xs = writeAll (unit .write) (unitList (laid (a .numbers .now) (a .octets .now)) (a .f .count)) in
     wrote-parts (a .operation) (a .f) (n .result) xs (n .ensures .0) (ended-split (a .operation) (a .f) xs)
-    (c .before .before .before .before .before .before .before .before .before .before .before .before .put-before .ensures) (c .before .before .before .before .before .before .put-units .ensures) (c .before .before .put-after .ensures)
+    (c .before .before .before .before .before .before .before .before .before .before .put-before .ensures) (c .before .before .before .before .before .before .put-units .ensures) (c .before .before .put-after .ensures)
 
 pub put-units-charge-spec : {M : Type 1} → statement M
 put-units-charge-spec =

@@ -8,7 +8,7 @@ use Rattle.put_rates.proofs.Tables.{all-more, all-stop}
 use Rattle.coding.specs.Codec.{all}
 use Rattle.coding.specs.Rows.{table}
 use Rattle.types.specs.Entries.{unit, unitAt, unitList}
-use Rattle.put_rates.specs.Arrays.{laid}
+use Rattle.put_figures.specs.Fine.{laid}
 use Rattle.put_lists.proofs.units_valid.Statement.{statement}
 use Rattle.put_lists.proofs.units_valid.Tie as tie
 

@@ -7,7 +7,7 @@ use lib.ListN.{length}
 use Rattle.coding.specs.Codec.{writeAll}
 use Rattle.coding.specs.Rows.{table}
 use Rattle.types.specs.Rates.{rate, rateAt, rateList}
-use Rattle.put_rates.specs.Arrays.{laid}
+use Rattle.put_figures.specs.Fine.{laid}
 use Rattle.put_rates.proofs.Tables.{all-at, size-more}
 use Rattle.put_rates.proofs.rates_size.Statement.{statement}
 use Rattle.put_rates.proofs.rates_size.Tie as tie

@@ -7,7 +7,7 @@ use native.Mathlib.Omega.{arith}
 use Rattle.coding.specs.Codec.{all}
 use Rattle.coding.specs.Rows.{table}
 use Rattle.types.specs.Rates.{rate, rateAt, rateList}
-use Rattle.put_rates.specs.Arrays.{laid}
+use Rattle.put_figures.specs.Fine.{laid}
 use Rattle.put_rates.proofs.Tables.{all-more, all-stop}
 use Rattle.put_rates.proofs.rates_valid.Statement.{statement}
 use Rattle.put_rates.proofs.rates_valid.Tie as tie

@@ -1,6 +1,5 @@
 use borrow.Author.Needs.{needs}
 use borrow.Author.Tests.{eq-eqb, ne-eqb}
-use mathlib.Core.Path.{_∙_, sym}
 use Rattle.reply.proofs.reject_for.Statement.{statement}
 use Rattle.reply.proofs.reject_for.Tie as tie
 

@@ -1,19 +1,20 @@
 use borrow.Author.Needs.{needs}
-use mathlib.Core.Path.{_≡_, ap, sym, _∙_}
+use mathlib.Core.Path.{ap, sym, _∙_}
+use Rattle.types.specs.declared.Answer.{Answer}
 use Rattle.reply.specs.Reply.{replyBy}
 use Rattle.reply.proofs.Silence.{silent-accepted, silent-reject, spoken, replied}
 use Rattle.reply.proofs.reply.Statement.{statement}
 use Rattle.reply.proofs.reply.Tie as tie
 
-read-requires : tie.Need-read-requires
-read-requires c κs = search needs
+read-into-requires : tie.Need-read-into-requires
+read-into-requires c κs = search needs
 
 nothing-requires : tie.Need-nothing-requires
 nothing-requires c κs = search needs
 
 returns : tie.Need-returns
 returns c =
-    rw (c .nothing .ensures) (silent-accepted (c .before .before .before .before .before .args .octets .now) (c .before .before .before .before .before .args .buf .now) (sym (ap (λ a. a .number) (c .before .before .read .ensures)) ∙ c .before .if1 .taken))
+    rw (c .nothing .ensures) (silent-accepted (c .before .before .before .before .before .before .before .args .octets .now) (c .before .before .before .before .before .before .before .args .buf .now) (sym (ap (λ (a : Answer). a .number) (c .before .before .read-into .ensures)) ∙ c .before .if1 .taken))
 
 first-of-requires : tie.Need-first-of-requires
 first-of-requires c κs = search needs
@@ -23,7 +24,7 @@ nothing-requires-2 c κs = search needs
 
 returns-2 : tie.Need-returns-2
 returns-2 c =
-    rw (c .nothing2 .ensures) (silent-reject (c .before .before .before .before .before .before .before .args .octets .now) (c .before .before .before .before .before .before .before .args .buf .now) (sym (c .before .before .first-of .ensures) ∙ c .before .if2 .taken))
+    rw (c .nothing2 .ensures) (silent-reject (c .before .before .before .before .before .before .before .before .before .args .octets .now) (c .before .before .before .before .before .before .before .before .before .args .buf .now) (sym (c .before .before .first-of .ensures) ∙ c .before .if2 .taken))
 
 identifier-of-requires : tie.Need-identifier-of-requires
 identifier-of-requires c κs = search needs
@@ -39,17 +40,17 @@ same-length c = search needs
 
 returns-3 : tie.Need-returns-3
 returns-3 c =
-    let e = ap (λ a. a .number) (c .before .before .before .before .before .before .before .before .before .read .ensures) in
+    let e = ap (λ (a : Answer). a .number) (c .before .before .before .before .before .before .before .before .before .read-into .ensures) in
     let f = c .before .before .before .before .before .before .before .first-of .ensures in
     let d = c .before .before .before .before .before .identifier-of .ensures in
-    replied (c .before .before .before .before .before .before .before .before .before .before .before .before .args .octets .now) (c .before .before .before .before .before .before .before .before .before .before .before .before .args .buf .now) (c .before .before .before .before .reject-for .result) (spoken (c .before .before .before .before .before .before .before .before .before .before .before .before .args .octets .now) (c .before .before .before .before .before .before .before .before .before .before .before .before .args .buf .now) (λ z. c .before .before .before .before .before .before .before .before .if1 .left (e ∙ z)) (λ z. c .before .before .before .before .before .before .if2 .left (f ∙ z)))
+    replied (c .before .before .before .before .before .before .before .before .before .before .before .before .before .before .args .octets .now) (c .before .before .before .before .before .before .before .before .before .before .before .before .before .before .args .buf .now) (c .before .before .before .before .reject-for .result) (spoken (c .before .before .before .before .before .before .before .before .before .before .before .before .before .before .args .octets .now) (c .before .before .before .before .before .before .before .before .before .before .before .before .before .before .args .buf .now) (λ z. c .before .before .before .before .before .before .before .before .if1 .left (e ∙ z)) (λ z. c .before .before .before .before .before .before .if2 .left (f ∙ z)))
     (c .before .before .before .before .reject-for .ensures ∙ (λ i. replyBy (e i) (f i) (d i))) (c .before .before .write .ensures .0) (c .before .before .write .ensures .1)
 
 pub reply-spec : {M : Type 1} → statement M
 reply-spec =
     tie.close
     (tie.spec
-    read-requires
+    read-into-requires
     nothing-requires
     returns
     first-of-requires

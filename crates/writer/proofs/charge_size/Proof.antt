@@ -1,9 +1,8 @@
 use borrow.Author.Needs.{needs}
-use borrow.Author.Tests.{not-true, not-false}
-use native.Mathlib.Omega.{arith}
-use mathlib.Core.Path.{_≡_, sym, ap, _∙_}
-use Rattle.coding.proofs.Basic.{picked, unpicked}
+use mathlib.Core.Path.{sym, ap, _∙_}
 use lib.ListN.{length}
+use Rattle.coding.proofs.Basic.{picked, unpicked}
+use Rattle.put_lists.specs.Octets.{withList}
 use Rattle.writer.proofs.Fits.{operation-range, its-front, its-charge}
 use Rattle.writer.proofs.charge_size.Statement.{statement}
 use Rattle.writer.proofs.charge_size.Tie as tie
@@ -14,9 +13,10 @@ is-charged-requires c κs = search needs
 charge-size-requires : tie.Need-charge-size-requires
 charge-size-requires c κs =
     let s = c .before .before in
+    let a = s .args in
+    let x = withList (a .figure) (a .numbers .now) (a .rows .now) in
     let q = sym (c .before .is-charged .ensures) ∙ c .if1 .taken in
-    let o = operation-range (s .args .f) (its-front (s .args .f) (s .args .c) (s .pre)) q in
-    ((o .0, o .1), its-charge (s .args .f) (s .args .c) (s .pre) q)
+    (operation-range (a .f) (its-front (a .f) x (s .pre .0)) q, (s .pre .1, its-charge (a .f) x (s .pre .0) q))
 
 returns : tie.Need-returns
 returns c =
@@ -27,10 +27,4 @@ returns-2 c =
     sym (ap length (unpicked _ _ (sym (c .before .is-charged .ensures) ∙ c .if1 .left)))
 
 pub charge-size-spec : {M : Type 1} → statement M
-charge-size-spec =
-    tie.close
-    (tie.spec
-    is-charged-requires
-    charge-size-requires
-    returns
-    returns-2)
+charge-size-spec = tie.close (tie.spec is-charged-requires charge-size-requires returns returns-2)

@@ -1,9 +1,10 @@
 use borrow.Author.Needs.{needs}
 use borrow.Author.Tests.{not-true, not-false}
-use native.Mathlib.Omega.{arith}
-use mathlib.Core.Path.{_≡_, sym, ap, _∙_}
+use mathlib.Core.Path.{sym, ap, _∙_}
 use mathlib.Core.Bool.{Bool, _&&_}
+use Rattle.put_lists.specs.Octets.{withList}
 use Rattle.writer.specs.Parts.{chargeFine}
+use Rattle.writer.proofs.Fits.{held-not, held-tested}
 use Rattle.writer.proofs.record_fine.Statement.{statement}
 use Rattle.writer.proofs.record_fine.Tie as tie
 
@@ -12,15 +13,29 @@ front-fine-requires c κs = search needs
 
 returns : tie.Need-returns
 returns c =
-    sym (ap (λ (b : Bool). b && chargeFine (c .before .before .args .f) (c .before .before .args .c)) (sym (c .before .front-fine .ensures) ∙ not-true _ (c .if1 .taken)))
+    let a = c .before .before .before .before .args in
+    (sym (ap (λ (b : Bool). b && chargeFine (a .f) (withList (a .figure) (a .numbers .now) (a .rows .now))) (sym (c .before .front-fine .ensures) ∙ not-true _ (c .if1 .taken))), search needs)
 
-charge-fine-requires : tie.Need-charge-fine-requires
-charge-fine-requires c κs =
-    sym (c .before .front-fine .ensures) ∙ not-false _ (c .if1 .left)
+may-hold-requires : tie.Need-may-hold-requires
+may-hold-requires c κs = search needs
 
 returns-2 : tie.Need-returns-2
 returns-2 c =
-    c .charge-fine .ensures ∙ sym (ap (λ (b : Bool). b && chargeFine (c .before .before .before .args .f) (c .before .before .before .args .c)) (sym (c .before .before .front-fine .ensures) ∙ not-false _ (c .before .if1 .left)))
+    let a = c .before .before .before .before .before .before .args in
+    let v = sym (c .before .before .before .front-fine .ensures) ∙ not-false _ (c .before .before .if1 .left) in
+    (held-not (a .f) (withList (a .figure) (a .numbers .now) (a .rows .now)) v (sym (c .before .may-hold .ensures) ∙ not-true _ (c .if2 .taken)), search needs)
+
+tested-by-requires : tie.Need-tested-by-requires
+tested-by-requires c κs = sym (c .before .before .before .front-fine .ensures) ∙ not-false _ (c .before .before .if1 .left)
+
+charge-fine-requires : tie.Need-charge-fine-requires
+charge-fine-requires c κs = (c .tested-by .ensures .1, (c .before .before .before .before .before .before .before .pre, (search needs, search needs)))
+
+returns-3 : tie.Need-returns-3
+returns-3 c =
+    let a = c .before .before .before .before .before .before .before .before .args in
+    let v = sym (c .before .before .before .before .before .front-fine .ensures) ∙ not-false _ (c .before .before .before .before .if1 .left) in
+    (c .charge-fine .ensures ∙ held-tested (a .f) (withList (a .figure) (a .numbers .now) (a .rows .now)) v (sym (c .before .before .before .may-hold .ensures) ∙ not-false _ (c .before .before .if2 .left)) (c .before .tested-by .result) (c .before .tested-by .ensures .0), search needs)
 
 pub record-fine-spec : {M : Type 1} → statement M
 record-fine-spec =
@@ -28,5 +43,8 @@ record-fine-spec =
     (tie.spec
     front-fine-requires
     returns
+    may-hold-requires
+    returns-2
+    tested-by-requires
     charge-fine-requires
-    returns-2)
+    returns-3)

@@ -3,7 +3,7 @@
 use native.Mathlib.Omega.{arith}
 use borrow.Author.Needs.{needs}
 use Prim.Native.Nat.{_≤_, _<_}
-use mathlib.Core.Path.{_≡_, sym, _∙_}
+use mathlib.Core.Path.{sym, _∙_}
 use Rattle.lines.specs.Lines.{digitOf}
 use Rattle.lines.proofs.Steps.{step-none, held-none, step-first, held-other, step-second, held-second, step-full, held-full, step-space, step-gap, step-bad}
 use Rattle.lines.proofs.input.fed.Statement.{statement}

@@ -1,6 +1,5 @@
 -- `lines::input::is_whole` meets its contract.
 -- Assumes nothing.
-use mathlib.Core.Path.{refl}
 use borrow.Author.Tests.{ne-eqb}
 use Rattle.lines.proofs.input.is_whole.Statement.{statement}
 use Rattle.lines.proofs.input.is_whole.Tie as tie
