@@ -5,7 +5,7 @@ W <room> <packed record> write            <number> <count> <hex>
 E <hex>                  Facility element <number> <count> <starts, comma separated>
 J <room> <hex>           reject in reply  <number> <count> <hex>
 T <number> <multiplier>  thousandths      <thousandths>
-A <event>;<event>;...    account          outcome,phase,rate,running,closing,marks,pending;...
+A <event>;<event>;...    account          outcome,service,phase,rate,running,closing,its service,marks,pending,identifiers;...
 
 Hex is small and without spaces. An empty last field leaves the space before it.
 """
@@ -71,8 +71,9 @@ def answer_account(rest):
         outcome = do(account, event)
         # D is bit 2 and E bit 4 of the services; their conflicts are bits 8 and 16.
         marks = bits(account.unavailable) | bits(account.conflict) << 2
-        answers.append(f"{outcome},{account.phase},{figure(account.rate)},{figure(account.running)},"
-                       f"{figure(account.closing)},{marks},{bits(account.pending)}")
+        answers.append(f"{outcome},{account.service},{account.phase},{figure(account.rate)},{figure(account.running)},"
+                       f"{figure(account.closing)},{account.closing_service},{marks},{bits(account.pending)},"
+                       f"{','.join(map(str, account.pending_identifiers))}")
     return ";".join(answers)
 
 

@@ -942,6 +942,22 @@ class Account:
         return set()
 
     @property
+    def pending_identifiers(self):
+        """Of S, D and E; 0 where no request is pending."""
+        for event, outcome, _ in self.events:
+            if event[0] == SETUP and outcome == 0:
+                return [i if service in self.pending else 0 for service, i in enumerate(event[1:])]
+        return [0, 0, 0]
+
+    @property
+    def service(self):
+        """The service of the last event's outcome, 1 S, 2 D, 3 E; 0 where it has none."""
+        _, outcome, record = self.events[-1]
+        if record is None or outcome in (30, 32):
+            return 0
+        return 1 + (SERVICE[record.operation] if record.frame == INVOKE else self._asked_by(record))
+
+    @property
     def unavailable(self):
         return self._services(23)
 
@@ -968,6 +984,13 @@ class Account:
         if self.phase != ENDED:
             return None
         return self._final(E) or self._final(D)
+
+    @property
+    def closing_service(self):
+        """3 E, 2 D; 0 where there is no closing figure."""
+        if self.closing is None:
+            return 0
+        return 1 + (D if self._final(E) is None else E)
 
 
 # ---------------------------------------------------------------- the line program

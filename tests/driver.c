@@ -178,11 +178,13 @@ static void answer_account(const char *rest)
         aoc_charge rate = aoc_rate_of(account), running = aoc_running_of(account);
         aoc_closing closing = aoc_closing_of(account);
         aoc_marks marks = aoc_marks_of(account);
-        printf("%u,%u", outcome.number, aoc_phase_of(account));
+        aoc_pending pending = aoc_pending_of(account);
+        printf("%u,%u,%u", outcome.number, outcome.service, aoc_phase_of(account));
         put_figure(&rate);
         put_figure(&running);
         put_figure(&closing.charge);
-        printf(",%u,%u", bits(marks.absent) | bits(marks.conflict) << 2, bits(aoc_pending_of(account).asked));
+        printf(",%u,%u,%u", closing.service, bits(marks.absent) | bits(marks.conflict) << 2, bits(pending.asked));
+        printf(",%u,%u,%u", pending.s, pending.d, pending.e);
         rest = strchr(rest, ';');
         if (!rest)
             return;

@@ -1,0 +1,53 @@
+#!/bin/sh
+# sh docs/edits.sh          prints the table of docs/EDITS.md from the logs of the last `rt ci` or `rt must-fail` (target/must-fail): for
+#                           each edit the wrong program, and the fact at which the prover stopped.
+# sh docs/edits.sh write    puts that table into docs/EDITS.md.
+cd "$(dirname "$0")/.." || exit 2
+page=docs/EDITS.md
+
+# fact LOG: what stands in the log's first error. `omega` tells values at which the goal fails; else two types differ somewhere.
+fact() {
+    python3 - "$1" <<'PYTHON'
+import re, sys
+text = open(sys.argv[1], errors="replace").read()
+first = re.search(r"^(?:\S*?/must-fail/[a-z_]+/[a-z_0-9]+/)?((?:proofs|specs)/\S+?):\d+:\d+: error: `([^`]+)`: ((?:.|\n)*?)(?=^\S+:\d+:\d+: |\Z)", text, re.M)
+if not first:
+    sys.exit("no error")
+place, need, says = first.groups()
+place = re.sub(r"^proofs/(?:(\w+)/)?(\w+)/Proof\.antt$", lambda m: (m[1] + "::" if m[1] else "") + m[2], place)
+sides = re.findall(r"one has `([^`]*)`\s*\(expected\)(?:, [^`]*`[^`]*`)?,?\s*and the other has `([^`]*)`", says)
+sides = [s for s in sides if max(map(len, s)) <= 60]
+values = re.search(r"the goal fails, at ((?:[^.]|\.(?=\S)){1,160})\. ", says)
+if sides:
+    what = f"`{sides[-1][0]}` against `{sides[-1][1]}`"
+elif "omega" in says:
+    what = f"fails at {values[1]}" if values and "argsV" not in values[1] and "\n" not in values[1] else "numbers for which it fails"
+elif "does not close" in says:
+    what = "not found by search"
+else:
+    what = "two sides that are not equal"
+print(f"`{place}` | `{need}` | {what}")
+PYTHON
+}
+
+table() {
+    echo '| Edit | The wrong program | Where it stops | The need | What the log shows |'
+    echo '|---|---|---|---|---|'
+    for edit in crates/*/must-fail/*.edit; do
+        crate=${edit#crates/} crate=${crate%%/*} name=$(basename "$edit" .edit)
+        log=target/must-fail/$crate/$name/.log
+        [ -f "$log" ] || { echo "no log of $crate/$name: run .ci/run first" >&2; return 1; }
+        echo "| \`$crate/$name\` | $(sed -n '1s/^# *//p' "$edit") | $(fact "$log") |"
+    done
+}
+
+case $1 in
+'') table ;;
+write)
+    new=$(mktemp) || exit 2
+    { sed '/^| Edit |/,$d' "$page" && table; } >"$new" && cat "$new" >"$page"
+    status=$?
+    rm -f "$new"
+    exit $status
+    ;;
+esac
