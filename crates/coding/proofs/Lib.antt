@@ -4,6 +4,7 @@ pub mod Laws
 pub mod Header
 pub mod Combine
 pub mod Number
+pub mod Bits
 pub mod Leaves
 pub mod Whole
 pub mod Padded

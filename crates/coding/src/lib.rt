@@ -598,16 +598,8 @@ pub fn identifier_long(s: &[u8], at: usize, end: usize, tag: u8) -> NumberRead
 pub fn width_of(n: u32) -> usize
     ensures { λ r. ⌜ r ≡ width n ⌝ }
 {
-    if n < 0x80 {
-        return 1;
-    }
-    if n < 0x8000 {
-        return 2;
-    }
-    if n < 0x800000 {
-        return 3;
-    }
-    4
+    let high = 31 - u32::leading_zeros(n / 2 * 2 + 1);
+    ((31 * high + 311) / 256) as usize
 }
 
 // Tag and shortest length octets.
