@@ -1,12 +1,11 @@
 -- Choices by a test.
 use Prim.Native.Nat.{ℕ}
 use mathlib.Core.Path.{_≡_, refl}
-use mathlib.Core.Bool.{Bool, true, false}
+use mathlib.Core.Bool.{Bool, true, false, cond}
 use lib.Dec.{eqb}
 use borrow.Author.Tests.{eqb-true}
-use Rattle.coding.specs.Reader.{if_then_else}
 
-pub if-same : {A : Type 0} (b : Bool) (x : A) → if_then_else b x x ≡ x
+pub if-same : {A : Type 0} (b : Bool) (x : A) → cond b x x ≡ x
 if-same true x = refl
 if-same false x = refl
 

@@ -2,11 +2,10 @@
 use Prim.Native.Nat.{ℕ, _≤_, _<_}
 use mathlib.Core.Path.{_≡_, refl, sym, _∙_, ap}
 use mathlib.Core.List.{List, [], _∷_, _++_}
-use mathlib.Core.Bool.{Bool, true, false, not, _&&_, _||_, and-false}
+use mathlib.Core.Bool.{Bool, true, false, not, _&&_, _||_, and-false, cond}
 use lib.Dec.{eqb}
 use native.Mathlib.Omega.{arith}
 use borrow.Author.Tests.{ne-eqb, eqb-true}
-use Rattle.coding.specs.Reader.{if_then_else}
 use Rattle.types.specs.declared.Charge.{Charge}
 use Rattle.types.specs.Charges.{flag}
 use Rattle.types.specs.Frames.{readOf}
@@ -26,20 +25,20 @@ told e o r = record { event = e; octets = o; outcome = r }
 
 -- ---- a component does to the account what the rules over the list say, whatever its outcome is
 
-mark-or : (b c : Bool) (q : Request) → if_then_else (b || c) noRequest q .mark ≡ if_then_else b 0 (if_then_else c noRequest q .mark)
+mark-or : (b c : Bool) (q : Request) → cond (b || c) noRequest q .mark ≡ cond b 0 (cond c noRequest q .mark)
 mark-or true c q = refl
 mark-or false c q = refl
 
-id-or : (b c : Bool) (q : Request) → if_then_else (b || c) noRequest q .id ≡ if_then_else b 0 (if_then_else c noRequest q .id)
+id-or : (b c : Bool) (q : Request) → cond (b || c) noRequest q .id ≡ cond b 0 (cond c noRequest q .id)
 id-or true c q = refl
 id-or false c q = refl
 
-flag-or : (b c : Bool) → flag (b || c) ≡ if_then_else b 1 (flag c)
+flag-or : (b c : Bool) → flag (b || c) ≡ cond b 1 (flag c)
 flag-or true c = refl
 flag-or false c = refl
 
 set-more : (b : Bool) (s : ℕ) (x y z : Bool) →
-    if_then_else b (with (record { s = flag x; d = flag y; e = flag z }) s) (record { s = flag x; d = flag y; e = flag z })
+    cond b (with (record { s = flag x; d = flag y; e = flag z }) s) (record { s = flag x; d = flag y; e = flag z })
     ≡ record { s = flag ((b && eqb s S) || x); d = flag ((b && eqb s D) || y); e = flag ((b && eqb s E) || z) }
 set-more true s x y z = simp flag-or
 set-more false s x y z = refl
@@ -50,7 +49,7 @@ component-stands h e o r q = rw q (simp (if-same, mark-or, id-or, set-more))
 -- ---- a phase event, by how it is judged: t that it is allowed, u that two of its requests clash
 
 abbrev phased : ℕ → Bool → Bool → Outcome
-phased kind t u = if_then_else t (if_then_else (eqb kind setup && u) (bare 13) (bare 0)) (bare 14)
+phased kind t u = cond t (cond (eqb kind setup && u) (bare 13) (bare 0)) (bare 14)
 
 refused-stays : (h : List Judged) (e : Event) (o : List ℕ) → accountBy (told e o (bare 14) ∷ h) ≡ accountBy h
 refused-stays h e o = simp and-false
@@ -76,7 +75,7 @@ idle-refuses kind q =
     rw (q, a, b, c, and-false))))
 
 unsettled-kind : (s kind p : ℕ) (r : Outcome) (u : Bool) → p ≡ idle →
-    settles s (if_then_else (allowed kind p) (if_then_else (eqb kind component) r (if_then_else (eqb kind setup && u) (bare 13) (bare 0))) (bare 14)) ≡ false
+    settles s (cond (allowed kind p) (cond (eqb kind component) r (cond (eqb kind setup && u) (bare 13) (bare 0))) (bare 14)) ≡ false
 unsettled-kind s kind p r u z =
     by-number kind setup (λ q. by-test u (λ v. rw (z, q, v)) (λ v. rw (z, q, v))) (λ q. rw (z, idle-refuses kind q))
 
@@ -85,7 +84,7 @@ unfolding judge
 unsettled-now s k e o q = unsettled-kind s (e .kind) (k .phase) (judgeAnswer k (readOf o)) (clashes e) q
 
 -- no event leads back to Idle
-stays-idle : (b : Bool) (kind p : ℕ) → if_then_else b (leadsTo kind p) p ≡ idle → p ≡ idle
+stays-idle : (b : Bool) (kind p : ℕ) → cond b (leadsTo kind p) p ≡ idle → p ≡ idle
 stays-idle false kind p q = q
 stays-idle true kind p q =
     by-test (eqb kind setup) (λ a. let z : _≡_ {A = ℕ} 1 0 = rw a at q in omega arith) (λ a.
@@ -126,7 +125,7 @@ module _ (g : Bool) where
   abbrev Fine : Outcome → Type 0
   Fine r = keeps r ≡ true → g ≡ true
 
-  by-way : (b : Bool) (x y : Outcome) → (b ≡ true → Fine x) → (b ≡ false → Fine y) → Fine (if_then_else b x y)
+  by-way : (b : Bool) (x y : Outcome) → (b ≡ true → Fine x) → (b ≡ false → Fine y) → Fine (cond b x y)
   by-way true x y p q = p refl
   by-way false x y p q = q refl
 
@@ -162,7 +161,7 @@ kept-given k e o =
     (λ _. by-way g (eqb (e .kind) setup && clashes e) _ _ (λ _ q. cc) (λ _ q. cc)))
     (λ _ q. cc)
 
-given-more : (b x : Bool) (c f : Charge) → (b ≡ true → isGiven c ≡ true) → isGiven f ≡ x → isGiven (if_then_else b c f) ≡ (b || x)
+given-more : (b x : Bool) (c f : Charge) → (b ≡ true → isGiven c ≡ true) → isGiven f ≡ x → isGiven (cond b c f) ≡ (b || x)
 given-more true x c f p q = p refl
 given-more false x c f p q = q
 
@@ -194,7 +193,7 @@ running-given h = last-given (was 21) running-keeps h
 -- ---- a service has one 22 at most
 
 module _ (s : ℕ) where
-  none-way : (b : Bool) (x y : Outcome) → (b ≡ true → its s 22 x ≡ false) → (b ≡ false → its s 22 y ≡ false) → its s 22 (if_then_else b x y) ≡ false
+  none-way : (b : Bool) (x y : Outcome) → (b ≡ true → its s 22 x ≡ false) → (b ≡ false → its s 22 y ≡ false) → its s 22 (cond b x y) ≡ false
   none-way true x y p q = p refl
   none-way false x y p q = q refl
 
@@ -310,7 +309,7 @@ abbrev pub releases : Judged → Bool
 releases j = eqb (j .event .kind) released && was 0 (j .outcome)
 
 not-ended-next : (b i j k l x : Bool) (p : ℕ) → (x ≡ false → eqb p ended ≡ false) → ((l && b) || x) ≡ false →
-    eqb (if_then_else b (if_then_else i 1 (if_then_else j 2 (if_then_else k 3 (if_then_else l 4 p)))) p) ended ≡ false
+    eqb (cond b (cond i 1 (cond j 2 (cond k 3 (cond l 4 p)))) p) ended ≡ false
 not-ended-next false i j k true x p before q = before q
 not-ended-next false i j k false x p before q = before q
 not-ended-next true true j k l x p before q = refl

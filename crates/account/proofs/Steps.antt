@@ -2,11 +2,10 @@
 use Prim.Native.Nat.{ℕ, suc, _≤_}
 use mathlib.Core.Path.{_≡_, refl, sym, _∙_, ap}
 use mathlib.Core.List.{List}
-use mathlib.Core.Bool.{Bool, true, false, not, _&&_}
+use mathlib.Core.Bool.{Bool, true, false, not, _&&_, cond}
 use lib.Dec.{T, eqb, eqb→eq}
 use native.Mathlib.Omega.{arith}
 use borrow.Author.Tests.{eq-eqb, ne-eqb, eqb-false}
-use Rattle.coding.specs.Reader.{if_then_else}
 use Rattle.types.specs.declared.Charge.{Charge}
 use Rattle.types.specs.declared.Answer.{Answer}
 use Rattle.types.specs.Frames.{readOf}
@@ -27,7 +26,7 @@ use Rattle.account.proofs.Demand.{step-stands, closing-stands, kept-ref
 -- ---- a final that is claimed, and then compared, is the final judged at once
 
 module _ (a : Account) (c : Charge) where
-  each-way : (b : Bool) (x y x′ y′ : Outcome) → resolved a x c ≡ x′ → resolved a y c ≡ y′ → resolved a (if_then_else b x y) c ≡ if_then_else b x′ y′
+  each-way : (b : Bool) (x y x′ y′ : Outcome) → resolved a x c ≡ x′ → resolved a y c ≡ y′ → resolved a (cond b x y) c ≡ cond b x′ y′
   each-way true x y x′ y′ p q = p
   each-way false x y x′ y′ p q = q
 

@@ -1,9 +1,8 @@
 -- One call's events, and what the rules pick out of their list. A history has the latest event first.
 use Prim.Native.Nat.{ℕ}
 use mathlib.Core.List.{List, [], _∷_}
-use mathlib.Core.Bool.{Bool, false, _&&_, _||_}
+use mathlib.Core.Bool.{Bool, false, _&&_, _||_, cond}
 use lib.Dec.{eqb}
-use Rattle.coding.specs.Reader.{if_then_else}
 use Rattle.types.specs.declared.Charge.{Charge}
 use Rattle.types.specs.Charges.{flag}
 use Rattle.types.specs.Arguments.{noCharge}
@@ -42,7 +41,7 @@ any t (j ∷ h) = t j || any t h
 -- the charge of the last event that passes a test
 abbrev pub last : (Judged → Bool) → List Judged → Charge
 last t [] = noCharge
-last t (j ∷ h) = if_then_else (t j) (chargeOf (j .octets)) (last t h)
+last t (j ∷ h) = cond (t j) (chargeOf (j .octets)) (last t h)
 
 -- an outcome was n; it was the service's n
 abbrev pub was : ℕ → Outcome → Bool
@@ -55,26 +54,26 @@ its s n r = eqb (r .number) n && eqb (r .service) s
 
 abbrev pub leadsTo : ℕ → ℕ → ℕ
 leadsTo kind phase =
-    if_then_else (eqb kind setup) establishment
-    (if_then_else (eqb kind connect) active
-    (if_then_else (eqb kind clear) clearing
-    (if_then_else (eqb kind released) ended phase)))
+    cond (eqb kind setup) establishment
+    (cond (eqb kind connect) active
+    (cond (eqb kind clear) clearing
+    (cond (eqb kind released) ended phase)))
 
 abbrev pub phase : List Judged → ℕ
 phase [] = idle
-phase (j ∷ h) = if_then_else (was 0 (j .outcome)) (leadsTo (j .event .kind) (phase h)) (phase h)
+phase (j ∷ h) = cond (was 0 (j .outcome)) (leadsTo (j .event .kind) (phase h)) (phase h)
 
 -- ---- a request is pending if the one accepted Setup named it and no earlier event was its 24 or 25
 
 abbrev pub named : ℕ → List Judged → Request
 named s [] = noRequest
-named s (j ∷ h) = if_then_else (eqb (j .event .kind) setup && was 0 (j .outcome)) (request s (j .event)) (named s h)
+named s (j ∷ h) = cond (eqb (j .event .kind) setup && was 0 (j .outcome)) (request s (j .event)) (named s h)
 
 abbrev pub settles : ℕ → Outcome → Bool
 settles s r = its s 24 r || its s 25 r
 
 abbrev pub pending : ℕ → List Judged → Request
-pending s h = if_then_else (any (λ j. settles s (j .outcome)) h) noRequest (named s h)
+pending s h = cond (any (λ j. settles s (j .outcome)) h) noRequest (named s h)
 
 -- ---- a final has a predecessor if an earlier event was its service's 22
 
@@ -113,9 +112,9 @@ noClosing = record { service = 0; value = noCharge }
 
 abbrev pub closing : List Judged → Closing
 closing h =
-    if_then_else (eqb (phase h) ended)
-    (if_then_else (hasFinal E h) (record { service = E; value = final E h })
-    (if_then_else (hasFinal D h) (record { service = D; value = final D h }) noClosing))
+    cond (eqb (phase h) ended)
+    (cond (hasFinal E h) (record { service = E; value = final E h })
+    (cond (hasFinal D h) (record { service = D; value = final D h }) noClosing))
     noClosing
 
 -- ---- each event is judged by what came before it

@@ -1,9 +1,8 @@
 -- An event's outcome, from what is known of the call when it comes. The numbers of outcomes and refusals are those of the paper.
 use Prim.Native.Nat.{ℕ}
 use mathlib.Core.List.{List}
-use mathlib.Core.Bool.{Bool, not, _&&_, _||_}
+use mathlib.Core.Bool.{Bool, not, _&&_, _||_, cond}
 use lib.Dec.{eqb, leb}
-use Rattle.coding.specs.Reader.{if_then_else}
 use Rattle.types.specs.declared.Charge.{Charge}
 use Rattle.types.specs.declared.Record.{Record}
 use Rattle.types.specs.declared.Answer.{Answer}
@@ -51,10 +50,10 @@ component = 5
 -- Component is allowed in the middle three
 abbrev pub allowed : ℕ → ℕ → Bool
 allowed kind phase =
-    if_then_else (eqb kind setup) (eqb phase idle)
-    (if_then_else (eqb kind connect) (eqb phase establishment)
-    (if_then_else (eqb kind clear) (eqb phase establishment || eqb phase active)
-    (if_then_else (eqb kind released) (eqb phase clearing)
+    cond (eqb kind setup) (eqb phase idle)
+    (cond (eqb kind connect) (eqb phase establishment)
+    (cond (eqb kind clear) (eqb phase establishment || eqb phase active)
+    (cond (eqb kind released) (eqb phase clearing)
     (eqb kind component && (eqb phase establishment || (eqb phase active || eqb phase clearing))))))
 
 -- ---- services, numbered as in a set of them, and outcomes
@@ -77,7 +76,7 @@ bare n = outcome n 0
 
 -- the service of an invoke: 31, 32 S; 33, 34 D; 35, 36 E
 abbrev pub serviceOf : ℕ → ℕ
-serviceOf operation = if_then_else (leb operation 32) S (if_then_else (leb operation 34) D E)
+serviceOf operation = cond (leb operation 32) S (cond (leb operation 34) D E)
 
 -- ---- requests
 
@@ -90,13 +89,13 @@ noRequest = record { mark = 0; id = 0 }
 
 -- a mark of 0 asks for nothing, any other mark asks
 abbrev pub asking : ℕ → ℕ → Request
-asking mark id = if_then_else (eqb mark 0) noRequest (record { mark = 1; id = id })
+asking mark id = cond (eqb mark 0) noRequest (record { mark = 1; id = id })
 
 -- what a Setup asks for a service
 abbrev pub request : ℕ → Event → Request
 request s e =
-    if_then_else (eqb s S) (asking (e .asked .s) (e .s))
-    (if_then_else (eqb s D) (asking (e .asked .d) (e .d)) (asking (e .asked .e) (e .e)))
+    cond (eqb s S) (asking (e .asked .s) (e .s))
+    (cond (eqb s D) (asking (e .asked .d) (e .d)) (asking (e .asked .e) (e .e)))
 
 -- two requests with one identifier
 abbrev pub clash : Request → Request → Bool
@@ -117,9 +116,9 @@ pub record Requests : Type 0 where
 -- the service whose pending request has the identifier, or 0
 abbrev pub holderOf : Requests → ℕ → ℕ
 holderOf q id =
-    if_then_else (has (q .asked) S && eqb (q .s) id) S
-    (if_then_else (has (q .asked) D && eqb (q .d) id) D
-    (if_then_else (has (q .asked) E && eqb (q .e) id) E 0))
+    cond (has (q .asked) S && eqb (q .s) id) S
+    (cond (has (q .asked) D && eqb (q .d) id) D
+    (cond (has (q .asked) E && eqb (q .e) id) E 0))
 
 -- the final of a service, if there was one
 pub record First : Type 0 where
@@ -133,18 +132,18 @@ pub record Known : Type 0 where
   pub byE : First
 
 abbrev pub firstOf : Known → ℕ → First
-firstOf k s = if_then_else (eqb s D) (k .byD) (k .byE)
+firstOf k s = cond (eqb s D) (k .byD) (k .byE)
 
 -- ---- component outcomes, first that fits
 
 -- a final: 22 if its service has none yet; 28 if the same; else 29
 abbrev pub finalOf : First → Charge → ℕ → Outcome
-finalOf first c s = if_then_else (first .given) (if_then_else (sameOf (first .charge) c) (outcome 28 s) (outcome 29 s)) (outcome 22 s)
+finalOf first c s = cond (first .given) (cond (sameOf (first .charge) c) (outcome 28 s) (outcome 29 s)) (outcome 22 s)
 
 -- D subtotal in Active, D free (kind 1) in Establishment or Active
 abbrev pub runs : ℕ → ℕ → ℕ → ℕ → Bool
 runs phase s kind total =
-    eqb s D && if_then_else (eqb kind 1) (eqb phase establishment || eqb phase active) (eqb total 0 && eqb phase active)
+    eqb s D && cond (eqb kind 1) (eqb phase establishment || eqb phase active) (eqb total 0 && eqb phase active)
 
 -- D total or D free in Clearing, any E figure in Clearing
 abbrev pub closes : ℕ → ℕ → ℕ → ℕ → Bool
@@ -153,36 +152,36 @@ closes phase s kind total = eqb phase clearing && (eqb s E || (eqb kind 1 || eqb
 -- (what the outcome of a final is stands apart: `final` gives it for a service)
 abbrev pub judgeFigure : ℕ → (ℕ → Outcome) → ℕ → ℕ → ℕ → Outcome
 judgeFigure phase final s kind total =
-    if_then_else (eqb s S) (outcome 20 s)
-    (if_then_else (runs phase s kind total) (outcome 21 s)
-    (if_then_else (closes phase s kind total) (final s) (outcome 27 s)))
+    cond (eqb s S) (outcome 20 s)
+    (cond (runs phase s kind total) (outcome 21 s)
+    (cond (closes phase s kind total) (final s) (outcome 27 s)))
 
 -- invoke 30: 32; the service's request pending: 26; not available: 23
 abbrev pub judgeInvoke : ℕ → Requests → (ℕ → Outcome) → ℕ → ℕ → ℕ → Outcome
 judgeInvoke phase q final operation kind total =
-    if_then_else (eqb operation 30) (bare 32)
-    (if_then_else (has (q .asked) (serviceOf operation)) (outcome 26 (serviceOf operation))
-    (if_then_else (eqb kind 0) (outcome 23 (serviceOf operation))
+    cond (eqb operation 30) (bare 32)
+    (cond (has (q .asked) (serviceOf operation)) (outcome 26 (serviceOf operation))
+    (cond (eqb kind 0) (outcome 23 (serviceOf operation))
     (judgeFigure phase final (serviceOf operation) kind total)))
 
 -- a result fits S if it is a list or a special arrangement, D and E if it is NULL
 abbrev pub fits : ℕ → ℕ → Bool
-fits s kind = if_then_else (eqb s S) (eqb kind 4 || eqb kind 5) (eqb kind 0)
+fits s kind = cond (eqb s S) (eqb kind 4 || eqb kind 5) (eqb kind 0)
 
 -- return result: 30 if no pending request has its identifier; 24 if it fits; else 31
 abbrev pub judgeResult : ℕ → ℕ → Outcome
-judgeResult s kind = if_then_else (eqb s 0) (bare 30) (if_then_else (fits s kind) (outcome 24 s) (outcome 31 s))
+judgeResult s kind = cond (eqb s 0) (bare 30) (cond (fits s kind) (outcome 24 s) (outcome 31 s))
 
 -- return error or reject: 25 on a pending request's identifier, else (NULL too) 30
 abbrev pub judgeFailure : ℕ → Outcome
-judgeFailure s = if_then_else (eqb s 0) (bare 30) (outcome 25 s)
+judgeFailure s = cond (eqb s 0) (bare 30) (outcome 25 s)
 
 -- frames: 1 invoke, 2 return result, 3 return error, 4 reject
 unfoldable pub judgeFrame : ℕ → Requests → (ℕ → Outcome) → ℕ → ℕ → ℕ → ℕ → ℕ → ℕ → Outcome
 judgeFrame phase q final frame operation unnamed id kind total =
-    if_then_else (eqb frame 1) (judgeInvoke phase q final operation kind total)
-    (if_then_else (eqb frame 2) (judgeResult (holderOf q id) kind)
-    (if_then_else (eqb unnamed 1) (bare 30) (judgeFailure (holderOf q id))))
+    cond (eqb frame 1) (judgeInvoke phase q final operation kind total)
+    (cond (eqb frame 2) (judgeResult (holderOf q id) kind)
+    (cond (eqb unnamed 1) (bare 30) (judgeFailure (holderOf q id))))
 
 abbrev pub judgeRecord : ℕ → Requests → (ℕ → Outcome) → Record → Outcome
 judgeRecord phase q final c =
@@ -191,7 +190,7 @@ judgeRecord phase q final c =
 -- a decoding refusal is the event's
 abbrev pub judgeAnswer : Known → Answer → Outcome
 judgeAnswer k r =
-    if_then_else (eqb (r .number) 0)
+    cond (eqb (r .number) 0)
     (judgeRecord (k .phase) (k .pending) (λ s. finalOf (firstOf k s) (r .value .charge) s) (r .value))
     (bare (r .number))
 
@@ -199,7 +198,7 @@ judgeAnswer k r =
 
 unfoldable pub judge : Known → Event → List ℕ → Outcome
 judge k e o =
-    if_then_else (allowed (e .kind) (k .phase))
-    (if_then_else (eqb (e .kind) component) (judgeAnswer k (readOf o))
-    (if_then_else (eqb (e .kind) setup && clashes e) (bare 13) (bare 0)))
+    cond (allowed (e .kind) (k .phase))
+    (cond (eqb (e .kind) component) (judgeAnswer k (readOf o))
+    (cond (eqb (e .kind) setup && clashes e) (bare 13) (bare 0)))
     (bare 14)

@@ -1,9 +1,8 @@
 -- What the step does to an account, whatever its values are.
 use Prim.Native.Nat.{ℕ}
 use mathlib.Core.List.{List, [], _∷_}
-use mathlib.Core.Bool.{Bool, not, _||_}
+use mathlib.Core.Bool.{Bool, not, _||_, cond}
 use lib.Dec.{eqb}
-use Rattle.coding.specs.Reader.{if_then_else}
 use Rattle.types.specs.declared.Charge.{Charge}
 use Rattle.types.specs.declared.Answer.{Answer}
 use Rattle.types.specs.Arguments.{noCharge}
@@ -42,13 +41,13 @@ abbrev pub moved : Status → Event → Status
 moved t e = record {
   phase = leadsTo (e .kind) (t .phase);
   asked = record {
-    s = if_then_else (eqb (e .kind) setup) (request S e .mark) (t .asked .s);
-    d = if_then_else (eqb (e .kind) setup) (request D e .mark) (t .asked .d);
-    e = if_then_else (eqb (e .kind) setup) (request E e .mark) (t .asked .e);
+    s = cond (eqb (e .kind) setup) (request S e .mark) (t .asked .s);
+    d = cond (eqb (e .kind) setup) (request D e .mark) (t .asked .d);
+    e = cond (eqb (e .kind) setup) (request E e .mark) (t .asked .e);
   };
-  s = if_then_else (eqb (e .kind) setup) (request S e .id) (t .s);
-  d = if_then_else (eqb (e .kind) setup) (request D e .id) (t .d);
-  e = if_then_else (eqb (e .kind) setup) (request E e .id) (t .e);
+  s = cond (eqb (e .kind) setup) (request S e .id) (t .s);
+  d = cond (eqb (e .kind) setup) (request D e .id) (t .d);
+  e = cond (eqb (e .kind) setup) (request E e .id) (t .e);
   absent = t .absent;
   conflict = t .conflict;
 }
@@ -62,32 +61,32 @@ abbrev pub noted : Status → Outcome → Status
 noted t r = record {
   phase = t .phase;
   asked = record {
-    s = if_then_else (settles S r) 0 (t .asked .s);
-    d = if_then_else (settles D r) 0 (t .asked .d);
-    e = if_then_else (settles E r) 0 (t .asked .e);
+    s = cond (settles S r) 0 (t .asked .s);
+    d = cond (settles D r) 0 (t .asked .d);
+    e = cond (settles E r) 0 (t .asked .e);
   };
-  s = if_then_else (settles S r) 0 (t .s);
-  d = if_then_else (settles D r) 0 (t .d);
-  e = if_then_else (settles E r) 0 (t .e);
-  absent = if_then_else (was 23 r) (with (t .absent) (r .service)) (t .absent);
-  conflict = if_then_else (was 29 r) (with (t .conflict) (r .service)) (t .conflict);
+  s = cond (settles S r) 0 (t .s);
+  d = cond (settles D r) 0 (t .d);
+  e = cond (settles E r) 0 (t .e);
+  absent = cond (was 23 r) (with (t .absent) (r .service)) (t .absent);
+  conflict = cond (was 29 r) (with (t .conflict) (r .service)) (t .conflict);
 }
 
 abbrev pub kept : Account → Status → Outcome → Charge → Account
 kept a t r c = record {
   status = t;
-  rate = if_then_else (was 20 r || its S 24 r) c (a .rate);
-  running = if_then_else (was 21 r) c (a .running);
-  dfinal = if_then_else (its D 22 r) c (a .dfinal);
-  efinal = if_then_else (its E 22 r) c (a .efinal);
+  rate = cond (was 20 r || its S 24 r) c (a .rate);
+  running = cond (was 21 r) c (a .running);
+  dfinal = cond (its D 22 r) c (a .dfinal);
+  efinal = cond (its E 22 r) c (a .efinal);
 }
 
 -- ---- the step
 
 abbrev pub after : Account → Event → Charge → Outcome → Account
 after a e c r =
-    if_then_else (eqb (e .kind) component) (kept a (noted (a .status) r) r c)
-    (if_then_else (was 0 r) (withStatus a (moved (a .status) e)) a)
+    cond (eqb (e .kind) component) (kept a (noted (a .status) r) r c)
+    (cond (was 0 r) (withStatus a (moved (a .status) e)) a)
 
 abbrev pub stepped : Outcome → Account → Stepped
 stepped r a = record { outcome = r; account = a }
@@ -104,21 +103,21 @@ taken a x =
 
 -- a final that is claimed (22) is compared with the first one
 abbrev pub resolved : Account → Outcome → Charge → Outcome
-resolved a r c = if_then_else (was 22 r) (finalOf (firstOf (knownOf a) (r .service)) c (r .service)) r
+resolved a r c = cond (was 22 r) (finalOf (firstOf (knownOf a) (r .service)) c (r .service)) r
 
 -- 1 the rate, 2 the running figure, 3 the final of D, 4 the final of E; 0 nowhere
 abbrev pub placeOf : Outcome → ℕ
 placeOf r =
-    if_then_else (was 20 r || its S 24 r) 1
-    (if_then_else (was 21 r) 2 (if_then_else (its D 22 r) 3 (if_then_else (its E 22 r) 4 0)))
+    cond (was 20 r || its S 24 r) 1
+    (cond (was 21 r) 2 (cond (its D 22 r) 3 (cond (its E 22 r) 4 0)))
 
 abbrev pub put : Account → Change → Account
 put a w = record {
   status = w .status;
-  rate = if_then_else (eqb (w .place) 1) (w .charge) (a .rate);
-  running = if_then_else (eqb (w .place) 2) (w .charge) (a .running);
-  dfinal = if_then_else (eqb (w .place) 3) (w .charge) (a .dfinal);
-  efinal = if_then_else (eqb (w .place) 4) (w .charge) (a .efinal);
+  rate = cond (eqb (w .place) 1) (w .charge) (a .rate);
+  running = cond (eqb (w .place) 2) (w .charge) (a .running);
+  dfinal = cond (eqb (w .place) 3) (w .charge) (a .dfinal);
+  efinal = cond (eqb (w .place) 4) (w .charge) (a .efinal);
 }
 
 abbrev pub changed : Account → Change → Stepped
@@ -141,9 +140,9 @@ isGiven c = not (eqb (c .figure .kind) 0)
 
 abbrev pub closingOf : Account → Closing
 closingOf a =
-    if_then_else (eqb (a .status .phase) ended)
-    (if_then_else (isGiven (a .efinal)) (record { service = E; value = a .efinal })
-    (if_then_else (isGiven (a .dfinal)) (record { service = D; value = a .dfinal }) noClosing))
+    cond (eqb (a .status .phase) ended)
+    (cond (isGiven (a .efinal)) (record { service = E; value = a .efinal })
+    (cond (isGiven (a .dfinal)) (record { service = D; value = a .dfinal }) noClosing))
     noClosing
 
 abbrev pub marksOf : Account → Marks

@@ -3,7 +3,7 @@
 use Prim.Native.Nat.{ℕ, suc, _+_}
 use mathlib.Core.Path.{_≡_, refl, sym, ap, ap₂, _∙_, subst}
 use mathlib.Core.List.{List, [], _∷_, _++_}
-use mathlib.Core.Bool.{Bool, true, false, not, _&&_, _||_, true≢false}
+use mathlib.Core.Bool.{Bool, true, false, not, _&&_, _||_, true≢false, cond}
 use mathlib.Core.Logic.{_⊎_, inl, inr}
 use native.Mathlib.Omega.{arith}
 use native.Mathlib.Numerals.{add-one}
@@ -12,7 +12,7 @@ use lib.ListN.{length, take, drop}
 use lib.Seq.{drop-cons}
 use lib.Dec.{eqb}
 use borrow.Author.Tests.{eqb-true}
-use Rattle.coding.specs.Reader.{Ans, Fault, got, halt, if_then_else, after}
+use Rattle.coding.specs.Reader.{Ans, Fault, got, halt, after}
 use Rattle.coding.specs.Codec.{Holds, has, apart}
 
 -- ---- answers
@@ -26,15 +26,15 @@ never e = subst isGot (sym e) tt
 
 module _ {A : Type 0} where
   -- a value is read only where the test passes
-  pub passing : (t : Bool) (r : Ans A) (k : Fault) (p : ℕ) {a : A} {n : ℕ} → if_then_else t r (halt k p) ≡ got a n → (t ≡ true) × (r ≡ got a n)
+  pub passing : (t : Bool) (r : Ans A) (k : Fault) (p : ℕ) {a : A} {n : ℕ} → cond t r (halt k p) ≡ got a n → (t ≡ true) × (r ≡ got a n)
   passing true r k p e = (refl, e)
   passing false r k p e = absurd (never e)
 
-  pub failing : (t : Bool) (k : Fault) (p : ℕ) (r : Ans A) {a : A} {n : ℕ} → if_then_else t (halt k p) r ≡ got a n → (t ≡ false) × (r ≡ got a n)
+  pub failing : (t : Bool) (k : Fault) (p : ℕ) (r : Ans A) {a : A} {n : ℕ} → cond t (halt k p) r ≡ got a n → (t ≡ false) × (r ≡ got a n)
   failing true k p r e = absurd (never e)
   failing false k p r e = (refl, e)
 
-  pub either-way : (t : Bool) (r q : Ans A) {a : A} {n : ℕ} → if_then_else t r q ≡ got a n → ((t ≡ true) × (r ≡ got a n)) ⊎ ((t ≡ false) × (q ≡ got a n))
+  pub either-way : (t : Bool) (r q : Ans A) {a : A} {n : ℕ} → cond t r q ≡ got a n → ((t ≡ true) × (r ≡ got a n)) ⊎ ((t ≡ false) × (q ≡ got a n))
   either-way true r q e = inl (refl, e)
   either-way false r q e = inr (refl, e)
 
@@ -52,11 +52,11 @@ module _ {A : Type 0} where
   pub same-got : (P : A → ℕ → Type 0) {a b : A} {n m : ℕ} → got a n ≡ got b m → P a n → P b m
   same-got P e p = subst (onGot P) e p
 
-  pub picked : {t : Bool} (x y : A) → t ≡ true → if_then_else t x y ≡ x
-  picked x y e = ap (λ t. if_then_else t x y) e
+  pub picked : {t : Bool} (x y : A) → t ≡ true → cond t x y ≡ x
+  picked x y e = ap (λ t. cond t x y) e
 
-  pub unpicked : {t : Bool} (x y : A) → t ≡ false → if_then_else t x y ≡ y
-  unpicked x y e = ap (λ t. if_then_else t x y) e
+  pub unpicked : {t : Bool} (x y : A) → t ≡ false → cond t x y ≡ y
+  unpicked x y e = ap (λ t. cond t x y) e
 
   pub followed : {B : Type 0} {r : Ans A} (k : A → ℕ → Ans B) {a : A} {n : ℕ} → r ≡ got a n → after r k ≡ k a n
   unfolding after

@@ -3,7 +3,7 @@
 use Prim.Native.Nat.{ℕ, zero, suc, _+_, _-_, _≤_, _<_}
 use mathlib.Core.Path.{_≡_, refl, sym, ap, _∙_, subst, subst₂}
 use mathlib.Core.List.{List, [], _∷_, _++_}
-use mathlib.Core.Bool.{Bool, true, false, not, _&&_, _||_, true≢false}
+use mathlib.Core.Bool.{Bool, true, false, not, _&&_, _||_, true≢false, cond}
 use mathlib.Core.Logic.{_⊎_, inl, inr}
 use mathlib.Core.Option.{Option, none, some}
 use native.Mathlib.Omega.{arith}
@@ -11,7 +11,7 @@ use lib.ListN.{length, getD, take, drop, length-append, length-take, List·getD-
 use lib.Seq.{getD-take, getD-drop}
 use lib.Dec.{ltb, leb, eqb}
 use borrow.Author.Tests.{ltb-true, ltb-false, leb-true, leb-false, eqb-true, lt-ltb, le-leb, lt-leb, eq-eqb}
-use Rattle.coding.specs.Reader.{got, if_then_else, tagged, choice, opened, closed, constructed, Judged, judged, part, primitive, optional, entries, listOf}
+use Rattle.coding.specs.Reader.{got, tagged, choice, opened, closed, constructed, Judged, judged, part, primitive, optional, entries, listOf}
 use Rattle.coding.specs.Codec.{lengthOctets, Opens, Holds, has, apart, Leaf, Run, prim, cons, nothing, pair, eitherMeans, alt, over, writeAll, all, MeansAll, some·more, maybe, MeansMaybe}
 use Rattle.coding.proofs.Basic.{never, passing, failing, either-way, chain, same-got, picked, unpicked, followed, and-left, and-right, and-both, or-left, or-right, or-no, or-false, has-left, has-right, apart-has, holds-left, holds-right, holds-part}
 use Rattle.coding.specs.declared.Extent.{Extent}
@@ -74,16 +74,16 @@ module _ {A B : Type 0} (f : Run A) (g : Run B) (F : RunLaws f) (G : RunLaws g) 
       mn : m ≤ n
       mn = forward G s m n (x .1) v
 
-      some : (a < m) × (has (f .first) (getD s a 0) ≡ true) → (a < n) × (has (f .first ++ if_then_else (f .empty) (g .first) []) (getD s a 0) ≡ true)
-      some h = (omega (arith, h .0, mn), has-left (f .first) (if_then_else (f .empty) (g .first) []) (getD s a 0) (h .1))
+      some : (a < m) × (has (f .first) (getD s a 0) ≡ true) → (a < n) × (has (f .first ++ cond (f .empty) (g .first) []) (getD s a 0) ≡ true)
+      some h = (omega (arith, h .0, mn), has-left (f .first) (cond (f .empty) (g .first) []) (getD s a 0) (h .1))
 
       none : (a ≡ m) × (f .empty ≡ true) → ((m < n) × (has (g .first) (getD s m 0) ≡ true)) ⊎ ((m ≡ n) × (g .empty ≡ true))
-          → ((a < n) × (has (f .first ++ if_then_else (f .empty) (g .first) []) (getD s a 0) ≡ true)) ⊎ ((a ≡ n) × (f .empty && g .empty ≡ true))
+          → ((a < n) × (has (f .first ++ cond (f .empty) (g .first) []) (getD s a 0) ≡ true)) ⊎ ((a ≡ n) × (f .empty && g .empty ≡ true))
       none h (inl k) =
           inl (
             omega (arith, h .0, k .0),
-            has-right (f .first) (if_then_else (f .empty) (g .first) []) (getD s a 0)
-                (subst (λ (b : Bool). has (if_then_else b (g .first) []) (getD s a 0) ≡ true) (sym (h .1))
+            has-right (f .first) (cond (f .empty) (g .first) []) (getD s a 0)
+                (subst (λ (b : Bool). has (cond b (g .first) []) (getD s a 0) ≡ true) (sym (h .1))
                 (subst (λ (j : ℕ). has (g .first) (getD s j 0) ≡ true) (sym (h .0)) (k .1))),
           )
       none h (inr k) = inr (h .0 ∙ k .0, and-both (f .empty) (g .empty) (h .1) (k .1))

@@ -3,14 +3,14 @@
 use Prim.Native.Nat.{ℕ, _+_, _≤_, _<_}
 use mathlib.Core.Path.{_≡_, refl, sym, ap, _∙_, subst}
 use mathlib.Core.List.{List}
-use mathlib.Core.Bool.{true, false, not, _||_}
+use mathlib.Core.Bool.{true, false, not, _||_, cond}
 use mathlib.Core.Logic.{inl}
 use native.Mathlib.Omega.{arith}
 use lib.ListN.{getD}
 use lib.Dec.{leb, eqb}
 use borrow.Author.Tests.{leb-true, leb-false, lt-leb, le-leb, eqb-true, eq-eqb, ne-eqb}
 use Rattle.coding.specs.declared.Extent.{Extent}
-use Rattle.coding.specs.Reader.{Ans, Fault, got, halt, if_then_else, code, after, choice, blamed, lengthAt, opened, enteredAny, closed, constructed, has}
+use Rattle.coding.specs.Reader.{Ans, Fault, got, halt, code, after, choice, blamed, lengthAt, opened, enteredAny, closed, constructed, has}
 use Rattle.coding.specs.Reader.Fault.{missing, unexpected}
 use Rattle.coding.specs.Codec.{Run, Opens, cons, frames}
 use Rattle.coding.specs.Shown.{shown}
@@ -24,11 +24,11 @@ use Rattle.coding.proofs.Reading.{some-code}
 module _ (tags : List ℕ) (m : Fault → Fault) (w : Fault) (s : List ℕ) (a e : ℕ) where
   -- where the tag is one of the list its length octets decide
   any-opens : a < e → has tags (getD s a 0) ≡ true → (z : Ans Extent) → lengthAt a s (a + 1) e ≡ z
-      → enteredAny tags m w s a e ≡ after (blamed m z) (λ x next. if_then_else (eqb next e) (got x next) (halt w next))
+      → enteredAny tags m w s a e ≡ after (blamed m z) (λ x next. cond (eqb next e) (got x next) (halt w next))
   unfolding enteredAny
   any-opens h t z q =
       unpicked _ _ (lt-leb e a h) ∙ picked _ _ t
-      ∙ ap (λ r. after (blamed m r) (λ x next. if_then_else (eqb next e) (got x next) (halt w next))) q
+      ∙ ap (λ r. after (blamed m r) (λ x next. cond (eqb next e) (got x next) (halt w next))) q
 
   -- and it is opened as that tag alone would be
   opens-one : a < e → opened (getD s a 0) s a e ≡ lengthAt a s (a + 1) e
@@ -105,7 +105,7 @@ module _ {B : Type 0} (tags : List ℕ) (m : Fault → Fault) (w : Fault) (s : L
       go (lengthAt a s (a + 1) e) refl q ∙ ap (λ r. shown y (after r k)) (sym (any-opens tags m w s a e h t (lengthAt a s (a + 1) e) refl))
     where
       go : (r : Ans Extent) → lengthAt a s (a + 1) e ≡ r → (j, p, x, n) ≡ shown z r
-          → (recode j, p, y, 0) ≡ shown y (after (after (blamed m r) (λ x next. if_then_else (eqb next e) (got x next) (halt w next))) k)
+          → (recode j, p, y, 0) ≡ shown y (after (after (blamed m r) (λ x next. cond (eqb next e) (got x next) (halt w next))) k)
       go (got v' n') l g = absurd (j0 (ap (λ u. u .0) g))
       go (halt v p') l g = ap (λ u. (recode (u .0), u .1, y, 0)) g ∙ ap (λ i. (i, p', y, 0)) (same v)
 
@@ -116,7 +116,7 @@ module _ {B : Type 0} (tags : List ℕ) (m : Fault → Fault) (w : Fault) (s : L
       go (lengthAt a s (a + 1) e) refl q ∙ ap (λ r. shown y (after r k)) (sym (any-opens tags m w s a e h t (lengthAt a s (a + 1) e) refl))
     where
       go : (r : Ans Extent) → lengthAt a s (a + 1) e ≡ r → (j, p, x, n) ≡ shown z r
-          → (code w, n, y, 0) ≡ shown y (after (after (blamed m r) (λ x next. if_then_else (eqb next e) (got x next) (halt w next))) k)
+          → (code w, n, y, 0) ≡ shown y (after (after (blamed m r) (λ x next. cond (eqb next e) (got x next) (halt w next))) k)
       go (got v' n') l g =
           let i : n ≡ n' = ap (λ u. u .3) g in
           let no : n' ≡ e → ⊥ = λ o. ne (i ∙ o) in
@@ -130,7 +130,7 @@ module _ {B : Type 0} (tags : List ℕ) (m : Fault → Fault) (w : Fault) (s : L
       go (lengthAt a s (a + 1) e) refl q ∙ ap (λ r. shown y (after r k)) (sym (any-opens tags m w s a e h b (lengthAt a s (a + 1) e) refl))
     where
       go : (v : Ans Extent) → lengthAt a s (a + 1) e ≡ v → (j, p, x, n) ≡ shown z v
-          → t ≡ shown y (after (after (blamed m v) (λ x next. if_then_else (eqb next e) (got x next) (halt w next))) k)
+          → t ≡ shown y (after (after (blamed m v) (λ x next. cond (eqb next e) (got x next) (halt w next))) k)
       go (got v' n') l g =
           let i : n ≡ n' = ap (λ u. u .3) g in
           let eq : n' ≡ e = sym i ∙ ne in

@@ -3,14 +3,14 @@
 use Prim.Native.Nat.{ℕ, suc, _+_, _-_, _*_, _/_, _%_, _≤_, _<_}
 use mathlib.Core.Path.{_≡_, refl, sym, ap, _∙_, subst, subst₂}
 use mathlib.Core.List.{List, [], _∷_, _++_}
-use mathlib.Core.Bool.{Bool, true, false, true≢false}
+use mathlib.Core.Bool.{Bool, true, false, true≢false, cond}
 use mathlib.Core.Logic.{inl, inr}
 use native.Mathlib.Omega.{arith}
 use lib.ListN.{length, getD, length-append}
 use lib.Dec.{ltb, leb, eqb}
 use borrow.Author.Tests.{ltb-true, ltb-false, leb-true, eqb-true, lt-ltb, le-ltb, le-leb, lt-leb, eq-eqb, ne-eqb}
 use Rattle.coding.specs.declared.Extent.{Extent}
-use Rattle.coding.specs.Reader.{Ans, got, if_then_else, tagged, neither, choice, extent, lengthAt, opened}
+use Rattle.coding.specs.Reader.{Ans, got, tagged, neither, choice, extent, lengthAt, opened}
 use Rattle.coding.specs.Codec.{LengthForm, short, one, two, lengthOctets, Opens, Holds}
 use Rattle.coding.proofs.Basic.{never, passing, failing, either-way, same-got, picked, unpicked, holds-left, holds-right}
 use Rattle.coding.proofs.Laws.{Octets}
@@ -25,7 +25,7 @@ pub tagged-is : (s : List ℕ) (a e tag : ℕ) → tagged s a e tag ≡ true →
 unfolding tagged
 tagged-is s a e tag h = go (ltb a e) refl h
   where
-    go : (t : Bool) → ltb a e ≡ t → if_then_else t (eqb (getD s a 0) tag) false ≡ true → (a < e) × (getD s a 0 ≡ tag)
+    go : (t : Bool) → ltb a e ≡ t → cond t (eqb (getD s a 0) tag) false ≡ true → (a < e) × (getD s a 0 ≡ tag)
     go true q r = (ltb-true a e q, eqb-true (getD s a 0) tag r)
     go false q r = absurd (true≢false (sym r))
 
@@ -99,8 +99,8 @@ unfolding lengthOctets
 length-written s p k b h = go (ltb k 128) refl (ltb k 256) refl h
   where
     go : (t : Bool) → ltb k 128 ≡ t → (u : Bool) → ltb k 256 ≡ u
-        → Holds s p (if_then_else t (k ∷ []) (if_then_else u (129 ∷ k ∷ []) (130 ∷ k / 256 ∷ k % 256 ∷ [])))
-        → LengthForm s p k (p + length (if_then_else t (k ∷ []) (if_then_else u (129 ∷ k ∷ []) (130 ∷ k / 256 ∷ k % 256 ∷ []))))
+        → Holds s p (cond t (k ∷ []) (cond u (129 ∷ k ∷ []) (130 ∷ k / 256 ∷ k % 256 ∷ [])))
+        → LengthForm s p k (p + length (cond t (k ∷ []) (cond u (129 ∷ k ∷ []) (130 ∷ k / 256 ∷ k % 256 ∷ []))))
     go true q u r h = short (omega (arith, ltb-true k 128 q, h .1)) (h .1) refl
     go false q true r h = one (h .1) (h .2 .1) refl
     go false q false r h =
@@ -115,7 +115,7 @@ unfolding lengthOctets
 length-shortest s p n c m os le f = go (ltb m 128) refl (ltb m 256) refl f
   where
     go : (t : Bool) → ltb m 128 ≡ t → (u : Bool) → ltb m 256 ≡ u → LengthForm s p n c
-        → p + length (if_then_else t (m ∷ []) (if_then_else u (129 ∷ m ∷ []) (130 ∷ m / 256 ∷ m % 256 ∷ []))) ≤ c
+        → p + length (cond t (m ∷ []) (cond u (129 ∷ m ∷ []) (130 ∷ m / 256 ∷ m % 256 ∷ []))) ≤ c
     go true q u r f = omega (arith, length-forward f)
     go false q true r (short l x y) = absurd (omega (arith, ltb-false m 128 q))
     go false q true r (one l x y) = omega arith

@@ -3,12 +3,12 @@
 use Prim.Native.Nat.{ℕ, _+_, _*_, _/_, _%_, _≤_, _<_}
 use mathlib.Core.Path.{_≡_, refl, sym, ap, ap₂, _∙_, subst}
 use mathlib.Core.List.{List, [], _∷_}
-use mathlib.Core.Bool.{Bool, true, false, _&&_}
+use mathlib.Core.Bool.{Bool, true, false, _&&_, cond}
 use native.Mathlib.Omega.{arith}
 use lib.ListN.{length}
 use lib.Dec.{ltb, leb, eqb}
 use borrow.Author.Tests.{ltb-true, ltb-false, leb-true, leb-false, eqb-true, eqb-false, lt-ltb, le-ltb, le-leb, lt-leb}
-use Rattle.coding.specs.Reader.{if_then_else, Fault, Judged}
+use Rattle.coding.specs.Reader.{Fault, Judged}
 use Rattle.coding.specs.Contents.{shortest, every, text, null}
 use Rattle.coding.specs.Leaves.{string, nullLeaf, signed16, identifier}
 use Rattle.coding.proofs.Basic.{picked, unpicked, and-left, and-right, and-both}
@@ -46,12 +46,12 @@ nullLaws = record {
 -- ---- identifiers
 
 abbrev octetsOf : ℕ → List ℕ
-octetsOf p = if_then_else (ltb p 0x80) (p ∷ []) (if_then_else (leb 0xff80 p) (p % 256 ∷ []) (p / 256 ∷ p % 256 ∷ []))
+octetsOf p = cond (ltb p 0x80) (p ∷ []) (cond (leb 0xff80 p) (p % 256 ∷ []) (p / 256 ∷ p % 256 ∷ []))
 
-one-octet : (x : ℕ) → x < 256 → (octetsOf (if_then_else (ltb x 0x80) x (0xff00 + x)) ≡ x ∷ []) × (if_then_else (ltb x 0x80) x (0xff00 + x) < 0x10000)
+one-octet : (x : ℕ) → x < 256 → (octetsOf (cond (ltb x 0x80) x (0xff00 + x)) ≡ x ∷ []) × (cond (ltb x 0x80) x (0xff00 + x) < 0x10000)
 one-octet x h = go (ltb x 0x80) refl
   where
-    go : (t : Bool) → ltb x 0x80 ≡ t → (octetsOf (if_then_else t x (0xff00 + x)) ≡ x ∷ []) × (if_then_else t x (0xff00 + x) < 0x10000)
+    go : (t : Bool) → ltb x 0x80 ≡ t → (octetsOf (cond t x (0xff00 + x)) ≡ x ∷ []) × (cond t x (0xff00 + x) < 0x10000)
     go true q = (picked _ _ q, omega (arith, h))
     go false q = (
       unpicked _ _ (le-ltb (0xff00 + x) 0x80 (omega arith)) ∙ picked _ _ (le-leb 0xff80 (0xff00 + x) (omega (arith, ltb-false x 0x80 q)))
@@ -64,7 +64,7 @@ two-octets : (x y : ℕ) → x < 256 → y < 256 → shortest (x ∷ y ∷ []) �
 unfolding shortest
 two-octets x y hx hy s = go (eqb x 0) refl (eqb x 0xff) refl s
   where
-    go : (t : Bool) → eqb x 0 ≡ t → (u : Bool) → eqb x 0xff ≡ u → if_then_else t (leb 0x80 y) (if_then_else u (ltb y 0x80) true) ≡ true → (0x80 ≤ x * 256 + y) × (x * 256 + y < 0xff80)
+    go : (t : Bool) → eqb x 0 ≡ t → (u : Bool) → eqb x 0xff ≡ u → cond t (leb 0x80 y) (cond u (ltb y 0x80) true) ≡ true → (0x80 ≤ x * 256 + y) × (x * 256 + y < 0xff80)
     go true q u r z = omega (arith, eqb-true x 0 q, leb-true 0x80 y z, hy)
     go false q true r z = omega (arith, eqb-true x 0xff r, ltb-true y 0x80 z)
     go false q false r z = omega (arith, eqb-false x 0 q, eqb-false x 0xff r, hx, hy)
@@ -73,7 +73,7 @@ two-back : (p : ℕ) → 0x80 ≤ p → p < 0xff80 → shortest (p / 256 ∷ p %
 unfolding shortest
 two-back p l h = go (eqb (p / 256) 0) refl (eqb (p / 256) 0xff) refl
   where
-    go : (t : Bool) → eqb (p / 256) 0 ≡ t → (u : Bool) → eqb (p / 256) 0xff ≡ u → if_then_else t (leb 0x80 (p % 256)) (if_then_else u (ltb (p % 256) 0x80) true) ≡ true
+    go : (t : Bool) → eqb (p / 256) 0 ≡ t → (u : Bool) → eqb (p / 256) 0xff ≡ u → cond t (leb 0x80 (p % 256)) (cond u (ltb (p % 256) 0x80) true) ≡ true
     go true q u r = le-leb 0x80 (p % 256) (omega (arith, eqb-true (p / 256) 0 q, l))
     go false q true r = lt-ltb (p % 256) 0x80 (omega (arith, eqb-true (p / 256) 0xff r, h))
     go false q false r = refl
@@ -83,7 +83,7 @@ unfolding signed16
 identifier-sound [] p os r = absurd (unfit r)
 identifier-sound (x ∷ []) p os r =
     let o = one-octet x (os 0) in
-    let e : if_then_else (ltb x 0x80) x (0xff00 + x) ≡ p = cc r in
+    let e : cond (ltb x 0x80) x (0xff00 + x) ≡ p = cc r in
     (sym (o .0) ∙ ap octetsOf e, ap (λ (q : ℕ). ltb q 0x10000) (sym e) ∙ lt-ltb _ 0x10000 (o .1))
 identifier-sound (x ∷ y ∷ []) p os r =
     let j = judged-pass (shortest (x ∷ y ∷ [])) _ _ r in
@@ -95,7 +95,7 @@ identifier-sound (x ∷ y ∷ []) p os r =
     (sym back ∙ ap octetsOf e, ap (λ (q : ℕ). ltb q 0x10000) (sym e) ∙ lt-ltb (x * 256 + y) 0x10000 (omega (arith, b .1)))
 identifier-sound (x ∷ y ∷ z ∷ zs) p os r = absurd (unfit (judged-fail' (shortest (x ∷ y ∷ z ∷ zs)) r))
   where
-    judged-fail' : (t : Bool) → if_then_else t (Judged.bad Fault.contents) (Judged.bad Fault.shortest) ≡ Judged.good p → Judged.bad Fault.shortest ≡ Judged.good p
+    judged-fail' : (t : Bool) → cond t (Judged.bad Fault.contents) (Judged.bad Fault.shortest) ≡ Judged.good p → Judged.bad Fault.shortest ≡ Judged.good p
     judged-fail' true e = absurd (unfit e)
     judged-fail' false e = e
 
@@ -104,7 +104,7 @@ unfolding signed16
 identifier-complete p h = go (ltb p 0x80) refl (leb 0xff80 p) refl
   where
     go : (t : Bool) → ltb p 0x80 ≡ t → (u : Bool) → leb 0xff80 p ≡ u
-        → signed16 (if_then_else t (p ∷ []) (if_then_else u (p % 256 ∷ []) (p / 256 ∷ p % 256 ∷ []))) ≡ Judged.good p
+        → signed16 (cond t (p ∷ []) (cond u (p % 256 ∷ []) (p / 256 ∷ p % 256 ∷ []))) ≡ Judged.good p
     go true q u r = ap Judged.good (picked p (0xff00 + p) q)
     go false q true r =
         let l = leb-true 0xff80 p r in

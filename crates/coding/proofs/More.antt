@@ -4,14 +4,14 @@
 use Prim.Native.Nat.{ℕ, _+_, _≤_, _<_}
 use mathlib.Core.Path.{_≡_, refl, sym, ap, _∙_, subst}
 use mathlib.Core.List.{List, [], _∷_}
-use mathlib.Core.Bool.{Bool, true, false, not, _&&_, _||_, true≢false}
+use mathlib.Core.Bool.{Bool, true, false, not, _&&_, _||_, true≢false, cond}
 use mathlib.Core.Logic.{_⊎_, inl, inr}
 use mathlib.Core.Option.{Option, none, some}
 use native.Mathlib.Omega.{arith}
 use lib.ListN.{length, getD, length-append}
 use lib.Dec.{ltb, leb, eqb}
 use borrow.Author.Tests.{ltb-true, leb-true, le-leb, le-ltb, eqb-true}
-use Rattle.coding.specs.Reader.{Ans, Fault, got, halt, if_then_else, tagged, choice, blamed, Judged, mapped}
+use Rattle.coding.specs.Reader.{Ans, Fault, got, halt, tagged, choice, blamed, Judged, mapped}
 use Rattle.coding.specs.Contents.{natural, shortest, negative, numberFrom}
 use Rattle.coding.specs.Codec.{Leaf, Run, Holds, has, apart, all, prim, leafOver, marked, sort, leads}
 use Rattle.coding.specs.Leaves.{digits, width, number, listing, listed, isSome, or0, given}
@@ -70,10 +70,10 @@ markedLaws m f F = record {
 
 module _ {A : Type 0} (tag : ℕ) (test : A → Bool) (f g : Run A) (F : RunLaws f) (G : RunLaws g)
     (yes : (x : A) → f .valid x ≡ true → test x ≡ true) (no : (x : A) → g .valid x ≡ true → test x ≡ false) where
-  sort-written : (s : List ℕ) (a : ℕ) (x : A) (t : Bool) → test x ≡ t → if_then_else t (f .valid x) (g .valid x) ≡ true
-      → length (if_then_else t (f .write x) (g .write x)) ≤ 65535 → Holds s a (if_then_else t (f .write x) (g .write x))
-      → ((test x ≡ true) × f .Means x s a (a + length (if_then_else t (f .write x) (g .write x))))
-      ⊎ ((test x ≡ false) × g .Means x s a (a + length (if_then_else t (f .write x) (g .write x))))
+  sort-written : (s : List ℕ) (a : ℕ) (x : A) (t : Bool) → test x ≡ t → cond t (f .valid x) (g .valid x) ≡ true
+      → length (cond t (f .write x) (g .write x)) ≤ 65535 → Holds s a (cond t (f .write x) (g .write x))
+      → ((test x ≡ true) × f .Means x s a (a + length (cond t (f .write x) (g .write x))))
+      ⊎ ((test x ≡ false) × g .Means x s a (a + length (cond t (f .write x) (g .write x))))
   sort-written s a x true q v b h = inl (q, F .written s a x v b h)
   sort-written s a x false q v b h = inr (q, G .written s a x v b h)
 
@@ -104,8 +104,8 @@ module _ {A : Type 0} (tag : ℕ) (test : A → Bool) (f g : Run A) (F : RunLaws
     fine = λ s a n x m. elim m [ inl k ↦ picked _ _ (k .0) ∙ F .fine s a n x (k .1) | inr k ↦ unpicked _ _ (k .0) ∙ G .fine s a n x (k .1) ];
     shortest = λ s a n x os m.
         elim m [
-          | inl k ↦ subst (λ (b : Bool). a + length (if_then_else b (f .write x) (g .write x)) ≤ n) (sym (k .0)) (F .shortest s a n x os (k .1))
-          | inr k ↦ subst (λ (b : Bool). a + length (if_then_else b (f .write x) (g .write x)) ≤ n) (sym (k .0)) (G .shortest s a n x os (k .1))
+          | inl k ↦ subst (λ (b : Bool). a + length (cond b (f .write x) (g .write x)) ≤ n) (sym (k .0)) (F .shortest s a n x os (k .1))
+          | inr k ↦ subst (λ (b : Bool). a + length (cond b (f .write x) (g .write x)) ≤ n) (sym (k .0)) (G .shortest s a n x os (k .1))
         ];
     heads = λ s a n x m.
         elim m [
@@ -175,7 +175,7 @@ width-most : (n : ℕ) → width n ≤ 4
 unfolding width
 width-most n = go (ltb n 0x80) (ltb n 0x8000) (ltb n 0x800000)
   where
-    go : (a b c : Bool) → if_then_else a 1 (if_then_else b 2 (if_then_else c 3 4)) ≤ 4
+    go : (a b c : Bool) → cond a 1 (cond b 2 (cond c 3 4)) ≤ 4
     go true b c = omega arith
     go false true c = omega arith
     go false false true = omega arith
@@ -221,10 +221,10 @@ givenLaws tag low high h =
     fine none = refl
     fine (some k) = refl
 
-    back : (o : Option ℕ) → if_then_else (isSome o) (some (or0 o)) none ≡ o
+    back : (o : Option ℕ) → cond (isSome o) (some (or0 o)) none ≡ o
     back none = refl
     back (some k) = refl
 
-    forth : (b : Bool) (k : ℕ) → b || eqb k 0 ≡ true → _≡_ {A = Chosen} (record { given = isSome (if_then_else b (some k) none); value = or0 (if_then_else b (some k) none) }) (record { given = b; value = k })
+    forth : (b : Bool) (k : ℕ) → b || eqb k 0 ≡ true → _≡_ {A = Chosen} (record { given = isSome (cond b (some k) none); value = or0 (cond b (some k) none) }) (record { given = b; value = k })
     forth true k o = refl
     forth false k o = ap (λ (j : ℕ). record { given = false; value = j }) (sym (eqb-true k 0 o))

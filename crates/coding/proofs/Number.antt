@@ -3,14 +3,14 @@
 use Prim.Native.Nat.{ℕ, zero, suc, _+_, _-_, _*_, _/_, _%_, _^_, _≤_, _<_}
 use mathlib.Core.Path.{_≡_, refl, sym, ap, ap₂, _∙_, subst, subst₂}
 use mathlib.Core.List.{List, [], _∷_}
-use mathlib.Core.Bool.{Bool, true, false, true≢false}
+use mathlib.Core.Bool.{Bool, true, false, true≢false, cond}
 use native.Mathlib.Omega.{arith}
 use native.Mathlib.Nat.{pow-suc, mod-eq-of-lt, mul-le-mul-right, mul-add-div-right, pow-le-pow-right}
 use lib.Arith.{digits-div, digits-lt, mod-mul}
 use lib.ListN.{length}
 use lib.Dec.{ltb, leb, eqb}
 use borrow.Author.Tests.{ltb-true, ltb-false, leb-true, leb-false, eqb-true, eqb-false, lt-ltb, le-ltb, le-leb, lt-leb, ne-eqb}
-use Rattle.coding.specs.Reader.{if_then_else, Fault, Judged}
+use Rattle.coding.specs.Reader.{Fault, Judged}
 use Rattle.coding.specs.Contents.{numberFrom, negative, shortest, natural}
 use Rattle.coding.specs.Leaves.{digits, width, number}
 use Rattle.coding.proofs.Basic.{picked, unpicked, and-left, and-right, and-both}
@@ -114,7 +114,7 @@ least x y xs os h s = go (eqb x 0) refl s
     P : ℕ
     P = 256 ^ length xs
 
-    go : (t : Bool) → eqb x 0 ≡ t → if_then_else t (leb 0x80 y) (if_then_else (eqb x 0xff) (ltb y 0x80) true) ≡ true → 128 * 256 ^ length xs ≤ numberFrom 0 (x ∷ y ∷ xs)
+    go : (t : Bool) → eqb x 0 ≡ t → cond t (leb 0x80 y) (cond (eqb x 0xff) (ltb y 0x80) true) ≡ true → 128 * 256 ^ length xs ≤ numberFrom 0 (x ∷ y ∷ xs)
     go true q r = omega (arith, number-two x y xs, mul-le-mul-right (256 ^ length xs) (leb-true 0x80 y r))
     go false q r =
         let one : 1 ≤ x = omega (arith, eqb-false x 0 q) in
@@ -127,7 +127,7 @@ short x y xs os h s = go (eqb x 0) refl
     hi : eqb x 0xff ≡ false
     hi = ne-eqb x 0xff (λ z. omega (arith, z, h))
 
-    go : (t : Bool) → eqb x 0 ≡ t → if_then_else t (leb 0x80 y) (if_then_else (eqb x 0xff) (ltb y 0x80) true) ≡ true
+    go : (t : Bool) → eqb x 0 ≡ t → cond t (leb 0x80 y) (cond (eqb x 0xff) (ltb y 0x80) true) ≡ true
     go false q = unpicked (ltb y 0x80) true hi
     go true q = le-leb 0x80 y (more (ltb y 0x80) refl)
       where
@@ -214,11 +214,11 @@ module _ {A : Type 0} where
   pub unfit : {w : Fault} {x : A} → Judged.bad w ≡ Judged.good x → ⊥
   unfit e = subst isGood (sym e) tt
 
-  pub judged-pass : (t : Bool) (j : Judged A) (w : Fault) {x : A} → if_then_else t j (Judged.bad w) ≡ Judged.good x → (t ≡ true) × (j ≡ Judged.good x)
+  pub judged-pass : (t : Bool) (j : Judged A) (w : Fault) {x : A} → cond t j (Judged.bad w) ≡ Judged.good x → (t ≡ true) × (j ≡ Judged.good x)
   judged-pass true j w e = (refl, e)
   judged-pass false j w e = absurd (unfit e)
 
-  pub judged-fail : (t : Bool) (w : Fault) (j : Judged A) {x : A} → if_then_else t (Judged.bad w) j ≡ Judged.good x → (t ≡ false) × (j ≡ Judged.good x)
+  pub judged-fail : (t : Bool) (w : Fault) (j : Judged A) {x : A} → cond t (Judged.bad w) j ≡ Judged.good x → (t ≡ false) × (j ≡ Judged.good x)
   judged-fail true w j e = absurd (unfit e)
   judged-fail false w j e = (refl, e)
 
@@ -243,7 +243,7 @@ numberLaws low high hh = record {
       let e : numberFrom 0 xs ≡ n = number-digits (width n) n ∙ mod-eq-of-lt (small n lt) in
       let f = fits xs (octets-digits (width n) n) (subst (λ (m : ℕ). m < 0x80000000) (sym e) lt) (length-digits (width n) n ∙ ap width (sym e)) in
       picked _ _ (f .0) ∙ unpicked _ _ (f .1)
-      ∙ ap (λ (m : ℕ). if_then_else (leb low m) (if_then_else (leb m high) (Judged.good m) (Judged.bad Fault.contents)) (Judged.bad Fault.contents)) e
+      ∙ ap (λ (m : ℕ). cond (leb low m) (cond (leb m high) (Judged.good m) (Judged.bad Fault.contents)) (Judged.bad Fault.contents)) e
       ∙ picked _ _ l ∙ picked _ _ h;
 }
   where

@@ -2,9 +2,8 @@
 -- Assumes nothing.
 use Prim.Native.Nat.{ℕ}
 use mathlib.Core.Path.{_≡_}
-use mathlib.Core.Bool.{Bool, true, false}
+use mathlib.Core.Bool.{Bool, true, false, cond}
 use mathlib.Core.Logic.{_⊎_, inl, inr}
-use Rattle.coding.specs.Reader.{if_then_else}
 use Rattle.coding.specs.Codec.{Run, canonical, over, sort}
 use Rattle.coding.proofs.Basic.{and-left, and-right}
 use Rattle.coding.proofs.Padded.{Equal}
@@ -25,6 +24,6 @@ pub sort-or : {A : Type 0} (tag : ℕ) (test : A → Bool) (f g : Run A) (x : A)
 unfolding sort
 sort-or tag test f g x v = go (test x) v
   where
-    go : (t : Bool) → if_then_else t (f .valid x) (g .valid x) ≡ true → (f .valid x ≡ true) ⊎ (g .valid x ≡ true)
+    go : (t : Bool) → cond t (f .valid x) (g .valid x) ≡ true → (f .valid x ≡ true) ⊎ (g .valid x ≡ true)
     go true w = inl w
     go false w = inr w

@@ -8,8 +8,7 @@ use mathlib.Core.List.{List, [], _∷_, _++_}
 use lib.ListN.{length, getD, drop, length-drop, length-take}
 use lib.Seq.{drop-cons, take-suc, getD-drop, take-add, drop-drop}
 use Rattle.coding.specs.Reader.{part}
-use mathlib.Core.Bool.{Bool, true, false}
-use Rattle.coding.specs.Reader.{if_then_else}
+use mathlib.Core.Bool.{Bool, true, false, cond}
 use Rattle.coding.specs.Contents.{numberFrom, null, every}
 use Rattle.coding.specs.Shown.{verdict}
 
@@ -63,8 +62,8 @@ unfolding every
 every-append ok [] ys h = refl
 every-append ok (x ∷ xs) ys h = go (ok x) (every-append ok xs ys) h
   where
-    go : (b : Bool) → (every ok xs ≡ true → every ok (xs ++ ys) ≡ every ok ys) → if_then_else b (every ok xs) false ≡ true →
-        if_then_else b (every ok (xs ++ ys)) false ≡ every ok ys
+    go : (b : Bool) → (every ok xs ≡ true → every ok (xs ++ ys) ≡ every ok ys) → cond b (every ok xs) false ≡ true →
+        cond b (every ok (xs ++ ys)) false ≡ every ok ys
     go true r q = r q
     go false r q = let z : _≡_ {A = ℕ} 0 1 = cc in absurd (omega arith)
 

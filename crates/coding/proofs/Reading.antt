@@ -3,11 +3,11 @@
 use Prim.Native.Nat.{ℕ}
 use native.Mathlib.Omega.{arith}
 use mathlib.Core.Path.{_≡_, refl, ap, sym, _∙_}
-use mathlib.Core.Bool.{Bool, true, false}
+use mathlib.Core.Bool.{Bool, true, false, cond}
 use mathlib.Core.List.{List}
 use Prim.Native.Nat.{_<_, _≤_}
 use borrow.Author.Tests.{le-ltb, lt-ltb, eq-eqb, ne-eqb}
-use Rattle.coding.specs.Reader.{Ans, Reader, Fault, code, after, if_then_else, judged, Judged, closed, choice, neither, tagged}
+use Rattle.coding.specs.Reader.{Ans, Reader, Fault, code, after, judged, Judged, closed, choice, neither, tagged}
 use Rattle.coding.specs.Reader.Ans.{got, halt}
 use Rattle.coding.specs.Reader.Fault.{missing, unexpected, cut, form, shortest, contents, limit, named}
 use Rattle.coding.specs.Reader.Judged.{good, bad}
@@ -66,7 +66,7 @@ pub after-choice : {A B : Type 0} (tag : ℕ) (this that : Reader A) (s : List �
 unfolding choice
 after-choice tag this that s at end f = go (tagged s at end tag)
   where
-    go : (b : Bool) → after (if_then_else b (this s at end) (that s at end)) f ≡ if_then_else b (after (this s at end) f) (after (that s at end) f)
+    go : (b : Bool) → after (cond b (this s at end) (that s at end)) f ≡ cond b (after (this s at end) f) (after (that s at end) f)
     go true = refl
     go false = refl
 
@@ -78,10 +78,10 @@ unfolding after
 ends v n g y r = r
 
 -- one of two readings by a test
-pub when-yes : {A : Type 0} (b : Bool) (x x' : Ans A) (y : A) {t : ℕ × ℕ × A × ℕ} → b ≡ true → t ≡ shown y x → t ≡ shown y (if_then_else b x x')
+pub when-yes : {A : Type 0} (b : Bool) (x x' : Ans A) (y : A) {t : ℕ × ℕ × A × ℕ} → b ≡ true → t ≡ shown y x → t ≡ shown y (cond b x x')
 when-yes b x x' y h r = rw h r
 
-pub when-no : {A : Type 0} (b : Bool) (x x' : Ans A) (y : A) {t : ℕ × ℕ × A × ℕ} → b ≡ false → t ≡ shown y x' → t ≡ shown y (if_then_else b x x')
+pub when-no : {A : Type 0} (b : Bool) (x x' : Ans A) (y : A) {t : ℕ × ℕ × A × ℕ} → b ≡ false → t ≡ shown y x' → t ≡ shown y (cond b x x')
 when-no b x x' y h r = rw h r
 
 -- a fault at once

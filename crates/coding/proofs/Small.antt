@@ -3,13 +3,12 @@
 use Prim.Native.Nat.{ℕ, _+_, _/_, _%_, _≤_, _<_}
 use mathlib.Core.Path.{_≡_, refl, sym, ap, ap₂, _∙_}
 use mathlib.Core.List.{List, [], _∷_, _++_}
-use mathlib.Core.Bool.{Bool, true, false}
+use mathlib.Core.Bool.{Bool, true, false, cond}
 use native.Mathlib.Omega.{arith}
 use lib.ListN.{length, take, length-append}
 use lib.Seq.{length-take-le}
 use lib.Dec.{ltb, leb}
 use borrow.Author.Tests.{lt-ltb, le-ltb, le-leb, lt-leb}
-use Rattle.coding.specs.Reader.{if_then_else}
 use Rattle.coding.specs.Codec.{lengthOctets, prim}
 use Rattle.coding.specs.Leaves.{width, digits, nullLeaf, identifier, string}
 use Rattle.coding.specs.Written.{Wrote, lead, fullNumber}
@@ -65,8 +64,8 @@ pub id-range : (p : ℕ) → (1 ≤ length (identifier .write p)) × (length (id
 unfolding identifier
 id-range p = go (ltb p 0x80) (leb 0xff80 p)
   where
-    go : (t u : Bool) → (1 ≤ length (if_then_else t (p ∷ []) (if_then_else u (p % 256 ∷ []) (p / 256 ∷ p % 256 ∷ []))))
-        × (length (if_then_else t (p ∷ []) (if_then_else u (p % 256 ∷ []) (p / 256 ∷ p % 256 ∷ []))) ≤ 2)
+    go : (t u : Bool) → (1 ≤ length (cond t (p ∷ []) (cond u (p % 256 ∷ []) (p / 256 ∷ p % 256 ∷ []))))
+        × (length (cond t (p ∷ []) (cond u (p % 256 ∷ []) (p / 256 ∷ p % 256 ∷ []))) ≤ 2)
     go true u = omega arith
     go false true = omega arith
     go false false = omega arith

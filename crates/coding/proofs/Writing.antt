@@ -3,7 +3,7 @@
 use Prim.Native.Nat.{ℕ, suc, _+_, _-_, _%_, _≤_, _<_}
 use mathlib.Core.Path.{_≡_, refl, sym, ap, ap₂, _∙_, subst}
 use mathlib.Core.List.{List, [], _∷_, _++_}
-use mathlib.Core.Bool.{Bool, true, false}
+use mathlib.Core.Bool.{Bool, true, false, cond}
 use native.Mathlib.Omega.{arith}
 use native.Mathlib.Nat.{add-zero, add-suc, suc-add}
 use native.Mathlib.Numerals.{add-one, towards-suc}
@@ -11,7 +11,7 @@ use lib.ListN.{length, getD, set, drop, take, length-append, length-set}
 use lib.Seq.{sets, take-suc, drop-cons}
 use lib.Dec.{ltb}
 use borrow.Author.Tests.{lt-ltb, le-ltb}
-use Rattle.coding.specs.Reader.{if_then_else, part}
+use Rattle.coding.specs.Reader.{part}
 use Rattle.coding.specs.Contents.{every}
 use Rattle.coding.specs.Codec.{lengthOctets, Leaf, Run, prim, cons}
 use Rattle.coding.specs.Leaves.{width, digits, number}
@@ -110,7 +110,7 @@ pub width-range : (n : ℕ) → (1 ≤ width n) × (width n ≤ 4)
 unfolding width
 width-range n = go (ltb n 0x80) (ltb n 0x8000) (ltb n 0x800000)
   where
-    go : (t u v : Bool) → (1 ≤ if_then_else t 1 (if_then_else u 2 (if_then_else v 3 4))) × (if_then_else t 1 (if_then_else u 2 (if_then_else v 3 4)) ≤ 4)
+    go : (t u v : Bool) → (1 ≤ cond t 1 (cond u 2 (cond v 3 4))) × (cond t 1 (cond u 2 (cond v 3 4)) ≤ 4)
     go true u v = omega arith
     go false true v = omega arith
     go false false true = omega arith

@@ -3,12 +3,12 @@
 use Prim.Native.Nat.{ℕ, _+_, _-_, _*_, _/_, _%_, _≤_, _<_}
 use mathlib.Core.Path.{_≡_}
 use mathlib.Core.List.{List, [], _∷_, _++_}
-use mathlib.Core.Bool.{Bool, true, false, not, _&&_, _||_}
+use mathlib.Core.Bool.{Bool, true, false, not, _&&_, _||_, cond}
 use mathlib.Core.Logic.{_⊎_, inl, inr}
 use mathlib.Core.Option.{Option, none, some}
 use lib.ListN.{length, getD, take, drop, replicate}
 use lib.Dec.{ltb, leb, eqb}
-use Rattle.coding.specs.Reader.{Reader, Fault, got, halt, if_then_else, after, choice, pure, primitive, constructed, Judged, mapped, blamed, enteredAny, closed, optional, listOf}
+use Rattle.coding.specs.Reader.{Reader, Fault, got, halt, after, choice, pure, primitive, constructed, Judged, mapped, blamed, enteredAny, closed, optional, listOf}
 unfoldable pub use Rattle.coding.specs.Reader.{has}
 
 -- ---- lengths
@@ -22,7 +22,7 @@ pub data LengthForm (s : List ℕ) (p n c : ℕ) : Type 0 where
 -- the shortest length octets of n, n at most 65,535
 unfoldable pub lengthOctets : ℕ → List ℕ
 lengthOctets n =
-    if_then_else (ltb n 128) (n ∷ []) (if_then_else (ltb n 256) (129 ∷ n ∷ []) (130 ∷ n / 256 ∷ n % 256 ∷ []))
+    cond (ltb n 128) (n ∷ []) (cond (ltb n 256) (129 ∷ n ∷ []) (130 ∷ n / 256 ∷ n % 256 ∷ []))
 
 -- an element from a up to n with this tag, whose contents begin at c
 abbrev pub Opens : ℕ → List ℕ → ℕ → ℕ → ℕ → Type 0
@@ -103,7 +103,7 @@ module _ {A B : Type 0} where
     write = λ p. f .write (p .0) ++ g .write (p .1);
     valid = λ p. f .valid (p .0) && g .valid (p .1);
     Means = λ p s a n. (m : ℕ) × f .Means (p .0) s a m × g .Means (p .1) s m n;
-    first = f .first ++ if_then_else (f .empty) (g .first) [];
+    first = f .first ++ cond (f .empty) (g .first) [];
     empty = f .empty && g .empty;
     avoid = λ o. g .avoid o || g .empty && f .avoid o;
   }
@@ -235,8 +235,8 @@ module _ {A : Type 0} where
   unfoldable pub sort : ℕ → (A → Bool) → Run A → Run A → Run A
   sort tag test f g = record {
     read = choice tag (f .read) (g .read);
-    write = λ x. if_then_else (test x) (f .write x) (g .write x);
-    valid = λ x. if_then_else (test x) (f .valid x) (g .valid x);
+    write = λ x. cond (test x) (f .write x) (g .write x);
+    valid = λ x. cond (test x) (f .valid x) (g .valid x);
     Means = λ x s a n. ((test x ≡ true) × f .Means x s a n) ⊎ ((test x ≡ false) × g .Means x s a n);
     first = tag ∷ g .first;
     empty = g .empty;

@@ -1,10 +1,10 @@
 -- What a primitive element's contents may be.
 use Prim.Native.Nat.{ℕ, _+_, _*_}
 use mathlib.Core.List.{List, [], _∷_}
-use mathlib.Core.Bool.{Bool, true, false}
+use mathlib.Core.Bool.{Bool, true, false, cond}
 use lib.ListN.{length}
 use lib.Dec.{ltb, leb, eqb}
-use Rattle.coding.specs.Reader.{if_then_else, Fault, Judged}
+use Rattle.coding.specs.Reader.{Fault, Judged}
 
 -- the number that octets say, high first
 unfoldable pub numberFrom : ℕ → List ℕ → ℕ
@@ -21,29 +21,29 @@ unfoldable pub shortest : List ℕ → Bool
 shortest [] = false
 shortest (x ∷ []) = true
 shortest (x ∷ y ∷ xs) =
-    if_then_else (eqb x 0) (leb 0x80 y) (if_then_else (eqb x 0xff) (ltb y 0x80) true)
+    cond (eqb x 0) (leb 0x80 y) (cond (eqb x 0xff) (ltb y 0x80) true)
 
 -- INTEGER or ENUMERATED from `low` to `high`, none below 0
 unfoldable pub natural : ℕ → ℕ → List ℕ → Judged ℕ
 natural low high xs =
-    if_then_else (shortest xs)
-    (if_then_else (negative xs) (Judged.bad Fault.contents)
-    (if_then_else (leb low (numberFrom 0 xs))
-    (if_then_else (leb (numberFrom 0 xs) high) (Judged.good (numberFrom 0 xs)) (Judged.bad Fault.contents))
+    cond (shortest xs)
+    (cond (negative xs) (Judged.bad Fault.contents)
+    (cond (leb low (numberFrom 0 xs))
+    (cond (leb (numberFrom 0 xs) high) (Judged.good (numberFrom 0 xs)) (Judged.bad Fault.contents))
     (Judged.bad Fault.contents)))
     (Judged.bad Fault.shortest)
 
 -- every octet passes
 unfoldable pub every : (ℕ → Bool) → List ℕ → Bool
 every ok [] = true
-every ok (x ∷ xs) = if_then_else (ok x) (every ok xs) false
+every ok (x ∷ xs) = cond (ok x) (every ok xs) false
 
 -- a string of `low` to `high` octets that all pass
 unfoldable pub text : ℕ → ℕ → (ℕ → Bool) → List ℕ → Judged (List ℕ)
 text low high ok xs =
-    if_then_else (ltb (length xs) low) (Judged.bad (if_then_else (eqb (length xs) 0) Fault.shortest Fault.contents))
-    (if_then_else (ltb high (length xs)) (Judged.bad Fault.contents)
-    (if_then_else (every ok xs) (Judged.good xs) (Judged.bad Fault.contents)))
+    cond (ltb (length xs) low) (Judged.bad (cond (eqb (length xs) 0) Fault.shortest Fault.contents))
+    (cond (ltb high (length xs)) (Judged.bad Fault.contents)
+    (cond (every ok xs) (Judged.good xs) (Judged.bad Fault.contents)))
 
 -- NULL
 unfoldable pub null : List ℕ → Judged (Unit {0})

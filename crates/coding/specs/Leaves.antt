@@ -1,10 +1,10 @@
 -- Contents of primitive elements as leaves: judged, written, valid.
 use Prim.Native.Nat.{ℕ, zero, suc, _+_, _*_, _/_, _%_, _^_}
 use mathlib.Core.List.{List, [], _∷_}
-use mathlib.Core.Bool.{Bool, true, false, _&&_, _||_}
+use mathlib.Core.Bool.{Bool, true, false, _&&_, _||_, cond}
 use lib.ListN.{length}
 use lib.Dec.{ltb, leb, eqb}
-use Rattle.coding.specs.Reader.{if_then_else, Fault, Judged, narrowed}
+use Rattle.coding.specs.Reader.{Fault, Judged, narrowed}
 use Rattle.coding.specs.Contents.{natural, negative, numberFrom, shortest, every, text, null}
 use mathlib.Core.Option.{Option, none, some}
 use Rattle.coding.specs.Codec.{Leaf, Run, prim, maybe, over, has}
@@ -17,7 +17,7 @@ digits (suc k) n = n / 256 ^ k % 256 ∷ digits k n
 
 -- how many octets a number below 2 ^ 31 has in two's complement, shortest
 unfoldable pub width : ℕ → ℕ
-width n = if_then_else (ltb n 0x80) 1 (if_then_else (ltb n 0x8000) 2 (if_then_else (ltb n 0x800000) 3 4))
+width n = cond (ltb n 0x80) 1 (cond (ltb n 0x8000) 2 (cond (ltb n 0x800000) 3 4))
 
 -- INTEGER or ENUMERATED from low to high, none below 0, high below 2 ^ 31
 unfoldable pub number : ℕ → ℕ → Leaf ℕ
@@ -40,24 +40,24 @@ nullLeaf = record { judge = null; write = λ x. []; valid = λ x. true }
 -- INTEGER from -32,768 to 32,767, as its pattern of 16 bits
 unfoldable pub signed16 : List ℕ → Judged ℕ
 signed16 [] = Judged.bad Fault.shortest
-signed16 (x ∷ []) = Judged.good (if_then_else (ltb x 0x80) x (0xff00 + x))
-signed16 (x ∷ y ∷ []) = if_then_else (shortest (x ∷ y ∷ [])) (Judged.good (x * 256 + y)) (Judged.bad Fault.shortest)
-signed16 (x ∷ y ∷ z ∷ zs) = if_then_else (shortest (x ∷ y ∷ z ∷ zs)) (Judged.bad Fault.contents) (Judged.bad Fault.shortest)
+signed16 (x ∷ []) = Judged.good (cond (ltb x 0x80) x (0xff00 + x))
+signed16 (x ∷ y ∷ []) = cond (shortest (x ∷ y ∷ [])) (Judged.good (x * 256 + y)) (Judged.bad Fault.shortest)
+signed16 (x ∷ y ∷ z ∷ zs) = cond (shortest (x ∷ y ∷ z ∷ zs)) (Judged.bad Fault.contents) (Judged.bad Fault.shortest)
 
 unfoldable pub identifier : Leaf ℕ
 identifier = record {
   judge = signed16;
-  write = λ p. if_then_else (ltb p 0x80) (p ∷ []) (if_then_else (leb 0xff80 p) (p % 256 ∷ []) (p / 256 ∷ p % 256 ∷ []));
+  write = λ p. cond (ltb p 0x80) (p ∷ []) (cond (leb 0xff80 p) (p % 256 ∷ []) (p / 256 ∷ p % 256 ∷ []));
   valid = λ p. ltb p 0x10000;
 }
 
 -- INTEGER of 1 to 4 octets that is one of the list; another is refused by its own number
 unfoldable pub listing : ℕ → List ℕ → List ℕ → Judged ℕ
 listing unknown known xs =
-    if_then_else (shortest xs)
-    (if_then_else (ltb 4 (length xs)) (Judged.bad Fault.contents)
-    (if_then_else (negative xs) (Judged.bad (Fault.named unknown))
-    (if_then_else (has known (numberFrom 0 xs)) (Judged.good (numberFrom 0 xs)) (Judged.bad (Fault.named unknown)))))
+    cond (shortest xs)
+    (cond (ltb 4 (length xs)) (Judged.bad Fault.contents)
+    (cond (negative xs) (Judged.bad (Fault.named unknown))
+    (cond (has known (numberFrom 0 xs)) (Judged.good (numberFrom 0 xs)) (Judged.bad (Fault.named unknown)))))
     (Judged.bad Fault.shortest)
 
 unfoldable pub listed : ℕ → List ℕ → Leaf ℕ
@@ -87,5 +87,5 @@ or0 (some k) = k
 
 unfoldable pub given : ℕ → ℕ → ℕ → Run Chosen
 given tag low high =
-    over (λ o. record { given = isSome o; value = or0 o }) (λ c. if_then_else (c .given) (some (c .value)) none) (λ c. c .given || eqb (c .value) 0)
+    over (λ o. record { given = isSome o; value = or0 o }) (λ c. cond (c .given) (some (c .value)) none) (λ c. c .given || eqb (c .value) 0)
     (maybe tag (prim tag (number low high)))

@@ -2,17 +2,13 @@
 -- after it, or the first fault with its place. Places count from the octets' start, so a fault names its octet whatever the depth.
 use Prim.Native.Nat.{ℕ, zero, suc, _+_, _-_, _*_}
 use mathlib.Core.List.{List, [], _∷_}
-use mathlib.Core.Bool.{Bool, true, false, _||_}
+use mathlib.Core.Bool.{Bool, true, false, _||_, cond}
 use mathlib.Core.Option.{Option, none, some}
 use lib.ListN.{getD, take, drop}
 use lib.Dec.{ltb, leb, eqb}
 use Rattle.coding.specs.declared.Extent.{Extent}
 
 infixl 20 _>>=_
-abbrev pub if_then_else : {A : Type 0} → Bool → A → A → A
-if_then_else true a b = a
-if_then_else false a b = b
-
 -- Why a reading stops.
 --   missing     no element where one must be           (placed at the enclosing end)
 --   unexpected  another tag, or something left over    (placed at that tag, as all below)
@@ -57,7 +53,7 @@ pure v s at end = got v at
 
 -- Tags. The next tag is none at the end of the enclosing element, which no tag equals.
 unfoldable pub tagged : List ℕ → ℕ → ℕ → ℕ → Bool
-tagged s at end tag = if_then_else (ltb at end) (eqb (getD s at 0) tag) false
+tagged s at end tag = cond (ltb at end) (eqb (getD s at 0) tag) false
 
 -- one of the tags
 unfoldable pub has : List ℕ → ℕ → Bool
@@ -66,25 +62,25 @@ has (t ∷ ts) o = eqb o t || has ts o
 
 -- nothing that may stand here does: missing at the end, else an unexpected tag
 unfoldable pub neither : {A : Type 0} → Reader A
-neither s at end = if_then_else (ltb at end) (halt unexpected at) (halt missing end)
+neither s at end = cond (ltb at end) (halt unexpected at) (halt missing end)
 
 -- by the next tag: this, or else that
 unfoldable pub choice : {A : Type 0} → ℕ → Reader A → Reader A → Reader A
-choice tag this that s at end = if_then_else (tagged s at end tag) (this s at end) (that s at end)
+choice tag this that s at end = cond (tagged s at end tag) (this s at end) (that s at end)
 
 -- Length octets at a place, of the element whose tag is at `tag`: the contents' extent and the place after the element.
 unfoldable pub extent : ℕ → ℕ → ℕ → ℕ → Ans Extent
 extent tag start n end =
-    if_then_else (leb (start + n) end) (got (record { start = start; stop = start + n }) (start + n)) (halt cut tag)
+    cond (leb (start + n) end) (got (record { start = start; stop = start + n }) (start + n)) (halt cut tag)
 
 unfoldable pub lengthAt : ℕ → Reader Extent
 lengthAt tag s at end =
-    if_then_else (leb end at) (halt cut tag)
-    (if_then_else (ltb (getD s at 0) 0x80) (extent tag (at + 1) (getD s at 0) end)
-    (if_then_else (eqb (getD s at 0) 0x81)
-    (if_then_else (ltb end (at + 2)) (halt cut tag) (extent tag (at + 2) (getD s (at + 1) 0) end))
-    (if_then_else (eqb (getD s at 0) 0x82)
-    (if_then_else (ltb end (at + 3)) (halt cut tag)
+    cond (leb end at) (halt cut tag)
+    (cond (ltb (getD s at 0) 0x80) (extent tag (at + 1) (getD s at 0) end)
+    (cond (eqb (getD s at 0) 0x81)
+    (cond (ltb end (at + 2)) (halt cut tag) (extent tag (at + 2) (getD s (at + 1) 0) end))
+    (cond (eqb (getD s at 0) 0x82)
+    (cond (ltb end (at + 3)) (halt cut tag)
     (extent tag (at + 3) (getD s (at + 1) 0 * 256 + getD s (at + 2) 0) end))
     (halt form tag))))
 
@@ -99,7 +95,7 @@ blamed m (halt w p) = halt (m w) p
 
 -- nothing over
 unfoldable pub closed : {A : Type 0} → A → ℕ → ℕ → ℕ → Ans A
-closed v at end next = if_then_else (eqb at end) (got v next) (halt unexpected at)
+closed v at end next = cond (eqb at end) (got v next) (halt unexpected at)
 
 unfoldable pub constructed : {A : Type 0} → ℕ → Reader A → Reader A
 constructed tag body s at end =
@@ -111,9 +107,9 @@ constructed tag body s at end =
 -- before its contents.
 unfoldable pub enteredAny : List ℕ → (Fault → Fault) → Fault → Reader Extent
 enteredAny tags m over s at end =
-    if_then_else (leb end at) (halt (m missing) end)
-    (if_then_else (has tags (getD s at 0))
-    (after (blamed m (lengthAt at s (at + 1) end)) (λ e next. if_then_else (eqb next end) (got e next) (halt over next)))
+    cond (leb end at) (halt (m missing) end)
+    (cond (has tags (getD s at 0))
+    (after (blamed m (lengthAt at s (at + 1) end)) (λ e next. cond (eqb next end) (got e next) (halt over next)))
     (halt (m unexpected) at))
 
 -- A primitive element's contents are judged as a list of octets.
@@ -131,7 +127,7 @@ mapped f (bad w) = bad w
 
 -- the same contents where only some values pass
 unfoldable pub narrowed : {A : Type 0} → (A → Bool) → Judged A → Judged A
-narrowed ok (good v) = if_then_else (ok v) (good v) (bad contents)
+narrowed ok (good v) = cond (ok v) (good v) (bad contents)
 narrowed ok (bad w) = bad w
 
 unfoldable pub judged : {A : Type 0} → Judged A → ℕ → ℕ → Ans A
@@ -148,13 +144,13 @@ optional tag r = choice tag (r >>= (λ v. pure (some v))) (pure none)
 -- Entries to the end of the enclosing element, at most as many as `most`; each begins with the tag.
 unfoldable pub entries : {A : Type 0} → ℕ → ℕ → Reader A → Reader (List A)
 entries tag zero entry s at end =
-    if_then_else (leb end at) (got [] at) (if_then_else (tagged s at end tag) (halt limit at) (halt unexpected at))
+    cond (leb end at) (got [] at) (cond (tagged s at end tag) (halt limit at) (halt unexpected at))
 entries tag (suc most) entry s at end =
     let rest : Ans (List _) =
     after (entry s at end) (λ v next. after (entries tag most entry s next end) (λ vs last. got (v ∷ vs) last)) in
-    if_then_else (leb end at) (got [] at) rest
+    cond (leb end at) (got [] at) rest
 
 -- A list of one entry or more.
 unfoldable pub listOf : {A : Type 0} → ℕ → ℕ → Reader A → Reader (List A)
 listOf tag most entry s at end =
-    if_then_else (leb end at) (halt missing end) (entries tag most entry s at end)
+    cond (leb end at) (halt missing end) (entries tag most entry s at end)

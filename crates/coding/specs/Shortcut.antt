@@ -2,10 +2,9 @@
 use Prim.Native.Nat.{ℕ, _+_, _≤_, _<_}
 use mathlib.Core.Path.{_≡_}
 use mathlib.Core.List.{List}
-use mathlib.Core.Bool.{Bool, _&&_}
+use mathlib.Core.Bool.{Bool, _&&_, cond}
 use lib.ListN.{getD}
 use lib.Dec.{ltb, leb, eqb}
-use Rattle.coding.specs.Reader.{if_then_else}
 
 -- tag 01 x, inside the enclosing element
 pub record Tiny (s : List ℕ) (at end tag x : ℕ) : Type 0 where
@@ -24,12 +23,12 @@ pub record Short (s : List ℕ) (at end tag n : ℕ) : Type 0 where
 -- the octet x of tag 01 x, or else 256
 unfoldable pub tinyAt : List ℕ → ℕ → ℕ → ℕ → ℕ
 tinyAt s at end tag =
-    if_then_else (leb (at + 3) end && (eqb (getD s at 0) tag && eqb (getD s (at + 1) 0) 1)) (getD s (at + 2) 0) 256
+    cond (leb (at + 3) end && (eqb (getD s at 0) tag && eqb (getD s (at + 1) 0) 1)) (getD s (at + 2) 0) 256
 
 -- the length of contents whose length is one octet, or else 256
 unfoldable pub shortAt : List ℕ → ℕ → ℕ → ℕ → ℕ
 shortAt s at end tag =
-    if_then_else (leb (at + 2) end && (eqb (getD s at 0) tag && (ltb (getD s (at + 1) 0) 128 && leb (at + 2 + getD s (at + 1) 0) end))) (getD s (at + 1) 0) 256
+    cond (leb (at + 2) end && (eqb (getD s at 0) tag && (ltb (getD s (at + 1) 0) 128 && leb (at + 2 + getD s (at + 1) 0) end))) (getD s (at + 1) 0) 256
 
 -- tag 00
 unfoldable pub bareAt : List ℕ → ℕ → ℕ → ℕ → Bool

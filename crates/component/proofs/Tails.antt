@@ -3,12 +3,12 @@
 use Prim.Native.Nat.{ℕ, _≤_, _<_}
 use native.Mathlib.Omega.{arith}
 use mathlib.Core.Path.{_≡_, refl, ap, sym, _∙_}
-use mathlib.Core.Bool.{Bool, true, false, not, _&&_, _||_, true≢false}
+use mathlib.Core.Bool.{Bool, true, false, not, _&&_, _||_, true≢false, cond}
 use mathlib.Core.List.{List}
 use lib.ListN.{length}
 use lib.Dec.{leb, eqb}
 use borrow.Author.Tests.{leb-false, le-leb, lt-leb, eqb-true, eqb-false, ne-eqb}
-use Rattle.coding.specs.Reader.{Ans, choice, tagged, if_then_else}
+use Rattle.coding.specs.Reader.{Ans, choice, tagged}
 use Rattle.coding.specs.Reader.Ans.{got, halt}
 use Rattle.coding.specs.Codec.{Run, pickRun, sort, canonical, over, marked}
 use Rattle.coding.specs.Shown.{shown}
@@ -62,7 +62,7 @@ none-read (halt w p) e k0 = ap (λ t. t .2 .entries) e
 pub none-left : (m : MainAnswer) {e : Entries} → e ≡ noEntries → withEntries m (listOf (m .number) e) ≡ plainAnswer m
 none-left m q = ap (withEntries m) (ap (listOf (m .number)) q ∙ none (eqb (m .number) 0))
   where
-    none : (b : Bool) → if_then_else b noEntries noEntries ≡ noEntries
+    none : (b : Bool) → cond b noEntries noEntries ≡ noEntries
     none true = refl
     none false = refl
 

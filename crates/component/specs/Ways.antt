@@ -2,9 +2,9 @@
 use Prim.Native.Nat.{ℕ}
 use mathlib.Core.Path.{_≡_}
 use mathlib.Core.List.{List}
-use mathlib.Core.Bool.{Bool, not, _&&_, _||_}
+use mathlib.Core.Bool.{Bool, not, _&&_, _||_, cond}
 use lib.Dec.{leb, eqb}
-use Rattle.coding.specs.Reader.{tagged, if_then_else}
+use Rattle.coding.specs.Reader.{tagged}
 use Rattle.coding.specs.Shown.{shown}
 use Rattle.types.specs.declared.Answer.{Answer}
 use Rattle.types.specs.declared.Entries.{Entries}
@@ -41,4 +41,4 @@ Reads f e h s = (f .fault, f .place, record { figure = f .value; entries = e }, 
 
 -- the list that is left: none after a refusal
 abbrev pub listOf : ℕ → Entries → Entries
-listOf number e = if_then_else (eqb number 0) e noEntries
+listOf number e = cond (eqb number 0) e noEntries

@@ -4,14 +4,14 @@ use Prim.Native.Nat.{ℕ, zero, suc, _+_, _-_, _≤_, _<_}
 use native.Mathlib.Omega.{arith}
 use native.Mathlib.Nat.{add-zero}
 use mathlib.Core.Path.{_≡_, refl, sym, ap, _∙_, subst}
-use mathlib.Core.Bool.{Bool, true, false}
+use mathlib.Core.Bool.{Bool, true, false, cond}
 use mathlib.Core.List.{List, [], _∷_, _++_, append-assoc, append-nil}
 use lib.ListN.{length, getD, take, drop, length-append, take-append-drop, List·getD-append}
 use lib.Seq.{drop-length, take-append-seam, drop-drop, getD-take, getD-drop, getD-append-add}
 use lib.Dec.{ltb, eqb}
 use borrow.Author.Tests.{ltb-true, eqb-true, eqb-false, eq-eqb, ne-eqb, lt-ltb}
 use Rattle.coding.specs.declared.Extent.{Extent}
-use Rattle.coding.specs.Reader.{if_then_else, Ans, after, part, lengthAt}
+use Rattle.coding.specs.Reader.{Ans, after, part, lengthAt}
 use Rattle.coding.specs.Reader.Ans.{got, halt}
 use Rattle.coding.specs.Codec.{LengthForm, short, one, two, pad}
 use Rattle.coding.proofs.Basic.{never, chain, same-got, picked, unpicked, followed, and-left}
@@ -78,7 +78,7 @@ cut zero s i xs h e = absurd (never e)
 cut (suc turns) s i xs {last} h e = go (eqb i (length s)) refl e (λ n ys m. cut turns s n ys {last = m})
   where
     go : (b : Bool) → eqb i (length s) ≡ b
-        → if_then_else b (got [] i)
+        → cond b (got [] i)
         (after (lengthAt i s (i + 1) (length s)) (λ contents next. after (tiled turns s next (length s)) (λ starts last. got (i ∷ starts) last))) ≡ got xs last
         → ((n : ℕ) (ys : List ℕ) (m : ℕ) → n ≤ length s → tiled turns s n (length s) ≡ got ys m → Cut s n ys)
         → Cut s i xs
@@ -92,8 +92,8 @@ cut (suc turns) s i xs {last} h e = go (eqb i (length s)) refl e (λ n ys m. cut
         same-got (λ ys m. Cut s i ys) (b .3) (cut-here s i (b .0) l (a .2) (more (a .1) (b .0) (b .1) (part-tile s i l (a .2) .1) (b .2)))
 
 -- an answer of 0 is that of starts that were found
-answer-found : (b : Bool) (x : Ans (List ℕ)) → (if_then_else b (answered x) malformed) .number ≡ 0
-    → (b ≡ true) × ((xs : List ℕ) × (last : ℕ) × (x ≡ got xs last) × (startsOf (if_then_else b (answered x) malformed) ≡ xs))
+answer-found : (b : Bool) (x : Ans (List ℕ)) → (cond b (answered x) malformed) .number ≡ 0
+    → (b ≡ true) × ((xs : List ℕ) × (last : ℕ) × (x ≡ got xs last) × (startsOf (cond b (answered x) malformed) ≡ xs))
 unfolding answered pad
 answer-found true (got xs last) e = (refl, (xs, last, refl, take-append-seam xs _))
 answer-found true (halt w p) e = absurd (omega (arith, e))

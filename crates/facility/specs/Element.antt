@@ -1,10 +1,10 @@
 -- The Facility element: 1C, a one-octet length equal to the octets that follow it, 91, then components laid end to end.
 use Prim.Native.Nat.{ℕ, zero, suc, _+_, _-_}
 use mathlib.Core.List.{List, [], _∷_}
-use mathlib.Core.Bool.{Bool, _&&_}
+use mathlib.Core.Bool.{Bool, _&&_, cond}
 use lib.ListN.{length, getD}
 use lib.Dec.{ltb, eqb}
-use Rattle.coding.specs.Reader.{if_then_else, Reader, Ans, after, lengthAt}
+use Rattle.coding.specs.Reader.{Reader, Ans, after, lengthAt}
 use Rattle.coding.specs.Reader.Ans.{got, halt}
 use Rattle.coding.specs.Reader.Fault.{limit}
 use Rattle.coding.specs.Codec.{pad}
@@ -16,7 +16,7 @@ use Rattle.facility.specs.declared.Starts.{Starts}
 unfoldable pub tiled : ℕ → Reader (List ℕ)
 tiled zero s at end = halt limit at
 tiled (suc turns) s at end =
-    if_then_else (eqb at end) (got [] at)
+    cond (eqb at end) (got [] at)
     (after (lengthAt at s (at + 1) end) (λ contents next.
     after (tiled turns s next end) (λ starts last. got (at ∷ starts) last)))
 
@@ -35,4 +35,4 @@ answered (halt fault place) = malformed
 
 -- Fewer than three octets, another lead, length or third octet, none after it, or tag and length octets that do not tile to the end: 15.
 unfoldable pub elementOf : List ℕ → Starts
-elementOf s = if_then_else (led s) (answered (tiled (length s) s 3 (length s))) malformed
+elementOf s = cond (led s) (answered (tiled (length s) s 3 (length s))) malformed

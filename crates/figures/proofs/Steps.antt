@@ -2,10 +2,10 @@
 -- Assumes nothing.
 use Prim.Native.Nat.{ℕ}
 use mathlib.Core.Path.{_≡_, refl, sym, _∙_}
-use mathlib.Core.Bool.{Bool, true, false}
+use mathlib.Core.Bool.{Bool, true, false, cond}
 use mathlib.Core.List.{List}
 use lib.Dec.{eqb}
-use Rattle.coding.specs.Reader.{Ans, if_then_else, after, opened, closed, constructed, primitive, judged, Judged, mapped, narrowed}
+use Rattle.coding.specs.Reader.{Ans, after, opened, closed, constructed, primitive, judged, Judged, mapped, narrowed}
 use Rattle.coding.specs.Reader.Ans.{got, halt}
 use Rattle.coding.specs.Reader.Fault.{unexpected, contents}
 use Rattle.coding.specs.Reader.Judged.{good, bad}
@@ -24,7 +24,7 @@ closed-told : {A B : Type 0} (to : A → B) (v : A) (at end next : ℕ) → afte
 unfolding closed after
 closed-told to v at end next = go (eqb at end)
   where
-    go : (b : Bool) → after (if_then_else b (got v next) (halt unexpected at)) (λ x n. got (to x) n) ≡ if_then_else b (got (to v) next) (halt unexpected at)
+    go : (b : Bool) → after (cond b (got v next) (halt unexpected at)) (λ x n. got (to x) n) ≡ cond b (got (to v) next) (halt unexpected at)
     go true = refl
     go false = refl
 
@@ -42,17 +42,17 @@ judged-told to (good v) at next g = refl
 judged-told to (bad w) at next g = refl
 
 judged-only : {A C : Type 0} (ok : A → Bool) (j : Judged A) (at next : ℕ) (g : A → ℕ → Ans C) →
-    after (judged (narrowed ok j) at next) g ≡ after (judged j at next) (λ x n. if_then_else (ok x) (g x n) (halt contents at))
+    after (judged (narrowed ok j) at next) g ≡ after (judged j at next) (λ x n. cond (ok x) (g x n) (halt contents at))
 unfolding after judged narrowed
 judged-only ok (good v) at next g = go (ok v)
   where
-    go : (b : Bool) → after (judged (if_then_else b (good v) (bad contents)) at next) g ≡ if_then_else b (g v next) (halt contents at)
+    go : (b : Bool) → after (judged (cond b (good v) (bad contents)) at next) g ≡ cond b (g v next) (halt contents at)
     go true = refl
     go false = refl
 judged-only ok (bad w) at next g = refl
 
 pub prim-only : {A C : Type 0} (tag : ℕ) (ok : A → Bool) (l : Leaf A) (s : List ℕ) (at end : ℕ) (g : A → ℕ → Ans C) →
-    after ((prim tag (only ok l)) .read s at end) g ≡ after ((prim tag l) .read s at end) (λ x n. if_then_else (ok x) (g x n) (halt contents at))
+    after ((prim tag (only ok l)) .read s at end) g ≡ after ((prim tag l) .read s at end) (λ x n. cond (ok x) (g x n) (halt contents at))
 unfolding prim only primitive
 prim-only tag ok l s at end g = simp (after-assoc, judged-only)
 
@@ -76,7 +76,7 @@ pub public-steps : (s : List ℕ) (at end : ℕ) →
     publicParty .read s at end ≡
     after (opened 0xa1 s at end) (λ e next.
     after ((prim 0x0a (number 0 6)) .read s (e .start) (e .stop)) (λ k m.
-    if_then_else (isPlan k)
+    cond (isPlan k)
     (after (primitive 0x12 (numbered 3 k) s m (e .stop)) (λ a last. closed a last (e .stop) next))
     (halt contents (e .start))))
 unfolding publicParty cons constructed canonical over pair

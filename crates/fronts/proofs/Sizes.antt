@@ -3,13 +3,12 @@
 use Prim.Native.Nat.{ℕ, _+_, _≤_, _<_}
 use native.Mathlib.Omega.{arith}
 use mathlib.Core.Path.{_≡_, refl, sym}
-use mathlib.Core.Bool.{Bool, true, false, _&&_, true≢false}
+use mathlib.Core.Bool.{Bool, true, false, _&&_, true≢false, cond}
 use mathlib.Core.Logic.{_⊎_, inl, inr}
 use mathlib.Core.List.{List, [], _∷_, _++_}
 use lib.ListN.{length, length-append}
 use lib.Dec.{leb, eqb}
 use borrow.Author.Tests.{leb-true, eqb-true, eq-eqb, ne-eqb}
-use Rattle.coding.specs.Reader.{if_then_else}
 use Rattle.coding.specs.Codec.{has}
 use Rattle.coding.specs.Leaves.{identifier}
 use Rattle.coding.specs.Written.{lead, fullNumber}
@@ -29,7 +28,7 @@ operation-30 o e = rw e
 
 module _ (f : Front) (n : ℕ) where
   pub front-1 : f .frame ≡ 1
-      → frontOctets f n ≡ idOctets f ++ (fullNumber 0x02 (f .operation) ++ if_then_else (eqb (f .operation) 30) (fullNumber 0x0a (f .detail)) [])
+      → frontOctets f n ≡ idOctets f ++ (fullNumber 0x02 (f .operation) ++ cond (eqb (f .operation) 30) (fullNumber 0x0a (f .detail)) [])
   unfolding frontOctets
   front-1 e = rw (eq-eqb _ _ e)
 
@@ -42,7 +41,7 @@ module _ (f : Front) (n : ℕ) where
   front-3 e = rw (ne-eqb (f .frame) 1 (λ h. omega (arith, e, h)), ne-eqb (f .frame) 2 (λ h. omega (arith, e, h)), eq-eqb _ _ e)
 
   pub front-4 : (f .frame ≡ 1 → ⊥) → (f .frame ≡ 2 → ⊥) → (f .frame ≡ 3 → ⊥)
-      → frontOctets f n ≡ if_then_else (eqb (f .unnamed) 1) (lead 0x05 0) (idOctets f) ++ fullNumber (f .problem) (f .detail)
+      → frontOctets f n ≡ cond (eqb (f .unnamed) 1) (lead 0x05 0) (idOctets f) ++ fullNumber (f .problem) (f .detail)
   unfolding frontOctets
   front-4 a b d = rw (ne-eqb _ _ a, ne-eqb _ _ b, ne-eqb _ _ d)
 
@@ -53,11 +52,11 @@ module _ (f : Front) (v : frontFine f ≡ true) where
   unfolding frontFine
   small-1 e =
       let w : has operations (f .operation)
-      && if_then_else (eqb (f .operation) 30) (sameFront (frontBy 1 0 (f .id) 30 0 0 (f .detail)) f && leb (f .detail) 2) (sameFront (frontBy 1 0 (f .id) (f .operation) 0 0 0) f)
+      && cond (eqb (f .operation) 30) (sameFront (frontBy 1 0 (f .id) 30 0 0 (f .detail)) f && leb (f .detail) 2) (sameFront (frontBy 1 0 (f .id) (f .operation) 0 0 0) f)
       ≡ true = rw (eq-eqb _ _ e) at v in
       (has-below 128 operations (f .operation) refl (and-left (has operations (f .operation)) _ w), go (eqb (f .operation) 30) (and-right (has operations (f .operation)) _ w))
     where
-      go : (b : Bool) → if_then_else b (sameFront (frontBy 1 0 (f .id) 30 0 0 (f .detail)) f && leb (f .detail) 2) (sameFront (frontBy 1 0 (f .id) (f .operation) 0 0 0) f) ≡ true
+      go : (b : Bool) → cond b (sameFront (frontBy 1 0 (f .id) 30 0 0 (f .detail)) f && leb (f .detail) 2) (sameFront (frontBy 1 0 (f .id) (f .operation) 0 0 0) f) ≡ true
           → f .detail < 128
       go true h = omega (arith, leb-true (f .detail) 2 (and-right (sameFront (frontBy 1 0 (f .id) 30 0 0 (f .detail)) f) _ h))
       go false h =
@@ -81,7 +80,7 @@ module _ (f : Front) (v : frontFine f ≡ true) where
   small-problem : (p d : ℕ) → problemFine p d ≡ true → d < 128
   small-problem p d h = go (eqb p 0x80) (eqb p 0x81) (eqb p 0x82) h
     where
-      go : (a b e : Bool) → if_then_else a (leb d 2) (if_then_else b (leb d 7) (if_then_else e (leb d 2) (eqb 0x83 p && leb d 4))) ≡ true → d < 128
+      go : (a b e : Bool) → cond a (leb d 2) (cond b (leb d 7) (cond e (leb d 2) (eqb 0x83 p && leb d 4))) ≡ true → d < 128
       go true b e k = omega (arith, leb-true d 2 k)
       go false true e k = omega (arith, leb-true d 7 k)
       go false false true k = omega (arith, leb-true d 2 k)
@@ -90,11 +89,11 @@ module _ (f : Front) (v : frontFine f ≡ true) where
   pub reject-problem : (f .frame ≡ 1 → ⊥) → (f .frame ≡ 2 → ⊥) → (f .frame ≡ 3 → ⊥) → (f .frame ≡ 4) × (problemFine (f .problem) (f .detail) ≡ true)
   unfolding frontFine
   reject-problem a b d =
-      let w : if_then_else (eqb (f .frame) 4) (called f && (sameFront (frontBy 4 (f .unnamed) (f .id) 0 0 (f .problem) (f .detail)) f && problemFine (f .problem) (f .detail))) false ≡ true =
+      let w : cond (eqb (f .frame) 4) (called f && (sameFront (frontBy 4 (f .unnamed) (f .id) 0 0 (f .problem) (f .detail)) f && problemFine (f .problem) (f .detail))) false ≡ true =
       rw (ne-eqb _ _ a, ne-eqb _ _ b, ne-eqb _ _ d) at v in
       go (eqb (f .frame) 4) refl w
     where
-      go : (t : Bool) → eqb (f .frame) 4 ≡ t → if_then_else t (called f && (sameFront (frontBy 4 (f .unnamed) (f .id) 0 0 (f .problem) (f .detail)) f && problemFine (f .problem) (f .detail))) false ≡ true
+      go : (t : Bool) → eqb (f .frame) 4 ≡ t → cond t (called f && (sameFront (frontBy 4 (f .unnamed) (f .id) 0 0 (f .problem) (f .detail)) f && problemFine (f .problem) (f .detail))) false ≡ true
           → (f .frame ≡ 4) × (problemFine (f .problem) (f .detail) ≡ true)
       go true q h = (eqb-true (f .frame) 4 q, and-right (sameFront (frontBy 4 (f .unnamed) (f .id) 0 0 (f .problem) (f .detail)) f) _ (and-right (called f) _ h))
       go false q h = absurd (true≢false (sym h))
@@ -107,7 +106,7 @@ module _ (f : Front) (v : frontFine f ≡ true) where
   problem-tag a b d = go (eqb (f .problem) 0x80) (eqb (f .problem) 0x81) (eqb (f .problem) 0x82) refl refl refl (reject-problem a b d .1)
     where
       go : (x y z : Bool) → eqb (f .problem) 0x80 ≡ x → eqb (f .problem) 0x81 ≡ y → eqb (f .problem) 0x82 ≡ z
-          → if_then_else x (leb (f .detail) 2) (if_then_else y (leb (f .detail) 7) (if_then_else z (leb (f .detail) 2) (eqb 0x83 (f .problem) && leb (f .detail) 4))) ≡ true
+          → cond x (leb (f .detail) 2) (cond y (leb (f .detail) 7) (cond z (leb (f .detail) 2) (eqb 0x83 (f .problem) && leb (f .detail) 4))) ≡ true
           → (f .problem ≡ 0x80) ⊎ ((f .problem ≡ 0x81) ⊎ ((f .problem ≡ 0x82) ⊎ (f .problem ≡ 0x83)))
       go true y z q r s h = inl (eqb-true (f .problem) 0x80 q)
       go false true z q r s h = inr (inl (eqb-true (f .problem) 0x81 r))
@@ -126,9 +125,9 @@ front-least f n = go (eqb (f .frame) 1) (eqb (f .frame) 2) (eqb (f .frame) 3) (e
   where
     whole : (a b d e : Bool) → List ℕ
     whole a b d e =
-        if_then_else a (idOctets f ++ (fullNumber 0x02 (f .operation) ++ if_then_else (eqb (f .operation) 30) (fullNumber 0x0a (f .detail)) []))
-        (if_then_else b (idOctets f ++ (lead 0x30 (3 + n) ++ fullNumber 0x02 (f .operation)))
-        (if_then_else d (idOctets f ++ fullNumber 0x02 (f .error)) (if_then_else e (lead 0x05 0) (idOctets f) ++ fullNumber (f .problem) (f .detail))))
+        cond a (idOctets f ++ (fullNumber 0x02 (f .operation) ++ cond (eqb (f .operation) 30) (fullNumber 0x0a (f .detail)) []))
+        (cond b (idOctets f ++ (lead 0x30 (3 + n) ++ fullNumber 0x02 (f .operation)))
+        (cond d (idOctets f ++ fullNumber 0x02 (f .error)) (cond e (lead 0x05 0) (idOctets f) ++ fullNumber (f .problem) (f .detail))))
 
     id3 : 3 ≤ length (idOctets f)
     id3 = omega (arith, id-many f, id-range (f .id))
@@ -138,7 +137,7 @@ front-least f n = go (eqb (f .frame) 1) (eqb (f .frame) 2) (eqb (f .frame) 3) (e
 
     go : (a b d e : Bool) → 5 ≤ length (whole a b d e)
     go true b d e =
-        let r : List ℕ = if_then_else (eqb (f .operation) 30) (fullNumber 0x0a (f .detail)) [] in
+        let r : List ℕ = cond (eqb (f .operation) 30) (fullNumber 0x0a (f .detail)) [] in
         omega (arith, length-append (idOctets f) (fullNumber 0x02 (f .operation) ++ r), length-append (fullNumber 0x02 (f .operation)) r, id3, num3 0x02 (f .operation))
     go false true d e =
         omega (

@@ -1,12 +1,11 @@
 // All of a record but its charge: whether it may be written, how many octets it takes, and its octets.
 ghost use mathlib.Core.Path.{_≡_};
-ghost use mathlib.Core.Bool.{true, false};
+ghost use mathlib.Core.Bool.{true, false, cond};
 ghost use mathlib.Core.List.{[], _++_};
 ghost use Prim.Native.Nat.{_+_, _≤_, _<_};
 ghost use lib.ListN.{length};
 ghost use Rattle.coding.specs.Codec.{has};
 ghost use Rattle.coding.specs.Written.{Wrote, lead, fullNumber};
-ghost use Rattle.coding.specs.Reader.{if_then_else};
 ghost use lib.Dec.{eqb};
 ghost use Rattle.types.specs.Frames.{operations};
 ghost use Rattle.fronts.specs.Fronts.{frontFine, frontOctets, problemFine, charged, idOctets};
@@ -159,7 +158,7 @@ fn reject_fine(f: Front) -> bool
 }
 
 fn is_called(unnamed: u8, id: u16) -> bool
-    ensures { λ r. ⌜ r ≡ if_then_else (eqb unnamed 1) (eqb 0 id) (eqb 0 unnamed) ⌝ }
+    ensures { λ r. ⌜ r ≡ cond (eqb unnamed 1) (eqb 0 id) (eqb 0 unnamed) ⌝ }
 {
     if unnamed == 1 {
         if id != 0 {
@@ -238,8 +237,8 @@ pub fn front_size(f: Front, n: usize) -> usize
 }
 
 fn put_invoke(buf: &mut [u8], at: usize, f: Front) -> usize
-    requires { ⌜ (f .operation < 128) × (f .detail < 128) × (at + length (idOctets f ++ (fullNumber 0x02 (f .operation) ++ if_then_else (eqb (f .operation) 30) (fullNumber 0x0a (f .detail)) [])) ≤ length (now buf)) ⌝ }
-    ensures { λ r. ⌜ Wrote (now (buf .entry)) (now (buf .exit)) at (idOctets f ++ (fullNumber 0x02 (f .operation) ++ if_then_else (eqb (f .operation) 30) (fullNumber 0x0a (f .detail)) [])) r ⌝ }
+    requires { ⌜ (f .operation < 128) × (f .detail < 128) × (at + length (idOctets f ++ (fullNumber 0x02 (f .operation) ++ cond (eqb (f .operation) 30) (fullNumber 0x0a (f .detail)) [])) ≤ length (now buf)) ⌝ }
+    ensures { λ r. ⌜ Wrote (now (buf .entry)) (now (buf .exit)) at (idOctets f ++ (fullNumber 0x02 (f .operation) ++ cond (eqb (f .operation) 30) (fullNumber 0x0a (f .detail)) [])) r ⌝ }
 {
     let p = coding::put_id(buf, at, 0x02, f.id);
     let q = coding::put_small(buf, p, 0x02, f.operation);
@@ -260,8 +259,8 @@ fn put_result(buf: &mut [u8], at: usize, f: Front, n: usize) -> usize
 
 // The identifier, or NULL.
 fn put_caller(buf: &mut [u8], at: usize, f: Front) -> usize
-    requires { ⌜ at + length (if_then_else (eqb (f .unnamed) 1) (lead 0x05 0) (idOctets f)) ≤ length (now buf) ⌝ }
-    ensures { λ r. ⌜ Wrote (now (buf .entry)) (now (buf .exit)) at (if_then_else (eqb (f .unnamed) 1) (lead 0x05 0) (idOctets f)) r ⌝ }
+    requires { ⌜ at + length (cond (eqb (f .unnamed) 1) (lead 0x05 0) (idOctets f)) ≤ length (now buf) ⌝ }
+    ensures { λ r. ⌜ Wrote (now (buf .entry)) (now (buf .exit)) at (cond (eqb (f .unnamed) 1) (lead 0x05 0) (idOctets f)) r ⌝ }
 {
     if f.unnamed == 1 {
         return coding::put_null(buf, at, 0x05);
@@ -270,8 +269,8 @@ fn put_caller(buf: &mut [u8], at: usize, f: Front) -> usize
 }
 
 fn put_reject(buf: &mut [u8], at: usize, f: Front) -> usize
-    requires { ⌜ (f .detail < 128) × (at + length (if_then_else (eqb (f .unnamed) 1) (lead 0x05 0) (idOctets f) ++ fullNumber (f .problem) (f .detail)) ≤ length (now buf)) ⌝ }
-    ensures { λ r. ⌜ Wrote (now (buf .entry)) (now (buf .exit)) at (if_then_else (eqb (f .unnamed) 1) (lead 0x05 0) (idOctets f) ++ fullNumber (f .problem) (f .detail)) r ⌝ }
+    requires { ⌜ (f .detail < 128) × (at + length (cond (eqb (f .unnamed) 1) (lead 0x05 0) (idOctets f) ++ fullNumber (f .problem) (f .detail)) ≤ length (now buf)) ⌝ }
+    ensures { λ r. ⌜ Wrote (now (buf .entry)) (now (buf .exit)) at (cond (eqb (f .unnamed) 1) (lead 0x05 0) (idOctets f) ++ fullNumber (f .problem) (f .detail)) r ⌝ }
 {
     let p = put_caller(buf, at, f);
     coding::put_small(buf, p, f.problem, f.detail)

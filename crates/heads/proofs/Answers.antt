@@ -2,12 +2,12 @@
 -- Assumes nothing.
 use Prim.Native.Nat.{ℕ}
 use mathlib.Core.Path.{_≡_, refl, ap, _∙_}
-use mathlib.Core.Bool.{Bool, true, false}
+use mathlib.Core.Bool.{Bool, true, false, cond}
 use mathlib.Core.List.{List}
 use lib.ListN.{length}
 use lib.Dec.{eqb}
 use borrow.Author.Tests.{eq-eqb, ne-eqb}
-use Rattle.coding.specs.Reader.{Ans, Fault, if_then_else, after, blamed, closed}
+use Rattle.coding.specs.Reader.{Ans, Fault, after, blamed, closed}
 use Rattle.coding.specs.Reader.Ans.{got, halt}
 use Rattle.coding.specs.Codec.{Run}
 use Rattle.coding.specs.Shown.{shown}
@@ -68,8 +68,8 @@ pub one-end : (v : Record) (at end : ℕ) → after (closed v at end end) (λ w 
 unfolding closed after
 one-end v at end = go (eqb at end)
   where
-    go : (b : Bool) → after (if_then_else b (got v end) (halt Fault.unexpected at)) (λ w m. if_then_else (eqb m end) (got w end) (halt Fault.unexpected m))
-        ≡ if_then_else b (got v end) (halt Fault.unexpected at)
+    go : (b : Bool) → after (cond b (got v end) (halt Fault.unexpected at)) (λ w m. cond (eqb m end) (got w end) (halt Fault.unexpected m))
+        ≡ cond b (got v end) (halt Fault.unexpected at)
     go true = rw (eq-eqb end end refl)
     go false = refl
 

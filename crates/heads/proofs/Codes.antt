@@ -3,12 +3,12 @@
 use Prim.Native.Nat.{ℕ, zero, suc, _+_, _-_, _≤_, _<_, min}
 use native.Mathlib.Omega.{arith}
 use mathlib.Core.Path.{_≡_, refl, ap, sym}
-use mathlib.Core.Bool.{Bool, true, false, _||_, true≢false}
+use mathlib.Core.Bool.{Bool, true, false, _||_, true≢false, cond}
 use mathlib.Core.List.{List, [], _∷_}
 use lib.ListN.{length}
 use lib.Dec.{ltb, eqb}
 use borrow.Author.Tests.{lt-ltb, le-ltb, ltb-true, ltb-false, eqb-true, ne-eqb}
-use Rattle.coding.specs.Reader.{Fault, code, if_then_else}
+use Rattle.coding.specs.Reader.{Fault, code}
 use Rattle.coding.specs.Reader.Fault.{missing, unexpected, cut, form, shortest, contents, limit, named}
 use Rattle.coding.specs.Contents.{negative, numberFrom}
 use Rattle.coding.specs.Contents as Contents
@@ -103,7 +103,7 @@ known-all most k l = go (eqb k 1) (eqb k 2)
     lt : (v : ℕ) → v ≤ 36 → ltb v most ≡ true
     lt v e = let z : v < most = omega (arith, l) in lt-ltb v most z
 
-    go : (b d : Bool) → all (λ v. ltb v most) (if_then_else b operations (if_then_else d (30 ∷ []) errors)) ≡ true
+    go : (b d : Bool) → all (λ v. ltb v most) (cond b operations (cond d (30 ∷ []) errors)) ≡ true
     go true d =
         simp (lt 30 (omega arith), lt 31 (omega arith), lt 32 (omega arith), lt 33 (omega arith), lt 34 (omega arith), lt 35 (omega arith), lt 36 (omega arith))
     go false true = simp (lt 30 (omega arith))

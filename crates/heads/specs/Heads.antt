@@ -1,10 +1,11 @@
 -- What stands before an argument or result, and what is left to read once it is known. For the reader's inner functions.
+use mathlib.Core.Bool.{cond}
 use Prim.Native.Nat.{ℕ, _+_, _-_}
 use mathlib.Core.List.{List, [], _∷_}
 use mathlib.Core.Logic.{_⊎_, inl, inr}
 use lib.ListN.{length}
 use lib.Dec.{ltb, leb, eqb}
-use Rattle.coding.specs.Reader.{Reader, if_then_else, after, closed, choice}
+use Rattle.coding.specs.Reader.{Reader, after, closed, choice}
 use Rattle.coding.specs.Reader.Ans.{got}
 use Rattle.coding.specs.Codec.{Run, pickRun, prim}
 use Rattle.coding.specs.Leaves.{number}
@@ -19,21 +20,21 @@ use Rattle.heads.specs.declared.Problem.{Problem}
 -- ---- the numbers by which the code tells a fault
 
 abbrev pub outsideCode : ℕ → ℕ
-outsideCode k = if_then_else (eqb k 40) 101 (if_then_else (eqb k 41) 104 (if_then_else (eqb k 42) 101 k))
+outsideCode k = cond (eqb k 40) 101 (cond (eqb k 41) 104 (cond (eqb k 42) 101 k))
 
 abbrev pub argumentCode : ℕ → ℕ
-argumentCode k = if_then_else (eqb k 2) 2 (if_then_else (ltb k 100) (100 + k) k)
+argumentCode k = cond (eqb k 2) 2 (cond (ltb k 100) (100 + k) k)
 
 abbrev pub numberCode : ℕ → ℕ
-numberCode k = if_then_else (ltb k 100) (if_then_else (eqb k 2) 2 6) (namedNumber (k - 100))
+numberCode k = cond (ltb k 100) (cond (eqb k 2) 2 6) (namedNumber (k - 100))
 
 -- ---- the values known in a frame (1 invoke, 2 return result, 3 return error), and the refusal of the others
 
 abbrev pub knownIn : ℕ → List ℕ
-knownIn k = if_then_else (eqb k 1) operations (if_then_else (eqb k 2) (30 ∷ []) errors)
+knownIn k = cond (eqb k 1) operations (cond (eqb k 2) (30 ∷ []) errors)
 
 abbrev pub unknownIn : ℕ → ℕ
-unknownIn k = if_then_else (eqb k 3) 8 7
+unknownIn k = cond (eqb k 3) 8 7
 
 -- ---- a frame's contents, from a place to the end of the octets
 
@@ -61,14 +62,14 @@ tailOf f h s =
 
 unfoldable pub restOf : Head → List ℕ → Answer
 restOf h s =
-    if_then_else (eqb (h .frame) 0) (refused (h .number))
-    (if_then_else (leb 3 (h .frame)) (accepted (headRecord h))
+    cond (eqb (h .frame) 0) (refused (h .number))
+    (cond (leb 3 (h .frame)) (accepted (headRecord h))
     (tailOf (pickRun (eqb (h .frame) 1) (argument (h .id) (h .operation)) (carrying 2 (h .id) (h .operation))) h s))
 
 -- ---- a reject's parts
 
 abbrev pub callerBy : Caller → Unit {0} ⊎ ℕ
-callerBy c = if_then_else (eqb (c .unnamed) 1) (inl tt) (inr (c .id))
+callerBy c = cond (eqb (c .unnamed) 1) (inl tt) (inr (c .id))
 
 abbrev pub rejectedBy : Caller → ℕ → ℕ → Record
 rejectedBy c tag n = record { frame = 4; unnamed = c .unnamed; id = c .id; operation = 0; error = 0; problem = tag; detail = n; charge = noCharge }

@@ -3,7 +3,7 @@
 use Prim.Native.Nat.{ℕ, _+_, _-_, _*_, _≤_, _<_, min}
 use mathlib.Core.Path.{_≡_, refl, sym, ap, _∙_}
 use mathlib.Core.List.{List, [], _∷_, _++_, append-nil, append-assoc}
-use mathlib.Core.Bool.{Bool, true, false, _&&_}
+use mathlib.Core.Bool.{Bool, true, false, _&&_, cond}
 use native.Mathlib.Omega.{arith}
 use native.Mathlib.Nat.{mod-eq-of-lt}
 use native.Mathlib.Numerals.{add-one}
@@ -11,7 +11,6 @@ use lib.ListN.{length, take, set, length-append, length-set}
 use lib.Seq.{take-all, take-append-le, take-suc-set}
 use lib.Dec.{leb, ltb, eqb}
 use borrow.Author.Tests.{le-leb, lt-leb, lt-ltb, ltb-true, ltb-false, leb-false, ne-eqb, eq-eqb}
-use Rattle.coding.specs.Reader.{if_then_else}
 use Rattle.types.specs.Frames.{readOf}
 use Rattle.lines.specs.declared.input.Line.{Line}
 use Rattle.lines.specs.Text.{refusedText}
@@ -30,15 +29,15 @@ data Stage : Type 0 where
   wrong : Stage
 
 first : List ℕ → ℕ → Stage
-first os d = if_then_else (leb 16 d) wrong (half os d)
+first os d = cond (leb 16 d) wrong (half os d)
 
 second : List ℕ → ℕ → ℕ → Stage
-second os h d = if_then_else (leb 16 d) wrong (whole (os ++ (h * 16 + d) ∷ []))
+second os h d = cond (leb 16 d) wrong (whole (os ++ (h * 16 + d) ∷ []))
 
 step : Stage → ℕ → Stage
 step begun c = first [] (digitOf c)
 step (half os h) c = second os h (digitOf c)
-step (whole os) c = if_then_else (eqb c 32) (parted os) wrong
+step (whole os) c = cond (eqb c 32) (parted os) wrong
 step (parted os) c = first os (digitOf c)
 step wrong c = wrong
 
@@ -88,7 +87,7 @@ unfolding steps step judged pairs first second
 means-parted [] os = refl
 means-parted (a ∷ []) os = go (leb 16 (digitOf a))
   where
-    go : (x : Bool) → judged (if_then_else x wrong (half os (digitOf a))) ≡ bad
+    go : (x : Bool) → judged (cond x wrong (half os (digitOf a))) ≡ bad
     go true = refl
     go false = refl
 means-parted (a ∷ b ∷ []) os = go (ltb (digitOf a) 16) (ltb (digitOf b) 16) refl refl
@@ -106,7 +105,7 @@ means-parted (a ∷ b ∷ c ∷ s) os =
   where
     go : (x y z : Bool) → ltb (digitOf a) 16 ≡ x → ltb (digitOf b) 16 ≡ y → eqb c 32 ≡ z
         → judged (steps (parted (os ++ (digitOf a * 16 + digitOf b) ∷ [])) s) ≡ joined (os ++ (digitOf a * 16 + digitOf b) ∷ []) (pairs s)
-        → judged (steps (step (step (first os (digitOf a)) b) c) s) ≡ joined os (if_then_else (eqb c 32) (led a b (pairs s)) bad)
+        → judged (steps (step (step (first os (digitOf a)) b) c) s) ≡ joined os (cond (eqb c 32) (led a b (pairs s)) bad)
     go true true true p q r ih =
         rw (digit-test (digitOf a) p, digit-test (digitOf b) q, r) (ih ∙ led-joined os a b (pairs s) p q)
     go true true false p q r ih = rw (digit-test (digitOf a) p, digit-test (digitOf b) q, r, steps-wrong s)
@@ -173,7 +172,7 @@ module _ (l : Line) (o : List ℕ) (c : ℕ) where
       rw (ne-eqb (l .phase) 4 h₄, ne-eqb (l .phase) 3 h₃, ne-eqb (l .phase) 2 h₂) (go (leb 16 (digitOf c)) refl)
     where
       go : (b : Bool) → leb 16 (digitOf c) ≡ b
-          → Keeps (if_then_else b wrong (half os (digitOf c))) (if_then_else b badLine (madeLine (l .count) 2 (digitOf c))) o
+          → Keeps (cond b wrong (half os (digitOf c))) (cond b badLine (madeLine (l .count) 2 (digitOf c))) o
       go true e = refl
       go false e = (refl, refl, leb-false 16 (digitOf c) e, k)
 
@@ -183,18 +182,18 @@ module _ (l : Line) (o : List ℕ) (c : ℕ) where
   keeps-second os h e p q r k = rw (p, q) (go (leb 16 (digitOf c)) (ltb (l .count) 254) refl refl)
     where
       go : (b f : Bool) → leb 16 (digitOf c) ≡ b → ltb (l .count) 254 ≡ f
-          → Keeps (if_then_else b wrong (whole (os ++ (h * 16 + digitOf c) ∷ [])))
-          (if_then_else b badLine (if_then_else f (madeLine (l .count + 1) 3 0) (madeLine 255 3 0)))
-          (if_then_else b o (if_then_else f (set o (l .count) (octetOf h (digitOf c))) o))
+          → Keeps (cond b wrong (whole (os ++ (h * 16 + digitOf c) ∷ [])))
+          (cond b badLine (cond f (madeLine (l .count + 1) 3 0) (madeLine 255 3 0)))
+          (cond b o (cond f (set o (l .count) (octetOf h (digitOf c))) o))
       go true f x y = refl
       go false true x y = (refl, kept-more os o (l .count) h (digitOf c) e r (leb-false 16 (digitOf c) x) (ltb-true (l .count) 254 y) k)
       go false false x y = (refl, kept-full os o (l .count) (h * 16 + digitOf c) e (ltb-false (l .count) 254 y) k)
 
-  keeps-whole : (os : List ℕ) → l .phase ≡ 3 → Kept os (l .count) o → Keeps (if_then_else (eqb c 32) (parted os) wrong) (stepLine l c) (stepOctets l c o)
+  keeps-whole : (os : List ℕ) → l .phase ≡ 3 → Kept os (l .count) o → Keeps (cond (eqb c 32) (parted os) wrong) (stepLine l c) (stepOctets l c o)
   unfolding stepLine stepOctets
   keeps-whole os p k = rw p (go (eqb c 32))
     where
-      go : (b : Bool) → Keeps (if_then_else b (parted os) wrong) (if_then_else b (madeLine (l .count) 1 0) badLine) o
+      go : (b : Bool) → Keeps (cond b (parted os) wrong) (cond b (madeLine (l .count) 1 0) badLine) o
       go true = (refl, k)
       go false = refl
 
@@ -214,7 +213,7 @@ module _ (l : Line) (o : List ℕ) (c : ℕ) where
   unfolding stepOctets
   held-length = go (eqb (l .phase) 2) (leb 16 (digitOf c)) (ltb (l .count) 254)
     where
-      go : (x y z : Bool) → length (if_then_else x (if_then_else y o (if_then_else z (set o (l .count) (octetOf (l .high) (digitOf c))) o)) o) ≡ length o
+      go : (x y z : Bool) → length (cond x (cond y o (cond z (set o (l .count) (octetOf (l .high) (digitOf c))) o)) o) ≡ length o
       go true true z = refl
       go true false true = length-set o (l .count) (octetOf (l .high) (digitOf c))
       go true false false = refl
@@ -227,10 +226,10 @@ unfolding replyTo readOf
 reply-long os h = rw (lt-ltb 254 (length os) h)
 
 answer-good : (l : Line) (os o : List ℕ) → length o ≡ 254 → Kept os (l .count) o
-    → if_then_else (ltb (length o) (l .count)) (refusedText 3) (replyTo (take (l .count) o)) ≡ replyTo os
+    → cond (ltb (length o) (l .count)) (refusedText 3) (replyTo (take (l .count) o)) ≡ replyTo os
 answer-good l os o e k = go (ltb (length o) (l .count)) refl
   where
-    go : (b : Bool) → ltb (length o) (l .count) ≡ b → if_then_else b (refusedText 3) (replyTo (take (l .count) o)) ≡ replyTo os
+    go : (b : Bool) → ltb (length o) (l .count) ≡ b → cond b (refusedText 3) (replyTo (take (l .count) o)) ≡ replyTo os
     go true f =
         let h : 254 < length os = omega (arith, k .count, ltb-true (length o) (l .count) f) in
         sym (reply-long os h)
@@ -282,22 +281,22 @@ step-fresh : (q : Stage) (c : ℕ) → Fresh (step q c) → ⊥
 unfolding step first second
 step-fresh begun c f = go (leb 16 (digitOf c)) f
   where
-    go : (b : Bool) → Fresh (if_then_else b wrong (half [] (digitOf c))) → ⊥
+    go : (b : Bool) → Fresh (cond b wrong (half [] (digitOf c))) → ⊥
     go true x = x
     go false x = x
 step-fresh (half os h) c f = go (leb 16 (digitOf c)) f
   where
-    go : (b : Bool) → Fresh (if_then_else b wrong (whole (os ++ (h * 16 + digitOf c) ∷ []))) → ⊥
+    go : (b : Bool) → Fresh (cond b wrong (whole (os ++ (h * 16 + digitOf c) ∷ []))) → ⊥
     go true x = x
     go false x = x
 step-fresh (whole os) c f = go (eqb c 32) f
   where
-    go : (b : Bool) → Fresh (if_then_else b (parted os) wrong) → ⊥
+    go : (b : Bool) → Fresh (cond b (parted os) wrong) → ⊥
     go true x = x
     go false x = x
 step-fresh (parted os) c f = go (leb 16 (digitOf c)) f
   where
-    go : (b : Bool) → Fresh (if_then_else b wrong (half os (digitOf c))) → ⊥
+    go : (b : Bool) → Fresh (cond b wrong (half os (digitOf c))) → ⊥
     go true x = x
     go false x = x
 step-fresh wrong c f = f
@@ -331,8 +330,8 @@ said (c ∷ s) p l o t e k =
     go : (b : Bool) → eqb c 10 ≡ b
         → ended (turns (state newLine o (t ++ answerText l o)) s) ≡ (t ++ answerText l o) ++ answersTo (linesOf s)
         → ended (turns (state (stepLine l c) (stepOctets l c o) t) s) ≡ t ++ answersTo (onto (p ++ c ∷ []) (linesOf s))
-        → ended (turns (if_then_else b (state newLine o (t ++ answerText l o)) (state (stepLine l c) (stepOctets l c o) t)) s)
-        ≡ t ++ answersTo (onto p (if_then_else b ([] ∷ linesOf s) (before c (linesOf s))))
+        → ended (turns (cond b (state newLine o (t ++ answerText l o)) (state (stepLine l c) (stepOctets l c o) t)) s)
+        ≡ t ++ answersTo (onto p (cond b ([] ∷ linesOf s) (before c (linesOf s))))
     go true x ih jh =
         ih ∙ append-assoc t (answerText l o) (answersTo (linesOf s))
         ∙ ap (λ (y : List ℕ). t ++ (y ++ answersTo (linesOf s))) (answer-keeps (steps begun p) l o e k ∙ ap answerTo (means p))

@@ -3,14 +3,14 @@
 use Prim.Native.Nat.{ℕ, _+_, _-_, _≤_, _<_}
 use mathlib.Core.Path.{_≡_, refl, sym, ap, _∙_}
 use mathlib.Core.List.{List, [], _∷_, _++_}
-use mathlib.Core.Bool.{Bool, true, false}
+use mathlib.Core.Bool.{Bool, true, false, cond}
 use native.Mathlib.Omega.{arith}
 use native.Mathlib.Nat.{sub-zero}
 use lib.ListN.{length, getD, set}
 use lib.Seq.{take-all}
 use lib.Dec.{leb, eqb}
 use borrow.Author.Tests.{le-leb, lt-leb, lt-ltb, le-ltb, ne-eqb, eq-eqb, eqb-true}
-use Rattle.coding.specs.Reader.{if_then_else, part}
+use Rattle.coding.specs.Reader.{part}
 use Rattle.coding.proofs.Parts.{part-none, part-more, part-split}
 use Rattle.lines.specs.declared.input.Line.{Line}
 use Rattle.lines.specs.declared.input.Went.{Went}
@@ -93,7 +93,7 @@ pub held-none : (l : Line) (c : ℕ) (o : List ℕ) → 16 ≤ digitOf c → ste
 unfolding stepOctets
 held-none l c o d = rw (le-leb 16 (digitOf c) d) (go (eqb (l .phase) 2))
   where
-    go : (b : Bool) → if_then_else b o o ≡ o
+    go : (b : Bool) → cond b o o ≡ o
     go true = refl
     go false = refl
 
@@ -123,7 +123,7 @@ pub held-full : (l : Line) (c : ℕ) (o : List ℕ) → l .phase ≡ 2 → 254 �
 unfolding stepOctets
 held-full l c o p n = rw (p, le-ltb (l .count) 254 n) (go (leb 16 (digitOf c)))
   where
-    go : (b : Bool) → if_then_else b o o ≡ o
+    go : (b : Bool) → cond b o o ≡ o
     go true = refl
     go false = refl
 
@@ -208,14 +208,14 @@ Taken s from at k l o p = (t : List ℕ) → turns (state l o t) (part s from at
 spaced-phase : (l : Line) (k : ℕ) → l .phase ≤ 1 → spacedLine l k .phase ≤ 1
 spaced-phase l k h = go (eqb k 0)
   where
-    go : (b : Bool) → (if_then_else b l (madeLine (l .count + k) 1 0)) .phase ≤ 1
+    go : (b : Bool) → (cond b l (madeLine (l .count + k) 1 0)) .phase ≤ 1
     go true = h
     go false = omega arith
 
 spaced-count : (l : Line) (k : ℕ) → spacedLine l k .count ≡ l .count + k
 spaced-count l k = go (eqb k 0) refl
   where
-    go : (b : Bool) → eqb k 0 ≡ b → (if_then_else b l (madeLine (l .count + k) 1 0)) .count ≡ l .count + k
+    go : (b : Bool) → eqb k 0 ≡ b → (cond b l (madeLine (l .count + k) 1 0)) .count ≡ l .count + k
     go true e = let z : k ≡ 0 = eqb-true k 0 e in omega arith
     go false e = refl
 

@@ -1,9 +1,8 @@
 -- What the program prints for an input: its lines, the octets of a line, and the answer to it.
 use Prim.Native.Nat.{ℕ, _+_, _-_, _*_}
 use mathlib.Core.List.{List, [], _∷_, _++_}
-use mathlib.Core.Bool.{_&&_}
+use mathlib.Core.Bool.{_&&_, cond}
 use lib.Dec.{ltb, leb, eqb}
-use Rattle.coding.specs.Reader.{if_then_else}
 use Rattle.types.specs.Frames.{component, readOf}
 use Rattle.lines.specs.Text.{hexText, refusedText, badText}
 
@@ -12,9 +11,9 @@ use Rattle.lines.specs.Text.{hexText, refusedText, badText}
 -- a hex digit's value: 0 to 9, A to F, a to f; 16 for any other character
 unfoldable pub digitOf : ℕ → ℕ
 digitOf c =
-    if_then_else (leb 48 c && leb c 57) (c - 48)
-    (if_then_else (leb 65 c && leb c 70) (c - 55)
-    (if_then_else (leb 97 c && leb c 102) (c - 87)
+    cond (leb 48 c && leb c 57) (c - 48)
+    (cond (leb 65 c && leb c 70) (c - 55)
+    (cond (leb 97 c && leb c 102) (c - 87)
     16))
 
 pub data Meant : Type 0 where
@@ -25,14 +24,14 @@ pub data Meant : Type 0 where
 unfoldable pub led : ℕ → ℕ → Meant → Meant
 led a b bad = bad
 led a b (octets os) =
-    if_then_else (ltb (digitOf a) 16 && ltb (digitOf b) 16) (octets ((digitOf a * 16 + digitOf b) ∷ os)) bad
+    cond (ltb (digitOf a) 16 && ltb (digitOf b) 16) (octets ((digitOf a * 16 + digitOf b) ∷ os)) bad
 
 -- two digits, and again after each space
 unfoldable pub pairs : List ℕ → Meant
 pairs [] = bad
 pairs (a ∷ []) = bad
 pairs (a ∷ b ∷ []) = led a b (octets [])
-pairs (a ∷ b ∷ c ∷ s) = if_then_else (eqb c 32) (led a b (pairs s)) bad
+pairs (a ∷ b ∷ c ∷ s) = cond (eqb c 32) (led a b (pairs s)) bad
 
 -- a line with no character has no octets
 unfoldable pub lineOf : List ℕ → Meant
@@ -44,7 +43,7 @@ lineOf (a ∷ s) = pairs (a ∷ s)
 -- the shortest form of the component, or the refusal
 unfoldable pub replyTo : List ℕ → List ℕ
 replyTo os =
-    if_then_else (eqb (readOf os .number) 0) (hexText (component .write (readOf os .value))) (refusedText (readOf os .number))
+    cond (eqb (readOf os .number) 0) (hexText (component .write (readOf os .value))) (refusedText (readOf os .number))
 
 unfoldable pub answerTo : Meant → List ℕ
 answerTo bad = badText
@@ -60,7 +59,7 @@ before c (l ∷ ls) = (c ∷ l) ∷ ls
 -- 10 ends a line; a last line that nothing ends is a line where it has a character
 unfoldable pub linesOf : List ℕ → List (List ℕ)
 linesOf [] = []
-linesOf (c ∷ s) = if_then_else (eqb c 10) ([] ∷ linesOf s) (before c (linesOf s))
+linesOf (c ∷ s) = cond (eqb c 10) ([] ∷ linesOf s) (before c (linesOf s))
 
 unfoldable pub answersTo : List (List ℕ) → List ℕ
 answersTo [] = []

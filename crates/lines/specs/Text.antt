@@ -1,9 +1,9 @@
 -- The characters of an answer. 32 is the space, 10 the line's end.
+use mathlib.Core.Bool.{cond}
 use Prim.Native.Nat.{ℕ, _+_, _/_, _%_}
 use mathlib.Core.List.{List, [], _∷_, _++_}
 use lib.ListN.{getD}
 use lib.Dec.{ltb}
-use Rattle.coding.specs.Reader.{if_then_else}
 
 -- 0 to 9, A to F
 abbrev pub glyphs : List ℕ
@@ -23,7 +23,7 @@ hexText (x ∷ xs) = glyph (x / 16) ∷ glyph (x % 16) ∷ mark xs ∷ hexText x
 
 -- a number below 100
 abbrev pub decimal : ℕ → List ℕ
-decimal n = if_then_else (ltb n 10) ((48 + n) ∷ []) ((48 + n / 10) ∷ (48 + n % 10) ∷ [])
+decimal n = cond (ltb n 10) ((48 + n) ∷ []) ((48 + n / 10) ∷ (48 + n % 10) ∷ [])
 
 -- `refused N`
 abbrev pub refusedWord : List ℕ

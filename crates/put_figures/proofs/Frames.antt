@@ -3,12 +3,11 @@
 use Prim.Native.Nat.{ℕ, _+_, _≤_, _<_}
 use mathlib.Core.Path.{_≡_, refl, sym, ap, ap₂, _∙_}
 use mathlib.Core.List.{List, [], _++_, append-assoc}
-use mathlib.Core.Bool.{Bool, true, false, not, _&&_, _||_, true≢false}
+use mathlib.Core.Bool.{Bool, true, false, not, _&&_, _||_, true≢false, cond}
 use native.Mathlib.Omega.{arith}
 use lib.ListN.{length, length-append}
 use lib.Dec.{ltb, leb, eqb}
 use borrow.Author.Tests.{eq-eqb, ne-eqb, lt-ltb, le-ltb, eqb-true, eqb-false, leb-true, ltb-true, ltb-false}
-use Rattle.coding.specs.Reader.{if_then_else}
 use Rattle.coding.specs.Codec.{pair, over, maybe}
 use Rattle.coding.specs.Leaves.{given}
 use Rattle.coding.specs.Written.{Wrote, lead, fullNumber}
@@ -30,7 +29,7 @@ given-write : (tag low high d b : ℕ) → (given tag low high) .write (record {
 unfolding given over maybe billingOctets
 given-write tag low high d b = go (eqb d 1)
   where
-    go : (t : Bool) → (given tag low high) .write (record { given = t; value = b }) ≡ if_then_else t (fullNumber tag b) []
+    go : (t : Bool) → (given tag low high) .write (record { given = t; value = b }) ≡ cond t (fullNumber tag b) []
     go true = number-write tag low high b
     go false = refl
 
@@ -74,9 +73,9 @@ module _ (o : ℕ) (f : Figure) where
   unfolding ended before after
   ended-split xs = go (ltb o 35)
     where
-      go : (t : Bool) → if_then_else t (framed o f xs) (element 0x30 (framed o f xs ++ association .write (f .association)))
-          ≡ if_then_else t (frameLead o f (length xs)) (lead 0x30 (length (frameLead o f (length xs)) + length xs + length (marks o f) + length (association .write (f .association))) ++ frameLead o f (length xs))
-          ++ (xs ++ if_then_else t (marks o f) (marks o f ++ association .write (f .association)))
+      go : (t : Bool) → cond t (framed o f xs) (element 0x30 (framed o f xs ++ association .write (f .association)))
+          ≡ cond t (frameLead o f (length xs)) (lead 0x30 (length (frameLead o f (length xs)) + length xs + length (marks o f) + length (association .write (f .association))) ++ frameLead o f (length xs))
+          ++ (xs ++ cond t (marks o f) (marks o f ++ association .write (f .association)))
       go true = framed-split xs
       go false =
           let m = marks o f in
@@ -89,10 +88,10 @@ module _ (o : ℕ) (f : Figure) where
 
 -- ---- what a fine figure holds
 
-billing-few : (most d b : ℕ) → most ≤ 7 → if_then_else (eqb d 1) (leb b most) (eqb 0 d && eqb 0 b) ≡ true → b ≤ 7
+billing-few : (most d b : ℕ) → most ≤ 7 → cond (eqb d 1) (leb b most) (eqb 0 d && eqb 0 b) ≡ true → b ≤ 7
 billing-few most d b l h = go (eqb d 1) h
   where
-    go : (t : Bool) → if_then_else t (leb b most) (eqb 0 d && eqb 0 b) ≡ true → b ≤ 7
+    go : (t : Bool) → cond t (leb b most) (eqb 0 d && eqb 0 b) ≡ true → b ≤ 7
     go true q = omega (arith, leb-true b most q)
     go false q = omega (arith, eqb-true 0 b (and-right (eqb 0 d) (eqb 0 b) q))
 
@@ -107,7 +106,7 @@ module _ (o : ℕ) (f : Figure) where
   priced-small : (x y : ℕ) → f .kind ≤ 5 → pricedMarks x y o f ≡ true → Small f
   priced-small x y k h = go (eqb o x) (eqb o y) h
     where
-      go : (t u : Bool) → if_then_else t ((leb (f .total) 1 && eqb 0 (f .arrangement)) && billingFine 2 f) (if_then_else u ((eqb 0 (f .total) && eqb 0 (f .arrangement)) && billingFine 7 f) false) ≡ true → Small f
+      go : (t u : Bool) → cond t ((leb (f .total) 1 && eqb 0 (f .arrangement)) && billingFine 2 f) (cond u ((eqb 0 (f .total) && eqb 0 (f .arrangement)) && billingFine 7 f) false) ≡ true → Small f
       go true u q =
           let a = and-left (leb (f .total) 1 && eqb 0 (f .arrangement)) (billingFine 2 f) q in
           let b = and-right (leb (f .total) 1 && eqb 0 (f .arrangement)) (billingFine 2 f) q in
@@ -126,7 +125,7 @@ module _ (o : ℕ) (f : Figure) where
       let g = simp truth at (and-right (bareKind o (f .kind)) (unmarked f) h) in
       record { total = omega (arith, g); billing = omega (arith, g); arrangement = omega (arith, g); kind = few (eqb (f .kind) 0) (eqb (f .kind) 1) (eqb (f .kind) 4) refl refl refl (and-left (bareKind o (f .kind)) (unmarked f) h) }
     where
-      few : (p q r : Bool) → eqb (f .kind) 0 ≡ p → eqb (f .kind) 1 ≡ q → eqb (f .kind) 4 ≡ r → if_then_else p true (if_then_else q (leb 33 o) (if_then_else r (leb o 31) false)) ≡ true → f .kind ≤ 5
+      few : (p q r : Bool) → eqb (f .kind) 0 ≡ p → eqb (f .kind) 1 ≡ q → eqb (f .kind) 4 ≡ r → cond p true (cond q (leb 33 o) (cond r (leb o 31) false)) ≡ true → f .kind ≤ 5
       few true q r e₀ e₁ e₄ z = omega (arith, eqb-true (f .kind) 0 e₀)
       few false true r e₀ e₁ e₄ z = omega (arith, eqb-true (f .kind) 1 e₁)
       few false false true e₀ e₁ e₄ z = omega (arith, eqb-true (f .kind) 4 e₄)
@@ -137,7 +136,7 @@ module _ (o : ℕ) (f : Figure) where
   fine-small h = go (eqb (f .kind) 2) (eqb (f .kind) 3) (eqb (f .kind) 5) refl refl refl (and-left (marksFine o f) _ h)
     where
       go : (p q r : Bool) → eqb (f .kind) 2 ≡ p → eqb (f .kind) 3 ≡ q → eqb (f .kind) 5 ≡ r
-          → if_then_else p (pricedMarks 33 35 o f) (if_then_else q (pricedMarks 34 36 o f) (if_then_else r (arrangedMarks o f) (bareKind o (f .kind) && unmarked f))) ≡ true → Small f
+          → cond p (pricedMarks 33 35 o f) (cond q (pricedMarks 34 36 o f) (cond r (arrangedMarks o f) (bareKind o (f .kind) && unmarked f))) ≡ true → Small f
       go true q r e₂ e₃ e₅ z = priced-small 33 35 (omega (arith, eqb-true (f .kind) 2 e₂)) z
       go false true r e₂ e₃ e₅ z = priced-small 34 36 (omega (arith, eqb-true (f .kind) 3 e₃)) z
       go false false true e₂ e₃ e₅ z =
@@ -151,7 +150,7 @@ module _ (o : ℕ) (f : Figure) where
   fine-association h =
       go (leb 35 o && not (eqb (f .kind) 0)) (and-right (moneyFine f) (associationFine o f) (and-right (marksFine o f) (moneyFine f && associationFine o f) h))
     where
-      go : (t : Bool) → if_then_else t (association .valid (f .association)) (sameAssociation noAssociation (f .association)) ≡ true → association .valid (f .association) ≡ true
+      go : (t : Bool) → cond t (association .valid (f .association)) (sameAssociation noAssociation (f .association)) ≡ true → association .valid (f .association) ≡ true
       go true q = q
       go false q =
           let g = simp truth at q in
@@ -266,7 +265,7 @@ billing-length : (tag d b : ℕ) → b ≤ 7 → length (billingOctets tag d b) 
 unfolding billingOctets
 billing-length tag d b h = go (eqb d 1)
   where
-    go : (t : Bool) → length (if_then_else t (fullNumber tag b) []) ≤ 3
+    go : (t : Bool) → length (cond t (fullNumber tag b) []) ≤ 3
     go true = omega (arith, small-length tag b (omega arith))
     go false = omega arith
 

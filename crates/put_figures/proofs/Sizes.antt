@@ -3,13 +3,12 @@
 use Prim.Native.Nat.{ℕ, suc, _+_, _/_, _%_, _≤_, _<_}
 use mathlib.Core.Path.{_≡_, refl, sym, ap, ap₂, _∙_}
 use mathlib.Core.List.{List, [], _∷_, _++_}
-use mathlib.Core.Bool.{Bool, true, false, _&&_}
+use mathlib.Core.Bool.{Bool, true, false, _&&_, cond}
 use native.Mathlib.Omega.{arith}
 use lib.ListN.{length, take, length-append, length-take}
 use lib.Seq.{length-take-le}
 use lib.Dec.{ltb, leb, eqb}
 use borrow.Author.Tests.{eq-eqb, ne-eqb, le-ltb}
-use Rattle.coding.specs.Reader.{if_then_else}
 use Rattle.coding.specs.Codec.{canonical, over, shape, prim, pair, sort, nothing, leafOver, lengthOctets, padded}
 use Rattle.coding.specs.Leaves.{number, string, identifier, only, width}
 use Rattle.coding.specs.Written.{Wrote, lead, fullNumber}
@@ -39,8 +38,8 @@ pub lead-few : (tag n : ℕ) → (2 ≤ length (lead tag n)) × (length (lead ta
 unfolding lead lengthOctets
 lead-few tag n = go (ltb n 128) (ltb n 256)
   where
-    go : (t u : Bool) → (2 ≤ suc (length (if_then_else t (n ∷ []) (if_then_else u (129 ∷ n ∷ []) (130 ∷ n / 256 ∷ n % 256 ∷ [])))))
-        × (suc (length (if_then_else t (n ∷ []) (if_then_else u (129 ∷ n ∷ []) (130 ∷ n / 256 ∷ n % 256 ∷ [])))) ≤ 4)
+    go : (t u : Bool) → (2 ≤ suc (length (cond t (n ∷ []) (cond u (129 ∷ n ∷ []) (130 ∷ n / 256 ∷ n % 256 ∷ [])))))
+        × (suc (length (cond t (n ∷ []) (cond u (129 ∷ n ∷ []) (130 ∷ n / 256 ∷ n % 256 ∷ [])))) ≤ 4)
     go true u = omega arith
     go false true = omega arith
     go false false = omega arith

@@ -3,14 +3,14 @@
 use Prim.Native.Nat.{ℕ, zero, suc, _+_, _-_, _≤_, _<_}
 use mathlib.Core.Path.{_≡_, refl, sym, ap, ap₂, _∙_}
 use mathlib.Core.List.{List, [], _∷_, _++_}
-use mathlib.Core.Bool.{Bool, true, false, _&&_, and-comm}
+use mathlib.Core.Bool.{Bool, true, false, _&&_, and-comm, cond}
 use native.Mathlib.Omega.{arith}
 use native.Mathlib.Numerals.{add-one}
 use lib.ListN.{length, getD, take, drop, replicate, length-take, length-drop, length-replicate, take-append-drop}
 use lib.Seq.{take-all, length-take-le, take-suc}
 use lib.Dec.{ltb, leb, eqb, leb·zero}
 use borrow.Author.Tests.{lt-ltb, le-leb, eq-eqb, ne-eqb, eqb-true, leb-true, leb-false}
-use Rattle.coding.specs.Reader.{if_then_else, part}
+use Rattle.coding.specs.Reader.{part}
 use Rattle.coding.specs.Contents.{every}
 use Rattle.coding.specs.Codec.{cons, prim, pair, over, shape, canonical, sort, nothing, leafOver, all, pad, padded, sameList}
 use Rattle.coding.specs.Leaves.{number, string, identifier, only}
@@ -77,7 +77,7 @@ unfolding every
 all-below [] = refl
 all-below (x ∷ xs) = ap₂ (λ (a b : Bool). a && b) (zero-below x) (all-below xs) ∙ go (ltb x 1) (every (λ y. ltb y 1) xs)
   where
-    go : (a b : Bool) → a && b ≡ if_then_else a b false
+    go : (a b : Bool) → a && b ≡ cond a b false
     go true b = refl
     go false b = refl
 

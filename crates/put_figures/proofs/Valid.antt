@@ -3,12 +3,11 @@
 use Prim.Native.Nat.{ℕ, _≤_}
 use mathlib.Core.Path.{_≡_, refl, sym, ap, _∙_}
 use mathlib.Core.List.{List}
-use mathlib.Core.Bool.{Bool, true, false, _&&_}
+use mathlib.Core.Bool.{Bool, true, false, _&&_, cond}
 use native.Mathlib.Omega.{arith}
 use lib.ListN.{length}
 use lib.Dec.{leb, eqb, leb·zero}
 use borrow.Author.Tests.{eq-eqb, ne-eqb, eqb-true}
-use Rattle.coding.specs.Reader.{if_then_else}
 use Rattle.coding.specs.Codec.{Run, canonical, over, prim, cons, pair, sort, maybe, some·more, sameList}
 use Rattle.coding.specs.Leaves.{number, nullLeaf, given}
 use Rattle.coding.specs.Rows.{table}
@@ -103,11 +102,11 @@ eqb-sym : (a b : ℕ) → eqb a b ≡ eqb b a
 eqb-sym a b = same-truth (eqb a b) (eqb b a) (λ h. eq-eqb b a (sym (eqb-true a b h))) (λ h. eq-eqb a b (sym (eqb-true b a h)))
 
 billing-is : (tag most : ℕ) (d b : ℕ) → eqb (flag (eqb d 1)) d && (given tag 0 most) .valid (record { given = eqb d 1; value = b })
-    ≡ if_then_else (eqb d 1) (leb b most) (eqb 0 d && eqb 0 b)
+    ≡ cond (eqb d 1) (leb b most) (eqb 0 d && eqb 0 b)
 unfolding given over maybe prim number
 billing-is tag most d b = go (eqb d 1) refl
   where
-    go : (t : Bool) → eqb d 1 ≡ t → eqb (flag t) d && (given tag 0 most) .valid (record { given = t; value = b }) ≡ if_then_else t (leb b most) (eqb 0 d && eqb 0 b)
+    go : (t : Bool) → eqb d 1 ≡ t → eqb (flag t) d && (given tag 0 most) .valid (record { given = t; value = b }) ≡ cond t (leb b most) (eqb 0 d && eqb 0 b)
     go true e = simp (eqb-sym 1 d, e, leb·zero)
     go false e = simp (and-true, eqb-sym b 0)
 

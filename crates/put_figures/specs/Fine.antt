@@ -1,10 +1,9 @@
 -- Which charges may be written, part by part: what the fields may be by the operation and the kind.
 use Prim.Native.Nat.{ℕ}
-use mathlib.Core.Bool.{Bool, true, false, not, _&&_, _||_}
+use mathlib.Core.Bool.{Bool, true, false, not, _&&_, _||_, cond}
 use mathlib.Core.List.{List}
 use lib.ListN.{length, take}
 use lib.Dec.{leb, eqb}
-use Rattle.coding.specs.Reader.{if_then_else}
 use Rattle.coding.specs.Codec.{some·more, sameList, pad}
 use Rattle.types.specs.declared.Figure.{Figure}
 use Rattle.types.specs.declared.Entries.{Entries}
@@ -20,7 +19,7 @@ digitsFine ds n = (eqb (length (take n ds)) n && sameList eqb (pad 20 0 (take n 
 
 -- an optional billing identification, 0 to most; zero where there is none
 abbrev pub billingFine : ℕ → Figure → Bool
-billingFine most f = if_then_else (eqb (f .billed) 1) (leb (f .billing) most) (eqb 0 (f .billed) && eqb 0 (f .billing))
+billingFine most f = cond (eqb (f .billed) 1) (leb (f .billing) most) (eqb 0 (f .billed) && eqb 0 (f .billing))
 
 abbrev pub unbilled : Figure → Bool
 unbilled f = eqb 0 (f .billed) && eqb 0 (f .billing)
@@ -32,30 +31,30 @@ unmarked f = (eqb 0 (f .total) && eqb 0 (f .arrangement)) && unbilled f
 -- the small fields of money or of units, which one operation has during the call and another at its end
 abbrev pub pricedMarks : ℕ → ℕ → ℕ → Figure → Bool
 pricedMarks during ending o f =
-    if_then_else (eqb o during) ((leb (f .total) 1 && eqb 0 (f .arrangement)) && billingFine 2 f)
-    (if_then_else (eqb o ending) ((eqb 0 (f .total) && eqb 0 (f .arrangement)) && billingFine 7 f) false)
+    cond (eqb o during) ((leb (f .total) 1 && eqb 0 (f .arrangement)) && billingFine 2 f)
+    (cond (eqb o ending) ((eqb 0 (f .total) && eqb 0 (f .arrangement)) && billingFine 7 f) false)
 
 abbrev pub arrangedMarks : ℕ → Figure → Bool
 arrangedMarks o f = (eqb o 30 || eqb o 32) && ((eqb 0 (f .total) && (leb 1 (f .arrangement) && leb (f .arrangement) 10)) && unbilled f)
 
 -- the kinds with no small field, by the operation: not available, free, rates
 unfoldable pub bareKind : ℕ → ℕ → Bool
-bareKind o k = if_then_else (eqb k 0) true (if_then_else (eqb k 1) (leb 33 o) (if_then_else (eqb k 4) (leb o 31) false))
+bareKind o k = cond (eqb k 0) true (cond (eqb k 1) (leb 33 o) (cond (eqb k 4) (leb o 31) false))
 
 -- the small fields by the kind
 unfoldable pub marksFine : ℕ → Figure → Bool
 marksFine o f =
-    if_then_else (eqb (f .kind) 2) (pricedMarks 33 35 o f)
-    (if_then_else (eqb (f .kind) 3) (pricedMarks 34 36 o f)
-    (if_then_else (eqb (f .kind) 5) (arrangedMarks o f) (bareKind o (f .kind) && unmarked f)))
+    cond (eqb (f .kind) 2) (pricedMarks 33 35 o f)
+    (cond (eqb (f .kind) 3) (pricedMarks 34 36 o f)
+    (cond (eqb (f .kind) 5) (arrangedMarks o f) (bareKind o (f .kind) && unmarked f)))
 
 unfoldable pub moneyFine : Figure → Bool
-moneyFine f = if_then_else (eqb (f .kind) 2) (money .valid (f .money)) (sameMoney noMoney (f .money))
+moneyFine f = cond (eqb (f .kind) 2) (money .valid (f .money)) (sameMoney noMoney (f .money))
 
 -- a charge of operation 35 or 36 may have an association, unless it is not available
 unfoldable pub associationFine : ℕ → Figure → Bool
 associationFine o f =
-    if_then_else (leb 35 o && not (eqb (f .kind) 0)) (association .valid (f .association)) (sameAssociation noAssociation (f .association))
+    cond (leb 35 o && not (eqb (f .kind) 0)) (association .valid (f .association)) (sameAssociation noAssociation (f .association))
 
 -- all but the list
 unfoldable pub figureFine : ℕ → Figure → Bool
@@ -74,6 +73,6 @@ laid numbers octets = record { numbers = numbers; octets = octets }
 -- the list: units, rates, or none
 unfoldable pub entriesFine : Charge → Bool
 entriesFine c =
-    if_then_else (eqb (c .figure .kind) 3) (unitsFine (c .entries) (c .figure .count))
-    (if_then_else (eqb (c .figure .kind) 4) (ratesFine (c .entries) (c .figure .count))
+    cond (eqb (c .figure .kind) 3) (unitsFine (c .entries) (c .figure .count))
+    (cond (eqb (c .figure .kind) 4) (ratesFine (c .entries) (c .figure .count))
     (eqb 0 (c .figure .count) && sameEntries noEntries (c .entries)))

@@ -3,14 +3,13 @@
 use Prim.Native.Nat.{ℕ, zero, suc, _+_, _<_}
 use mathlib.Core.Path.{_≡_, refl, sym, ap, ap₂, _∙_}
 use mathlib.Core.List.{List, [], _++_, append-nil}
-use mathlib.Core.Bool.{Bool, true, false, _&&_, and-comm}
+use mathlib.Core.Bool.{Bool, true, false, _&&_, and-comm, cond}
 use mathlib.Core.Logic.{inl, inr}
 use mathlib.Core.Option.{none, some}
 use native.Mathlib.Omega.{arith}
 use lib.ListN.{length, length-append}
 use lib.Dec.{leb, eqb, leb·zero}
 use borrow.Author.Tests.{leb-true, le-leb, eq-eqb, ne-eqb}
-use Rattle.coding.specs.Reader.{if_then_else}
 use Rattle.coding.specs.Codec.{prim, cons, pair, alt, maybe, over, canonical, either, writeMaybe}
 use Rattle.coding.specs.Leaves.{number, nullLeaf, width}
 use Rattle.coding.specs.Written.{Wrote, lead, fullNumber}
@@ -27,7 +26,7 @@ use Rattle.put_lists.specs.Octets.{numberOctets, typeOctets}
 -- ---- which may be written
 
 abbrev pub unitFine : Units → Bool
-unitFine u = leb (u .kind) 16 && if_then_else (eqb (u .known) 1) (leb (u .number) 16777215) (eqb (u .known) 0 && eqb (u .number) 0)
+unitFine u = leb (u .kind) 16 && cond (eqb (u .known) 1) (leb (u .number) 16777215) (eqb (u .known) 0 && eqb (u .number) 0)
 
 pub unit-is : (u : Units) → unit .valid u ≡ unitFine u
 unfolding unit cons canonical over pair alt maybe prim number nullLeaf
@@ -83,11 +82,11 @@ module _ (u : Units) where
   unit-write =
       cons-write 0x30 _ u ∙ ap (λ (w : List ℕ). lead 0x30 (length w) ++ w) (ap₂ (λ (x y : List ℕ). x ++ y) (first (eqb (u .known) 1)) (second (eqb (u .kind) 0)))
     where
-      first : (t : Bool) → either ((prim 0x05 nullLeaf) .write) ((prim 0x02 (number 0 16777215)) .write) (if_then_else t (inr (u .number)) (inl tt)) ≡ if_then_else t (fullNumber 0x02 (u .number)) (lead 0x05 0)
+      first : (t : Bool) → either ((prim 0x05 nullLeaf) .write) ((prim 0x02 (number 0 16777215)) .write) (cond t (inr (u .number)) (inl tt)) ≡ cond t (fullNumber 0x02 (u .number)) (lead 0x05 0)
       first true = number-write 0x02 0 16777215 (u .number)
       first false = prim-write 0x05 nullLeaf tt ∙ append-nil (lead 0x05 0)
 
-      second : (t : Bool) → writeMaybe ((prim 0x02 (number 1 16)) .write) (if_then_else t none (some (u .kind))) ≡ if_then_else t [] (fullNumber 0x02 (u .kind))
+      second : (t : Bool) → writeMaybe ((prim 0x02 (number 1 16)) .write) (cond t none (some (u .kind))) ≡ cond t [] (fullNumber 0x02 (u .kind))
       second true = refl
       second false = number-write 0x02 1 16 (u .kind)
 

@@ -1,8 +1,8 @@
 -- The octets of an entry of units, part by part, and of a charge that holds a list.
+use mathlib.Core.Bool.{cond}
 use Prim.Native.Nat.{ℕ}
 use mathlib.Core.List.{List, []}
 use lib.Dec.{eqb}
-use Rattle.coding.specs.Reader.{if_then_else}
 use Rattle.coding.specs.Written.{lead, fullNumber}
 use Rattle.coding.specs.Codec.{writeAll}
 use Rattle.types.specs.declared.Units.{Units}
@@ -16,11 +16,11 @@ use Rattle.put_figures.specs.Fine.{laid}
 
 -- 02 number, or 05 00 where it is not available
 unfoldable pub numberOctets : Units → List ℕ
-numberOctets u = if_then_else (eqb (u .known) 1) (fullNumber 0x02 (u .number)) (lead 0x05 0)
+numberOctets u = cond (eqb (u .known) 1) (fullNumber 0x02 (u .number)) (lead 0x05 0)
 
 -- 02 type, or nothing
 unfoldable pub typeOctets : Units → List ℕ
-typeOctets u = if_then_else (eqb (u .kind) 0) [] (fullNumber 0x02 (u .kind))
+typeOctets u = cond (eqb (u .kind) 0) [] (fullNumber 0x02 (u .kind))
 
 -- a charge whose list lies in two arrays
 abbrev pub withList : Figure → List ℕ → List ℕ → Charge

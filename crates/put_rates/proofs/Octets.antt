@@ -3,12 +3,11 @@
 use Prim.Native.Nat.{ℕ, _+_, _≤_, _<_}
 use mathlib.Core.Path.{_≡_, refl, sym, ap, ap₂, _∙_}
 use mathlib.Core.List.{List, [], _++_, append-nil}
-use mathlib.Core.Bool.{Bool, true, false, _&&_}
+use mathlib.Core.Bool.{Bool, true, false, _&&_, cond}
 use native.Mathlib.Omega.{arith}
 use lib.ListN.{length, length-append}
 use lib.Dec.{leb, eqb}
 use borrow.Author.Tests.{eqb-true, eqb-false, eq-eqb, ne-eqb, leb-true, le-leb, lt-leb}
-use Rattle.coding.specs.Reader.{if_then_else}
 use Rattle.coding.specs.Codec.{pair, sort, maybe, over, canonical}
 use Rattle.coding.specs.Leaves.{number}
 use Rattle.coding.specs.Written.{Wrote, lead, fullNumber}
@@ -37,7 +36,7 @@ module _ (r : Rate) where
   detail-few h = go (eqb (r .kind) 1) (eqb (r .kind) 3) (eqb (r .kind) 4) refl refl refl h
     where
       go : (p q s : Bool) → eqb (r .kind) 1 ≡ p → eqb (r .kind) 3 ≡ q → eqb (r .kind) 4 ≡ s
-          → if_then_else p (leb (r .detail) 1) (if_then_else q (leb (r .detail) 2) (if_then_else s (leb 1 (r .detail) && leb (r .detail) 10) ((leb 2 (r .kind) && leb (r .kind) 6) && eqb 0 (r .detail)))) ≡ true
+          → cond p (leb (r .detail) 1) (cond q (leb (r .detail) 2) (cond s (leb 1 (r .detail) && leb (r .detail) 10) ((leb 2 (r .kind) && leb (r .kind) 6) && eqb 0 (r .detail)))) ≡ true
           → (1 ≤ r .kind) × (r .kind ≤ 6) × (r .detail ≤ 10)
       go true q s e f g z = omega (arith, eqb-true (r .kind) 1 e, leb-true (r .detail) 1 z)
       go false true s e f g z = omega (arith, eqb-true (r .kind) 3 f, leb-true (r .detail) 2 z)
@@ -47,7 +46,7 @@ module _ (r : Rate) where
   step-few : stepFine r ≡ true → r .stepscale ≤ 6
   step-few h = go (eqb (r .stepped) 1) h
     where
-      go : (t : Bool) → if_then_else t ((scaled 0xa5) .valid stepTime) (unstepped r) ≡ true → r .stepscale ≤ 6
+      go : (t : Bool) → cond t ((scaled 0xa5) .valid stepTime) (unstepped r) ≡ true → r .stepscale ≤ 6
       go true z = leb-true (r .stepscale) 6 (and-right (leb (r .step) 16777215) _ (sym (scaled-is 0xa5 stepTime) ∙ z))
       go false z = omega (arith, simp truth at z)
 
@@ -55,7 +54,7 @@ module _ (r : Rate) where
   unfolding timesFine
   times-few h = go (eqb (r .kind) 1) h
     where
-      go : (t : Bool) → if_then_else t ((scaled 0xa4) .valid (timeOf r) && stepFine r) ((eqb 0 (r .scale) && eqb 0 (r .time)) && unstepped r) ≡ true
+      go : (t : Bool) → cond t ((scaled 0xa4) .valid (timeOf r) && stepFine r) ((eqb 0 (r .scale) && eqb 0 (r .time)) && unstepped r) ≡ true
           → (r .scale ≤ 6) × (r .stepscale ≤ 6)
       go true z = (
         leb-true (r .scale) 6 (and-right (leb (r .time) 16777215) _ (sym (scaled-is 0xa4 (timeOf r)) ∙ and-left ((scaled 0xa4) .valid (timeOf r)) (stepFine r) z)),

@@ -3,13 +3,13 @@
 use Prim.Native.Nat.{ℕ, _≤_, _<_}
 use native.Mathlib.Omega.{arith}
 use mathlib.Core.Path.{_≡_, refl, ap, _∙_}
-use mathlib.Core.Bool.{Bool, true, false}
+use mathlib.Core.Bool.{Bool, true, false, cond}
 use mathlib.Core.Logic.{_⊎_, inl, inr}
 use mathlib.Core.List.{List, [], _++_}
 use lib.ListN.{length, length-append}
 use lib.Dec.{leb, eqb}
 use borrow.Author.Tests.{eq-eqb, ltb-true, le-leb}
-use Rattle.coding.specs.Reader.{Ans, if_then_else, after, enteredAny}
+use Rattle.coding.specs.Reader.{Ans, after, enteredAny}
 use Rattle.coding.specs.Reader.Ans.{got, halt}
 use Rattle.coding.specs.Reader.Fault.{named}
 use Rattle.coding.specs.Codec.{prim}
@@ -72,7 +72,7 @@ module _ (tag d : ℕ) (p : problemFine tag d ≡ true) (l : d < 128) where
 abbrev Sent : Record → Type 0
 Sent r = (component .valid r ≡ true) × (length (component .write r) ≤ 9)
 
-when : (t : Bool) (x y : Record) → Sent x → Sent y → Sent (if_then_else t x y)
+when : (t : Bool) (x y : Record) → Sent x → Sent y → Sent (cond t x y)
 when true x y a b = a
 when false x y a b = b
 
@@ -127,10 +127,10 @@ only-12 s room os =
     go (isSilent s) (leb (length (component .write (replyTo s))) room) (q .0) (le-leb (length (component .write (replyTo s))) 254 (omega (arith, q .1)))
   where
     go : (a f : Bool) → component .valid (replyTo s) ≡ true → leb (length (component .write (replyTo s))) 254 ≡ true
-        → ((if_then_else a (done 0) (if_then_else (component .valid (replyTo s)) (if_then_else (leb (length (component .write (replyTo s))) 254)
-        (if_then_else f (done (length (component .write (replyTo s)))) (no 12)) (no 11)) (no 10))) .number ≡ 0)
-        ⊎ ((if_then_else a (done 0) (if_then_else (component .valid (replyTo s)) (if_then_else (leb (length (component .write (replyTo s))) 254)
-        (if_then_else f (done (length (component .write (replyTo s)))) (no 12)) (no 11)) (no 10))) .number ≡ 12)
+        → ((cond a (done 0) (cond (component .valid (replyTo s)) (cond (leb (length (component .write (replyTo s))) 254)
+        (cond f (done (length (component .write (replyTo s)))) (no 12)) (no 11)) (no 10))) .number ≡ 0)
+        ⊎ ((cond a (done 0) (cond (component .valid (replyTo s)) (cond (leb (length (component .write (replyTo s))) 254)
+        (cond f (done (length (component .write (replyTo s)))) (no 12)) (no 11)) (no 10))) .number ≡ 12)
     go true f v l = inl refl
     go false true v l = inl (rw (v, l))
     go false false v l = inr (rw (v, l))

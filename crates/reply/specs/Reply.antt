@@ -1,11 +1,11 @@
 -- The reject sent in reply to a component that is refused.
 use Prim.Native.Nat.{ℕ}
 use mathlib.Core.List.{List, [], _∷_}
-use mathlib.Core.Bool.{Bool, _||_}
+use mathlib.Core.Bool.{Bool, _||_, cond}
 use mathlib.Core.Logic.{inl, inr}
 use lib.ListN.{length, getD}
 use lib.Dec.{eqb}
-use Rattle.coding.specs.Reader.{Ans, if_then_else, after, enteredAny}
+use Rattle.coding.specs.Reader.{Ans, after, enteredAny}
 use Rattle.coding.specs.Reader.Ans.{got, halt}
 use Rattle.coding.specs.Reader.Fault.{named}
 use Rattle.coding.specs.Codec.{prim}
@@ -36,11 +36,11 @@ isSilent s = eqb (readOf s .number) 0 || eqb (firstOf s) 0xa4
 -- with the identifier: 7 invoke 1 (in a result: result 2); 8 error 2; 9 invoke 2 (in a result: result 2)
 abbrev pub replyBy : ℕ → ℕ → ℕ → Record
 replyBy n first i =
-    if_then_else (eqb n 4) (rejects (inl tt) 0x80 0)
-    (if_then_else (eqb n 6) (rejects (inl tt) 0x80 1)
-    (if_then_else (eqb n 8) (rejects (inr i) 0x83 2)
-    (if_then_else (eqb n 7) (if_then_else (eqb first 0xa2) (rejects (inr i) 0x82 2) (rejects (inr i) 0x81 1))
-    (if_then_else (eqb n 9) (if_then_else (eqb first 0xa2) (rejects (inr i) 0x82 2) (rejects (inr i) 0x81 2))
+    cond (eqb n 4) (rejects (inl tt) 0x80 0)
+    (cond (eqb n 6) (rejects (inl tt) 0x80 1)
+    (cond (eqb n 8) (rejects (inr i) 0x83 2)
+    (cond (eqb n 7) (cond (eqb first 0xa2) (rejects (inr i) 0x82 2) (rejects (inr i) 0x81 1))
+    (cond (eqb n 9) (cond (eqb first 0xa2) (rejects (inr i) 0x82 2) (rejects (inr i) 0x81 2))
     (rejects (inl tt) 0x80 2)))))
 
 unfoldable pub replyTo : List ℕ → Record
@@ -48,7 +48,7 @@ replyTo s = replyBy (readOf s .number) (firstOf s) (identifierOf s)
 
 -- the answer, and what is left in a lent buffer
 unfoldable pub replyOf : List ℕ → ℕ → Written
-replyOf s room = if_then_else (isSilent s) (done 0) (writeOf (replyTo s) room)
+replyOf s room = cond (isSilent s) (done 0) (writeOf (replyTo s) room)
 
 unfoldable pub replyLeft : List ℕ → List ℕ → List ℕ
-replyLeft s before = if_then_else (isSilent s) before (leftOf (replyTo s) before)
+replyLeft s before = cond (isSilent s) before (leftOf (replyTo s) before)

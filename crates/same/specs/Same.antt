@@ -1,10 +1,9 @@
 -- When two finals are the same: both free; or equal currency octets and thousandths; or equal unit lists, entry by entry.
 -- Billing and association are not compared.
 use Prim.Native.Nat.{ℕ, zero, suc, _*_}
-use mathlib.Core.Bool.{Bool, true, _&&_}
+use mathlib.Core.Bool.{Bool, true, _&&_, cond}
 use lib.ListN.{getD}
 use lib.Dec.{eqb, leb}
-use Rattle.coding.specs.Reader.{if_then_else}
 use Rattle.values.specs.Amounts.{powers}
 use Rattle.types.specs.Entries.{unitAt, sameUnits}
 use Rattle.types.specs.declared.Currency.{Currency}
@@ -19,7 +18,7 @@ each (suc n) t = each n t && t n
 
 -- how many places a count uses, of those there are
 abbrev pub upTo : ℕ → ℕ → ℕ
-upTo most n = if_then_else (leb n most) n most
+upTo most n = cond (leb n most) n most
 
 -- an amount in thousandths
 abbrev pub thousandths : Money → ℕ
@@ -41,6 +40,6 @@ sameEntries e f n = each (upTo 32 n) (λ i. sameUnits (unitAt e i) (unitAt f i))
 unfoldable pub sameOf : Charge → Charge → Bool
 sameOf a b =
     eqb (a .figure .kind) (b .figure .kind)
-    && if_then_else (eqb (a .figure .kind) 1) true
-    (if_then_else (eqb (a .figure .kind) 2) (sameMoney (a .figure .money) (b .figure .money))
+    && cond (eqb (a .figure .kind) 1) true
+    (cond (eqb (a .figure .kind) 2) (sameMoney (a .figure .money) (b .figure .money))
     (eqb (a .figure .kind) 3 && (eqb (a .figure .count) (b .figure .count) && sameEntries (a .entries) (b .entries) (a .figure .count))))

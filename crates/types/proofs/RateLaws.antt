@@ -3,7 +3,7 @@
 use Prim.Native.Nat.{ℕ, suc, zero, _+_, _-_, _*_, _≤_, _<_}
 use mathlib.Core.Path.{_≡_, refl, sym, ap, ap₂, _∙_, subst}
 use mathlib.Core.List.{List, [], _∷_, _++_, append-assoc}
-use mathlib.Core.Bool.{Bool, true, false}
+use mathlib.Core.Bool.{Bool, true, false, cond}
 use mathlib.Core.Logic.{inl, inr}
 use mathlib.Core.Option.{Option, none, some}
 use native.Mathlib.Omega.{arith}
@@ -12,7 +12,6 @@ use lib.ListN.{length, getD, take, drop, replicate, length-append, length-replic
 use lib.Seq.{take-at, drop-append-add, length-take-le}
 use lib.Dec.{leb, eqb}
 use borrow.Author.Tests.{eqb-true, eq-eqb, ne-eqb}
-use Rattle.coding.specs.Reader.{if_then_else}
 use Rattle.coding.specs.Codec.{Run, prim, cons, pair, sort, maybe, some·more, shape, canonical, over, leafOver, pad, padded, all, has, apart}
 use Rattle.coding.specs.Leaves.{number, isSome}
 use Rattle.coding.specs.Rows.{rows}
@@ -54,7 +53,7 @@ rateEqual =
 
 -- ---- the choices
 
-step-back : (g : Option Scaled) → if_then_else (eqb (flag (isSome g)) 1) (some (record { number = scaledOr0 g .number; scale = scaledOr0 g .scale })) none ≡ g
+step-back : (g : Option Scaled) → cond (eqb (flag (isSome g)) 1) (some (record { number = scaledOr0 g .number; scale = scaledOr0 g .scale })) none ≡ g
 step-back none = refl
 step-back (some t) = refl
 

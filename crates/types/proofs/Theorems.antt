@@ -3,13 +3,13 @@
 use Prim.Native.Nat.{ℕ, _+_, _≤_, _<_}
 use mathlib.Core.Path.{_≡_, refl, sym, ap, _∙_, subst}
 use mathlib.Core.List.{List, [], _∷_}
-use mathlib.Core.Bool.{Bool, true, false}
+use mathlib.Core.Bool.{Bool, true, false, cond}
 use mathlib.Core.Logic.{_⊎_, inl, inr, _↔_}
 use native.Mathlib.Omega.{arith}
 use lib.ListN.{length}
 use lib.Dec.{ltb, leb, eqb}
 use borrow.Author.Tests.{ltb-true, ltb-false, lt-ltb, le-ltb, eqb-false}
-use Rattle.coding.specs.Reader.{Ans, Fault, if_then_else}
+use Rattle.coding.specs.Reader.{Ans, Fault}
 use Rattle.coding.specs.Reader.Ans.{got, halt}
 use Rattle.coding.specs.Reader.Fault.{missing, unexpected, cut, form, shortest, contents, limit, named}
 use Rattle.coding.specs.Codec.{has, apart}
@@ -36,7 +36,7 @@ named-refusal : (n : ℕ) → Refusal (namedNumber n)
 unfolding apart
 named-refusal n = go (leb 40 n) (has numbered n) refl
   where
-    go : (b d : Bool) → has numbered n ≡ d → Refusal (if_then_else b 9 (if_then_else d n 6))
+    go : (b d : Bool) → has numbered n ≡ d → Refusal (cond b 9 (cond d n 6))
     go true d q = (omega arith, omega arith)
     go false true q =
         let some = eqb-false n 0 (apart-has numbered (λ k. eqb k 0) n refl q) in

@@ -3,14 +3,13 @@
 use Prim.Native.Nat.{ℕ, _+_, _*_, _<_}
 use mathlib.Core.Path.{_≡_, refl, ap, _∙_}
 use mathlib.Core.List.{List}
-use mathlib.Core.Bool.{Bool, true, _&&_}
+use mathlib.Core.Bool.{Bool, true, _&&_, cond}
 use mathlib.Core.Logic.{_⊎_, inl, inr}
 use mathlib.Core.Option.{Option, none, some}
 use native.Mathlib.Omega.{arith}
 use lib.ListN.{length, getD}
 use lib.Dec.{leb, eqb}
 use borrow.Author.Tests.{leb-true, ne-eqb}
-use Rattle.coding.specs.Reader.{if_then_else}
 use Rattle.coding.specs.Codec.{prim, cons, alt, maybe, some·more, validMaybe, pad, has, apart}
 use Rattle.coding.specs.Leaves.{number, or0}
 use Rattle.coding.specs.Rows.{rows}
@@ -30,11 +29,11 @@ unitsEqual =
     (pairEqual _ _ eqbEqual (pairEqual _ _ eqbEqual eqbEqual))
 
 -- a type is 1 or more, so 0 says that there is none
-kind-back : (o : Option ℕ) → validMaybe (λ n. leb 1 n && leb n 16) o ≡ true → if_then_else (eqb (or0 o) 0) none (some (or0 o)) ≡ o
+kind-back : (o : Option ℕ) → validMaybe (λ n. leb 1 n && leb n 16) o ≡ true → cond (eqb (or0 o) 0) none (some (or0 o)) ≡ o
 kind-back none v = refl
 kind-back (some k) v =
     let l = leb-true 1 k (and-left (leb 1 k) (leb k 16) v) in
-    ap (λ (t : Bool). if_then_else t none (some k)) (ne-eqb k 0 (λ z. omega arith))
+    ap (λ (t : Bool). cond t none (some k)) (ne-eqb k 0 (λ z. omega arith))
 
 units-back : (x : Unit {0} ⊎ ℕ) (o : Option ℕ) → validMaybe (λ n. leb 1 n && leb n 16) o ≡ true → unitsFrom (unitsTo (x, o)) ≡ (x, o)
 units-back (inl u) o v = ap (λ (k : Option ℕ). (inl u, k)) (kind-back o v)

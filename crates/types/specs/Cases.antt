@@ -1,10 +1,11 @@
 -- Octets to try: what reading them answers, the answer's amount in thousandths, and what is written of it. One statement over one table.
+use mathlib.Core.Bool.{cond}
 use Prim.Native.Nat.{ℕ, _*_, _^_}
 use mathlib.Core.Path.{_≡_, refl}
 use mathlib.Core.List.{List, [], _∷_, map}
 use lib.ListN.{replicate}
 use lib.Dec.{eqb}
-use Rattle.coding.specs.Reader.{if_then_else, after, tagged, neither, choice, extent, lengthAt, opened, blamed, closed, constructed, enteredAny, part, mapped, narrowed, judged, primitive, optional, entries, listOf}
+use Rattle.coding.specs.Reader.{after, tagged, neither, choice, extent, lengthAt, opened, blamed, closed, constructed, enteredAny, part, mapped, narrowed, judged, primitive, optional, entries, listOf}
 use Rattle.coding.specs.Contents.{numberFrom, negative, shortest, natural, every, text, null}
 use Rattle.coding.specs.Codec.{lengthOctets, has, prim, cons, nothing, pair, alt, over, maybe, some·more, leafOver, leads, barring, marked, sort, frames, shape, canonical, pad, padded}
 use Rattle.coding.specs.Leaves.{digits, width, number, string, nullLeaf, signed16, identifier, listing, listed, only, given}
@@ -114,7 +115,7 @@ amountOf a = let m : Money = a .value .charge .figure .money in m .number * 10 ^
 
 unfoldable pub writtenOf : Answer → List ℕ
 unfolding lengthOctets digits width has prim cons nothing pair alt over maybe some·more leafOver leads barring marked sort frames shape canonical pad padded number string nullLeaf identifier listed only given rows table scaled currencyLeaf currency money digitsLeaf identified publicParty plainParty party unassociated association unit duration flatRate volume coded plainRate price rate sign inMoney inUnits during subtotals ending settled finals rates arrangement available chargeOf value carrying request argument invoke returnResult failed returnError caller problem problems reject frame component
-writtenOf a = if_then_else (eqb (a .number) 0) (component .write (a .value)) []
+writtenOf a = cond (eqb (a .number) 0) (component .write (a .value)) []
 
 unfoldable pub tried : Case → Case
 tried c = let a : Answer = answerOf (c .octets) in record { octets = c .octets; answer = a; thousandths = amountOf a; written = writtenOf a }

@@ -1,12 +1,11 @@
 -- Lists of units, and how entries are laid in rows.
 use Prim.Native.Nat.{ℕ, _+_, _*_}
 use mathlib.Core.List.{List, [], _∷_}
-use mathlib.Core.Bool.{Bool, _&&_}
+use mathlib.Core.Bool.{Bool, _&&_, cond}
 use mathlib.Core.Logic.{_⊎_, inl, inr}
 use mathlib.Core.Option.{Option, none, some}
 use lib.ListN.{getD, replicate}
 use lib.Dec.{eqb}
-use Rattle.coding.specs.Reader.{if_then_else}
 use Rattle.coding.specs.Codec.{Run, prim, cons, pair, alt, maybe, canonical, pad}
 use Rattle.coding.specs.Leaves.{number, nullLeaf, or0}
 use Rattle.coding.specs.Rows.{rows, table}
@@ -29,7 +28,7 @@ unitsTo p = unitsBy (p .0) (or0 (p .1))
     unitsBy (inr n) k = record { number = n; known = 1; kind = k }
 
 abbrev pub unitsFrom : Units → (Unit {0} ⊎ ℕ) × Option ℕ
-unitsFrom u = (if_then_else (eqb (u .known) 1) (inr (u .number)) (inl tt), if_then_else (eqb (u .kind) 0) none (some (u .kind)))
+unitsFrom u = (cond (eqb (u .known) 1) (inr (u .number)) (inl tt), cond (eqb (u .kind) 0) none (some (u .kind)))
 
 abbrev pub sameUnits : Units → Units → Bool
 sameUnits u v = eqb (u .number) (v .number) && (eqb (u .known) (v .known) && eqb (u .kind) (v .kind))

@@ -1,11 +1,11 @@
 -- Components: frames, the record, and what reading octets answers.
 use Prim.Native.Nat.{ℕ, _+_}
 use mathlib.Core.List.{List, [], _∷_}
-use mathlib.Core.Bool.{Bool, _&&_}
+use mathlib.Core.Bool.{Bool, _&&_, cond}
 use mathlib.Core.Logic.{_⊎_, inl, inr}
 use lib.ListN.{length}
 use lib.Dec.{ltb, leb, eqb}
-use Rattle.coding.specs.Reader.{Ans, Fault, if_then_else}
+use Rattle.coding.specs.Reader.{Ans, Fault}
 use Rattle.coding.specs.Reader.Ans.{got, halt}
 use Rattle.coding.specs.Reader.Fault.{missing, unexpected, cut, form, shortest, contents, limit, named}
 use Rattle.coding.specs.Codec.{Run, has, prim, cons, alt, canonical, sort, frames, leads, barring, marked, pickRun}
@@ -41,7 +41,7 @@ inArgument (named n) = named n
 
 -- the number given: those that are named, 9 in the argument or result, 2 for the form, and 6 for all else
 abbrev pub namedNumber : ℕ → ℕ
-namedNumber n = if_then_else (leb 40 n) 9 (if_then_else (has (1 ∷ 4 ∷ 5 ∷ 7 ∷ 8 ∷ []) n) n 6)
+namedNumber n = cond (leb 40 n) 9 (cond (has (1 ∷ 4 ∷ 5 ∷ 7 ∷ 8 ∷ []) n) n 6)
 
 abbrev pub numberOf : Fault → ℕ
 numberOf missing = 6
@@ -120,7 +120,7 @@ unfoldable pub caller : Run (Unit {0} ⊎ ℕ)
 caller = alt 0x05 (prim 0x05 nullLeaf) (prim 0x02 identifier)
 
 abbrev pub callerOf : Record → Unit {0} ⊎ ℕ
-callerOf r = if_then_else (eqb (r .unnamed) 1) (inl tt) (inr (r .id))
+callerOf r = cond (eqb (r .unnamed) 1) (inl tt) (inr (r .id))
 
 unfoldable pub problem : ℕ → ℕ → Unit {0} ⊎ ℕ → Run Record
 problem tag most c = canonical (rejects c tag) (λ r. r .detail) sameRecord (prim tag (number 0 most))
@@ -162,4 +162,4 @@ answered (got x n) = accepted x
 answered (halt w p) = refused (numberOf w)
 
 unfoldable pub readOf : List ℕ → Answer
-readOf s = if_then_else (ltb 254 (length s)) (refused 3) (answered (component .read s 0 (length s)))
+readOf s = cond (ltb 254 (length s)) (refused 3) (answered (component .read s 0 (length s)))

@@ -1,11 +1,10 @@
 -- Lists of rates: 30 {0A item 0 to 4; one of A1 duration, A2 flat, A3 volume, 02 code 1 to 10, 84 00 free, 85 00 unknown}.
 use Prim.Native.Nat.{ℕ, _*_}
 use mathlib.Core.List.{List, [], _∷_}
-use mathlib.Core.Bool.{Bool, _&&_}
+use mathlib.Core.Bool.{Bool, _&&_, cond}
 use mathlib.Core.Option.{Option, none, some}
 use lib.ListN.{getD, take, drop}
 use lib.Dec.{eqb}
-use Rattle.coding.specs.Reader.{if_then_else}
 use Rattle.coding.specs.Codec.{Run, prim, cons, pair, sort, maybe, canonical, sameList, pad}
 use Rattle.coding.specs.Leaves.{number, nullLeaf, isSome}
 use Rattle.coding.specs.Rows.{rows, table}
@@ -48,7 +47,7 @@ abbrev pub timeOf : Rate → Scaled
 timeOf r = record { number = r .time; scale = r .scale }
 
 abbrev pub stepOf : Rate → Option Scaled
-stepOf r = if_then_else (eqb (r .stepped) 1) (some (record { number = r .step; scale = r .stepscale })) none
+stepOf r = cond (eqb (r .stepped) 1) (some (record { number = r .step; scale = r .stepscale })) none
 
 abbrev pub sameRate : Rate → Rate → Bool
 sameRate r q =

@@ -2,18 +2,18 @@
 -- Assumes nothing.
 use Prim.Native.Nat.{ℕ}
 use mathlib.Core.Path.{_≡_, refl, sym, subst}
-use mathlib.Core.Bool.{Bool, true, false, not, _&&_, _||_, true≢false}
+use mathlib.Core.Bool.{Bool, true, false, not, _&&_, _||_, true≢false, cond}
 use lib.Dec.{eqb}
 use borrow.Author.Tests.{eqb-true}
 use Rattle.values.specs.declared.Services.{Services}
-use Rattle.values.specs.Sets.{if_then_else, emptySet, isService, has, with}
+use Rattle.values.specs.Sets.{emptySet, isService, has, with}
 
 -- what is no service is in no set
 pub no-service : (x : Services) (u : ℕ) → isService u ≡ false → has x u ≡ false
 no-service x u = go (eqb u 1) (eqb u 2) (eqb u 3)
   where
     go : (a b d : Bool) → a || (b || d) ≡ false
-        → if_then_else a (not (eqb (x .s) 0)) (if_then_else b (not (eqb (x .d) 0)) (if_then_else d (not (eqb (x .e) 0)) false)) ≡ false
+        → cond a (not (eqb (x .s) 0)) (cond b (not (eqb (x .d) 0)) (cond d (not (eqb (x .e) 0)) false)) ≡ false
     go true b d h = absurd (true≢false h)
     go false true d h = absurd (true≢false h)
     go false false true h = absurd (true≢false h)
@@ -23,13 +23,13 @@ no-service x u = go (eqb u 1) (eqb u 2) (eqb u 3)
 pub nothing : (u : ℕ) → has emptySet u ≡ false
 nothing u = go (eqb u 1) (eqb u 2) (eqb u 3)
   where
-    go : (a b d : Bool) → if_then_else a false (if_then_else b false (if_then_else d false false)) ≡ false
+    go : (a b d : Bool) → cond a false (cond b false (cond d false false)) ≡ false
     go true b d = refl
     go false true d = refl
     go false false true = refl
     go false false false = refl
 
-marked : (b : Bool) (mark : ℕ) → not (eqb (if_then_else b 1 mark) 0) ≡ b || not (eqb mark 0)
+marked : (b : Bool) (mark : ℕ) → not (eqb (cond b 1 mark) 0) ≡ b || not (eqb mark 0)
 marked true mark = refl
 marked false mark = refl
 

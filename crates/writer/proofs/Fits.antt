@@ -3,11 +3,10 @@
 use Prim.Native.Nat.{ℕ, _+_, _≤_}
 use native.Mathlib.Omega.{arith}
 use mathlib.Core.Path.{_≡_, refl, ap, sym, _∙_}
-use mathlib.Core.Bool.{Bool, true, false, not, _&&_, _||_, true≢false}
+use mathlib.Core.Bool.{Bool, true, false, not, _&&_, _||_, true≢false, cond}
 use mathlib.Core.List.{[], _∷_}
 use lib.Dec.{ltb, eqb}
 use borrow.Author.Tests.{ltb-true, ltb-false, eqb-true, eqb-false, eq-eqb}
-use Rattle.coding.specs.Reader.{if_then_else}
 use Rattle.coding.specs.Codec.{has, sort, canonical, over, prim}
 use Rattle.coding.specs.Leaves.{nullLeaf}
 use Rattle.coding.proofs.Basic.{picked, unpicked, and-left, and-right}
@@ -107,10 +106,10 @@ module _ (f : Front) (c : Charge) (v : frontFine f ≡ true) where
       go false true q e h = absurd (true≢false h)
       go false false q e h = unpicked _ _ q ∙ some-is-not c (eqb-false (c .figure .kind) 0 e)
 
-  pub held-tested : (charged f || eqb (c .figure .kind) 0) ≡ true → (o : ℕ) → o ≡ if_then_else (charged f) (f .operation) 32 → (chargeOf o) .valid c ≡ fineOf f c
+  pub held-tested : (charged f || eqb (c .figure .kind) 0) ≡ true → (o : ℕ) → o ≡ cond (charged f) (f .operation) 32 → (chargeOf o) .valid c ≡ fineOf f c
   held-tested h o is = ap (λ (n : ℕ). (chargeOf n) .valid c) is ∙ go (charged f) (eqb (c .figure .kind) 0) refl refl h ∙ sym front-first
     where
-      go : (b k : Bool) → charged f ≡ b → eqb (c .figure .kind) 0 ≡ k → (b || k) ≡ true → (chargeOf (if_then_else (charged f) (f .operation) 32)) .valid c ≡ chargeFine f c
+      go : (b k : Bool) → charged f ≡ b → eqb (c .figure .kind) 0 ≡ k → (b || k) ≡ true → (chargeOf (cond (charged f) (f .operation) 32)) .valid c ≡ chargeFine f c
       go true k q e h = ap (λ (n : ℕ). (chargeOf n) .valid c) (picked (f .operation) 32 q) ∙ sym (picked _ _ q)
       go false true q e h = ap (λ (n : ℕ). (chargeOf n) .valid c) (unpicked (f .operation) 32 q) ∙ none-is c 32 (eqb-true (c .figure .kind) 0 e) ∙ sym (unpicked _ _ q)
       go false false q e h = absurd (true≢false (sym h))

@@ -3,13 +3,12 @@
 use Prim.Native.Nat.{ℕ, _+_, _<_}
 use native.Mathlib.Omega.{arith}
 use mathlib.Core.Path.{_≡_, refl, ap, ap₂, sym, _∙_, subst}
-use mathlib.Core.Bool.{Bool, true, false}
+use mathlib.Core.Bool.{Bool, true, false, cond}
 use mathlib.Core.Logic.{_⊎_, inl, inr}
 use mathlib.Core.List.{List, [], _∷_, _++_, append-assoc, append-nil}
 use lib.ListN.{length, length-append}
 use lib.Dec.{eqb}
 use borrow.Author.Tests.{eqb-true, eqb-false}
-use Rattle.coding.specs.Reader.{if_then_else}
 use Rattle.coding.specs.Codec.{prim, cons, alt, canonical, over, sort, frames, leads, barring, marked, lengthOctets}
 use Rattle.coding.specs.Leaves.{number, identifier, listed}
 use Rattle.coding.specs.Written.{lead, fullNumber}
@@ -56,22 +55,22 @@ module _ (u i o e p d : ℕ) (c : Charge) where
   unfolding frame returnError failed leads canonical over frontOctets
   body-3 = rw (value-write 8 errors e, append-nil)
 
-  null-call : eqb u 1 ≡ true → caller .write (if_then_else (eqb u 1) (inl tt) (inr i)) ≡ if_then_else (eqb u 1) (lead 0x05 0) wid
+  null-call : eqb u 1 ≡ true → caller .write (cond (eqb u 1) (inl tt) (inr i)) ≡ cond (eqb u 1) (lead 0x05 0) wid
   unfolding caller alt
   null-call q = rw (q, null-write 0x05 tt)
 
-  named-call : eqb u 1 ≡ false → caller .write (if_then_else (eqb u 1) (inl tt) (inr i)) ≡ if_then_else (eqb u 1) (lead 0x05 0) wid
+  named-call : eqb u 1 ≡ false → caller .write (cond (eqb u 1) (inl tt) (inr i)) ≡ cond (eqb u 1) (lead 0x05 0) wid
   unfolding caller alt
   named-call q = rw q
 
-  call : caller .write (if_then_else (eqb u 1) (inl tt) (inr i)) ≡ if_then_else (eqb u 1) (lead 0x05 0) wid
+  call : caller .write (cond (eqb u 1) (inl tt) (inr i)) ≡ cond (eqb u 1) (lead 0x05 0) wid
   call = go (eqb u 1) refl
     where
-      go : (b : Bool) → eqb u 1 ≡ b → caller .write (if_then_else (eqb u 1) (inl tt) (inr i)) ≡ if_then_else (eqb u 1) (lead 0x05 0) wid
+      go : (b : Bool) → eqb u 1 ≡ b → caller .write (cond (eqb u 1) (inl tt) (inr i)) ≡ cond (eqb u 1) (lead 0x05 0) wid
       go true q = null-call q
       go false q = named-call q
 
-  tagged : (p ≡ 0x80) ⊎ ((p ≡ 0x81) ⊎ ((p ≡ 0x82) ⊎ (p ≡ 0x83))) → (problems (if_then_else (eqb u 1) (inl tt) (inr i))) .write (rec 4 u i o e p d c) ≡ fullNumber p d
+  tagged : (p ≡ 0x80) ⊎ ((p ≡ 0x81) ⊎ ((p ≡ 0x82) ⊎ (p ≡ 0x83))) → (problems (cond (eqb u 1) (inl tt) (inr i))) .write (rec 4 u i o e p d c) ≡ fullNumber p d
   unfolding problems sort problem canonical over
   tagged (inl q) = rw q (number-write 0x80 0 2 d)
   tagged (inr (inl q)) = rw q (number-write 0x81 0 7 d)

@@ -3,13 +3,12 @@
 use Prim.Native.Nat.{ℕ, _+_, _≤_}
 use native.Mathlib.Omega.{arith}
 use mathlib.Core.Path.{_≡_, refl, ap, _∙_}
-use mathlib.Core.Bool.{Bool, true, false, _&&_}
+use mathlib.Core.Bool.{Bool, true, false, _&&_, cond}
 use mathlib.Core.List.{List, _++_}
 use lib.ListN.{length, take, drop}
 use lib.Seq.{take-append-seam}
 use lib.Dec.{leb}
 use borrow.Author.Tests.{leb-true, le-leb}
-use Rattle.coding.specs.Reader.{if_then_else}
 use Rattle.coding.proofs.Laws.{Octets}
 use Rattle.types.specs.declared.Record.{Record}
 use Rattle.types.specs.Frames.{component, readOf, accepted}
@@ -23,10 +22,10 @@ module _ (r : Record) (before : List ℕ) where
   size = length (component .write r)
 
   abbrev answer : Bool → Bool → Bool → Written
-  answer v s f = if_then_else v (if_then_else s (if_then_else f (done size) (no 12)) (no 11)) (no 10)
+  answer v s f = cond v (cond s (cond f (done size) (no 12)) (no 11)) (no 10)
 
   abbrev kept : Bool → Bool → Bool → List ℕ
-  kept v s f = if_then_else (v && (s && f)) (component .write r ++ drop size before) before
+  kept v s f = cond (v && (s && f)) (component .write r ++ drop size before) before
 
   -- what is left where it is written: the shortest form first, of at most 254 octets, read back as the same record
   pub written-reads : writeOf r (length before) .number ≡ 0

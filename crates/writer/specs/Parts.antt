@@ -1,9 +1,8 @@
 -- A record as its front and its charge. For the writer's inner functions.
 use Prim.Native.Nat.{ℕ}
 use mathlib.Core.List.{List, [], _++_}
-use mathlib.Core.Bool.{Bool, _&&_}
+use mathlib.Core.Bool.{Bool, _&&_, cond}
 use lib.ListN.{length}
-use Rattle.coding.specs.Reader.{if_then_else}
 use Rattle.types.specs.declared.Record.{Record}
 use Rattle.types.specs.declared.Charge.{Charge}
 use Rattle.types.specs.Arguments.{noCharge, sameCharge, chargeOf}
@@ -35,13 +34,13 @@ recordOf f c = record {
 
 -- the charge fits its front: one that may be written where it follows, else none
 abbrev pub chargeFine : Front → Charge → Bool
-chargeFine f c = if_then_else (charged f) ((chargeOf (f .operation)) .valid c) (sameCharge noCharge c)
+chargeFine f c = cond (charged f) ((chargeOf (f .operation)) .valid c) (sameCharge noCharge c)
 
 abbrev pub fineOf : Front → Charge → Bool
 fineOf f c = frontFine f && chargeFine f c
 
 abbrev pub chargeOctets : Front → Charge → List ℕ
-chargeOctets f c = if_then_else (charged f) ((chargeOf (f .operation)) .write c) []
+chargeOctets f c = cond (charged f) ((chargeOf (f .operation)) .write c) []
 
 -- a frame's contents
 abbrev pub bodyOf : Front → Charge → List ℕ

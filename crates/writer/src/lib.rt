@@ -2,11 +2,10 @@
 use put_figures::Outline;
 use types::Figure;
 ghost use mathlib.Core.Path.{_≡_};
-ghost use mathlib.Core.Bool.{true, false, _||_};
+ghost use mathlib.Core.Bool.{true, false, _||_, cond};
 ghost use Prim.Native.Nat.{_+_, _≤_, _<_};
 ghost use lib.ListN.{length};
 ghost use lib.Dec.{eqb};
-ghost use Rattle.coding.specs.Reader.{if_then_else};
 ghost use Rattle.coding.specs.Written.{Wrote};
 ghost use Rattle.fronts.specs.Fronts.{frontFine, charged};
 ghost use Rattle.writer.specs.Outcome.{no, writeOf, leftOf};
@@ -40,7 +39,7 @@ fn may_hold(f: fronts::Front, kind: u8) -> bool
 // The operation by which a charge is tested: its own, or, where none follows, one to which no charge at all is fine.
 fn tested_by(f: fronts::Front) -> u8
     requires { ⌜ frontFine f ≡ true ⌝ }
-    ensures { λ r. ⌜ r ≡ if_then_else (charged f) (f .operation) 32 ⌝ }
+    ensures { λ r. ⌜ r ≡ cond (charged f) (f .operation) 32 ⌝ }
     ensures known { λ r. ⌜ (30 ≤ r) × (r ≤ 36) ⌝ }
 {
     if fronts::is_charged(f) {

@@ -9,12 +9,6 @@ use Rattle.coding.proofs.Reading.{reading}
 use Rattle.coding.proofs.chosen_at.Statement.{statement}
 use Rattle.coding.proofs.chosen_at.Tie as tie
 
-is-tag-requires : tie.Need-is-tag-requires
-is-tag-requires c κs = search needs
-
-natural-long-requires : tie.Need-natural-long-requires
-natural-long-requires c κs = search needs
-
 returns : tie.Need-returns
 unfolding given maybe over optional
 returns c = (search reading, omega arith)
@@ -29,4 +23,4 @@ returns-3 c = (search reading, omega arith)
 
 pub chosen-at-spec : {M : Type 1} → statement M
 chosen-at-spec =
-    tie.close (tie.spec is-tag-requires natural-long-requires returns returns-2 returns-3)
+    tie.close (tie.spec (search needs) (search needs) returns returns-2 returns-3)

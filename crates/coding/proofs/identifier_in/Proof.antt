@@ -11,47 +11,14 @@ use Rattle.coding.proofs.identifier_in.Tie as tie
 returns : tie.Need-returns
 returns c = (id-none _ _ _ (c .before .before .pre .1) (c .if1 .taken), omega arith)
 
-shared-slice-read-wide32 : tie.Need-shared-slice-read-wide32
-shared-slice-read-wide32 c = search needs
-
-wide32-requires : tie.Need-wide32-requires
-wide32-requires c κs = search needs
-
-add-if2 : tie.Need-add-if2
-add-if2 c = search needs
-
 returns-2 : tie.Need-returns-2
 returns-2 c = (id-low _ _ _ (c .before .before .before .before .before .before .pre .1) (c .before .if2 .taken) (c .before .before .wide32 .ensures .0) (c .if3 .taken), omega arith)
-
-add-t11 : tie.Need-add-t11
-add-t11 c = search needs
 
 returns-3 : tie.Need-returns-3
 returns-3 c = (id-high _ _ _ (c .before .before .before .before .before .before .pre .1) (c .before .if2 .taken) (c .before .before .wide32 .ensures .0) (c .if3 .left), omega arith)
 
-is-shortest-requires : tie.Need-is-shortest-requires
-is-shortest-requires c κs = search needs
-
 returns-4 : tie.Need-returns-4
 returns-4 c = (id-padded _ _ _ (c .before .before .before .before .before .before .before .pre .1) (omega arith) (sym (c .before .is-shortest .ensures) ∙ not-true _ (c .if4 .taken)), omega arith)
-
-add-if5 : tie.Need-add-if5
-add-if5 c = search needs
-
-add-wide32 : tie.Need-add-wide32
-add-wide32 c = search needs
-
-shared-slice-read-wide32-2 : tie.Need-shared-slice-read-wide32-2
-shared-slice-read-wide32-2 c = search needs
-
-wide32-requires-2 : tie.Need-wide32-requires-2
-wide32-requires-2 c κs = search needs
-
-mul-t16 : tie.Need-mul-t16
-mul-t16 c = search needs
-
-add-t17 : tie.Need-add-t17
-add-t17 c = search needs
 
 returns-5 : tie.Need-returns-5
 returns-5 c = (id-two _ _ _ (c .before .before .before .before .before .before .before .before .before .before .pre .1) (c .before .before .if5 .taken) (c .before .before .before .before .before .before .wide32 .ensures .0) (c .wide322 .ensures .0) (sym (c .before .before .before .before .is-shortest .ensures) ∙ not-false _ (c .before .before .before .if4 .left)), omega arith)
@@ -62,21 +29,4 @@ returns-6 c = (id-many _ _ _ (c .before .before .before .before .before .before 
 pub identifier-in-spec : {M : Type 1} → statement M
 identifier-in-spec =
     tie.close
-    (tie.spec
-    returns
-    shared-slice-read-wide32
-    wide32-requires
-    add-if2
-    returns-2
-    add-t11
-    returns-3
-    is-shortest-requires
-    returns-4
-    add-if5
-    add-wide32
-    shared-slice-read-wide32-2
-    wide32-requires-2
-    mul-t16
-    add-t17
-    returns-5
-    returns-6)
+    (tie.spec returns (search needs) (search needs) (search needs) returns-2 (search needs) returns-3 (search needs) returns-4 (search needs) (search needs) (search needs) (search needs) (search needs) (search needs) returns-5 returns-6)

@@ -9,15 +9,9 @@ use Rattle.coding.proofs.Reading.{reading}
 use Rattle.coding.proofs.identifier_long.Statement.{statement}
 use Rattle.coding.proofs.identifier_long.Tie as tie
 
-open-long-requires : tie.Need-open-long-requires
-open-long-requires c κs = search needs
-
 returns : tie.Need-returns
 unfolding prim identifier primitive
 returns c = (search reading, omega arith)
-
-identifier-in-requires : tie.Need-identifier-in-requires
-identifier-in-requires c κs = search needs
 
 returns-2 : tie.Need-returns-2
 unfolding prim identifier primitive
@@ -29,4 +23,4 @@ returns-3 c = (search reading, omega arith)
 
 pub identifier-long-spec : {M : Type 1} → statement M
 identifier-long-spec =
-    tie.close (tie.spec open-long-requires returns identifier-in-requires returns-2 returns-3)
+    tie.close (tie.spec (search needs) returns (search needs) returns-2 returns-3)

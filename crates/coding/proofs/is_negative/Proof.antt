@@ -10,12 +10,9 @@ returns : tie.Need-returns
 unfolding negative
 returns c = rw (part-none _ _ _ (c .if1 .taken))
 
-shared-slice-read-result : tie.Need-shared-slice-read-result
-shared-slice-read-result c = search needs
-
 returns-2 : tie.Need-returns-2
 unfolding negative
 returns-2 c = rw (part-cons _ _ _ (c .before .if1 .left) (c .before .before .pre))
 
 pub is-negative-spec : {M : Type 1} → statement M
-is-negative-spec = tie.close (tie.spec returns shared-slice-read-result returns-2)
+is-negative-spec = tie.close (tie.spec returns (search needs) returns-2)

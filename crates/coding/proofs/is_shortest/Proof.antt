@@ -13,24 +13,12 @@ returns : tie.Need-returns
 unfolding shortest
 returns c = rw (part-none _ _ _ (c .if1 .taken))
 
-add-if2 : tie.Need-add-if2
-add-if2 c = search needs
-
 returns-2 : tie.Need-returns-2
 unfolding shortest
 returns-2 c =
     let a = c .before .before in
     let h : a .args .stop ≤ a .args .start + 1 = omega arith in
     rw (part-cons _ _ _ (c .before .if1 .left) (a .pre), part-none _ _ _ h)
-
-shared-slice-read-x : tie.Need-shared-slice-read-x
-shared-slice-read-x c = search needs
-
-add-y : tie.Need-add-y
-add-y c = search needs
-
-shared-slice-read-y : tie.Need-shared-slice-read-y
-shared-slice-read-y c = search needs
 
 returns-3 : tie.Need-returns-3
 unfolding shortest
@@ -57,13 +45,4 @@ returns-5 c =
 pub is-shortest-spec : {M : Type 1} → statement M
 is-shortest-spec =
     tie.close
-    (tie.spec
-    returns
-    add-if2
-    returns-2
-    shared-slice-read-x
-    add-y
-    shared-slice-read-y
-    returns-3
-    returns-4
-    returns-5)
+    (tie.spec returns (search needs) returns-2 (search needs) (search needs) (search needs) returns-3 returns-4 returns-5)

@@ -10,12 +10,9 @@ returns : tie.Need-returns
 unfolding tagged
 returns c = simp (le-ltb _ _ (c .if1 .taken))
 
-shared-slice-read-result : tie.Need-shared-slice-read-result
-shared-slice-read-result c = search needs
-
 returns-2 : tie.Need-returns-2
 unfolding tagged
 returns-2 c = simp (lt-ltb _ _ (c .before .if1 .left))
 
 pub is-tag-spec : {M : Type 1} → statement M
-is-tag-spec = tie.close (tie.spec returns shared-slice-read-result returns-2)
+is-tag-spec = tie.close (tie.spec returns (search needs) returns-2)

@@ -6,24 +6,15 @@ use Rattle.coding.proofs.Shortcut.{tiny-natural}
 use Rattle.coding.proofs.natural_at.Statement.{statement}
 use Rattle.coding.proofs.natural_at.Tie as tie
 
-tiny-requires : tie.Need-tiny-requires
-tiny-requires c κs = search needs
-
-cast-x : tie.Need-cast-x
-cast-x c = search needs
-
 add-t12 : tie.Need-add-t12
 add-t12 c = omega (arith, c .before .before .before .tiny .ensures .1 .1 (omega arith) .inside)
 
 returns : tie.Need-returns
 returns c = (tiny-natural _ _ _ _ _ _ (omega arith) (c .before .before .before .tiny .ensures .1 .1 (omega arith)) (omega arith) (omega arith) (omega arith), omega arith)
 
-natural-long-requires : tie.Need-natural-long-requires
-natural-long-requires c κs = search needs
-
 returns-2 : tie.Need-returns-2
 returns-2 c = search needs
 
 pub natural-at-spec : {M : Type 1} → statement M
 natural-at-spec =
-    tie.close (tie.spec tiny-requires cast-x add-t12 returns natural-long-requires returns-2)
+    tie.close (tie.spec (search needs) (search needs) add-t12 returns (search needs) returns-2)

@@ -11,20 +11,11 @@ use Rattle.coding.specs.Shown.{verdict}
 use Rattle.coding.proofs.natural_in.Statement.{statement}
 use Rattle.coding.proofs.natural_in.Tie as tie
 
-is-shortest-requires : tie.Need-is-shortest-requires
-is-shortest-requires c κs = search needs
-
-is-negative-requires : tie.Need-is-negative-requires
-is-negative-requires c κs = search needs
-
 returns : tie.Need-returns
 unfolding natural verdict
 returns c =
     let d = c .before .before .before in
     (simp (sym (d .is-shortest .ensures) ∙ c .before .before .if1 .taken, sym (c .before .is-negative .ensures) ∙ c .if2 .taken), omega arith)
-
-magnitude-requires : tie.Need-magnitude-requires
-magnitude-requires c κs = search needs
 
 returns-2 : tie.Need-returns-2
 unfolding natural verdict
@@ -83,12 +74,4 @@ returns-5 c = (simp (sym (c .before .is-shortest .ensures) ∙ c .if1 .left), om
 pub natural-in-spec : {M : Type 1} → statement M
 natural-in-spec =
     tie.close
-    (tie.spec
-    is-shortest-requires
-    is-negative-requires
-    returns
-    magnitude-requires
-    returns-2
-    returns-3
-    returns-4
-    returns-5)
+    (tie.spec (search needs) (search needs) returns (search needs) returns-2 returns-3 returns-4 returns-5)

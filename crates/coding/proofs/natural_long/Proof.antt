@@ -9,15 +9,9 @@ use Rattle.coding.proofs.Reading.{reading}
 use Rattle.coding.proofs.natural_long.Statement.{statement}
 use Rattle.coding.proofs.natural_long.Tie as tie
 
-open-long-requires : tie.Need-open-long-requires
-open-long-requires c κs = search needs
-
 returns : tie.Need-returns
 unfolding prim number primitive
 returns c = (search reading, omega arith)
-
-natural-in-requires : tie.Need-natural-in-requires
-natural-in-requires c κs = search needs
 
 returns-2 : tie.Need-returns-2
 unfolding prim number primitive
@@ -29,4 +23,4 @@ returns-3 c = (search reading, omega arith)
 
 pub natural-long-spec : {M : Type 1} → statement M
 natural-long-spec =
-    tie.close (tie.spec open-long-requires returns natural-in-requires returns-2 returns-3)
+    tie.close (tie.spec (search needs) returns (search needs) returns-2 returns-3)

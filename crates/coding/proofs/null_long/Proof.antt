@@ -10,9 +10,6 @@ use Rattle.coding.proofs.Parts.{null-none, null-some}
 use Rattle.coding.proofs.null_long.Statement.{statement}
 use Rattle.coding.proofs.null_long.Tie as tie
 
-open-long-requires : tie.Need-open-long-requires
-open-long-requires c κs = search needs
-
 returns : tie.Need-returns
 unfolding prim nullLeaf primitive
 returns c = search reading
@@ -34,4 +31,4 @@ returns-3 c =
     search reading
 
 pub null-long-spec : {M : Type 1} → statement M
-null-long-spec = tie.close (tie.spec open-long-requires returns returns-2 returns-3)
+null-long-spec = tie.close (tie.spec (search needs) returns returns-2 returns-3)

@@ -6,9 +6,6 @@ use Rattle.coding.proofs.Shortcut.{short-shown}
 use Rattle.coding.proofs.open_at.Statement.{statement}
 use Rattle.coding.proofs.open_at.Tie as tie
 
-short-length-requires : tie.Need-short-length-requires
-short-length-requires c κs = search needs
-
 add-start : tie.Need-add-start
 add-start c = omega (arith, c .before .short-length .ensures .1 .1 (omega arith) .inside)
 
@@ -18,13 +15,10 @@ add-stop c = omega (arith, c .before .short-length .ensures .1 .1 (omega arith) 
 returns : tie.Need-returns
 returns c = let t = c .before .short-length .ensures .1 .1 (omega arith) in (short-shown _ _ _ _ _ t, omega (arith, t .inside))
 
-open-long-requires : tie.Need-open-long-requires
-open-long-requires c κs = search needs
-
 returns-2 : tie.Need-returns-2
 returns-2 c = search needs
 
 pub open-at-spec : {M : Type 1} → statement M
 open-at-spec =
     tie.close
-    (tie.spec short-length-requires add-start add-stop returns open-long-requires returns-2)
+    (tie.spec (search needs) add-start add-stop returns (search needs) returns-2)

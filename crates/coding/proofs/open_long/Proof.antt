@@ -8,28 +8,13 @@ use Rattle.coding.specs.Shown.{shown}
 use Rattle.coding.proofs.open_long.Statement.{statement}
 use Rattle.coding.proofs.open_long.Tie as tie
 
-halted-requires : tie.Need-halted-requires
-halted-requires c κs = search needs
-
 returns : tie.Need-returns
 unfolding opened choice neither tagged shown
 returns c = rw (c .halted .ensures) (simp (le-ltb _ _ (c .before .if1 .taken)), omega arith)
 
-shared-slice-read-if2 : tie.Need-shared-slice-read-if2
-shared-slice-read-if2 c = search needs
-
-halted-requires-2 : tie.Need-halted-requires-2
-halted-requires-2 c κs = search needs
-
 returns-2 : tie.Need-returns-2
 unfolding opened choice neither tagged shown
 returns-2 c = rw (c .halted2 .ensures) (simp (lt-ltb _ _ (c .before .before .before .if1 .left), ne-eqb _ _ (c .before .if2 .taken)), omega arith)
-
-add-length-at : tie.Need-add-length-at
-add-length-at c = search needs
-
-length-at-requires : tie.Need-length-at-requires
-length-at-requires c κs = search needs
 
 returns-3 : tie.Need-returns-3
 unfolding opened choice tagged
@@ -38,12 +23,4 @@ returns-3 c = (simp (lt-ltb _ _ (c .before .before .before .if1 .left), eq-eqb _
 pub open-long-spec : {M : Type 1} → statement M
 open-long-spec =
     tie.close
-    (tie.spec
-    halted-requires
-    returns
-    shared-slice-read-if2
-    halted-requires-2
-    returns-2
-    add-length-at
-    length-at-requires
-    returns-3)
+    (tie.spec (search needs) returns (search needs) (search needs) returns-2 (search needs) (search needs) returns-3)

@@ -8,15 +8,6 @@ use Rattle.coding.proofs.Writing.{wrote-cons}
 use Rattle.coding.proofs.put2.Statement.{statement}
 use Rattle.coding.proofs.put2.Tie as tie
 
-cast-buf : tie.Need-cast-buf
-cast-buf c = search needs
-
-slice-write-buf : tie.Need-slice-write-buf
-slice-write-buf c = search needs
-
-add-put1 : tie.Need-add-put1
-add-put1 c = search needs
-
 put1-requires : tie.Need-put1-requires
 put1-requires c κs = simp length-set (omega arith)
 
@@ -29,4 +20,4 @@ same-length c = returns c .kept
 
 pub put2-spec : {M : Type 1} → statement M
 put2-spec =
-    tie.close (tie.spec cast-buf slice-write-buf add-put1 put1-requires same-length returns)
+    tie.close (tie.spec (search needs) (search needs) (search needs) put1-requires same-length returns)

@@ -8,15 +8,6 @@ use Rattle.coding.proofs.Writing.{wrote-cons}
 use Rattle.coding.proofs.put3.Statement.{statement}
 use Rattle.coding.proofs.put3.Tie as tie
 
-cast-buf : tie.Need-cast-buf
-cast-buf c = search needs
-
-slice-write-buf : tie.Need-slice-write-buf
-slice-write-buf c = search needs
-
-add-put2 : tie.Need-add-put2
-add-put2 c = search needs
-
 put2-requires : tie.Need-put2-requires
 put2-requires c κs = simp length-set (omega arith)
 
@@ -29,4 +20,4 @@ same-length c = returns c .kept
 
 pub put3-spec : {M : Type 1} → statement M
 put3-spec =
-    tie.close (tie.spec cast-buf slice-write-buf add-put2 put2-requires same-length returns)
+    tie.close (tie.spec (search needs) (search needs) (search needs) put2-requires same-length returns)

@@ -8,15 +8,6 @@ use Rattle.coding.proofs.Writing.{wrote-cons}
 use Rattle.coding.proofs.put4.Statement.{statement}
 use Rattle.coding.proofs.put4.Tie as tie
 
-cast-buf : tie.Need-cast-buf
-cast-buf c = search needs
-
-slice-write-buf : tie.Need-slice-write-buf
-slice-write-buf c = search needs
-
-add-put3 : tie.Need-add-put3
-add-put3 c = search needs
-
 put3-requires : tie.Need-put3-requires
 put3-requires c κs = simp length-set (omega arith)
 
@@ -29,4 +20,4 @@ same-length c = returns c .kept
 
 pub put4-spec : {M : Type 1} → statement M
 put4-spec =
-    tie.close (tie.spec cast-buf slice-write-buf add-put3 put3-requires same-length returns)
+    tie.close (tie.spec (search needs) (search needs) (search needs) put3-requires same-length returns)

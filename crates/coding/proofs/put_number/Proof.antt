@@ -6,9 +6,6 @@ use Rattle.coding.proofs.Writing.{wrote-number, width-range, number-len
 use Rattle.coding.proofs.put_number.Statement.{statement}
 use Rattle.coding.proofs.put_number.Tie as tie
 
-width-of-requires : tie.Need-width-of-requires
-width-of-requires c κs = search needs
-
 put-lead-requires : tie.Need-put-lead-requires
 put-lead-requires c κs =
     let n = c .before .before .before .args .n in
@@ -23,9 +20,6 @@ put-digits-requires c κs =
     let p = c .before .before .before .put-lead in
     omega (arith, width-range n, number-length tag n, w .ensures, p .ensures .place, lead-length-short tag (w .result) (omega (arith, width-range n, w .ensures)))
 
-same-length : tie.Need-same-length
-same-length c = search needs
-
 returns : tie.Need-returns
 returns c =
     let s = c .before .before .before .before .before .before .before .before in
@@ -34,4 +28,4 @@ returns c =
 pub put-number-spec : {M : Type 1} → statement M
 put-number-spec =
     tie.close
-    (tie.spec width-of-requires put-lead-requires put-digits-requires same-length returns)
+    (tie.spec (search needs) put-lead-requires put-digits-requires (search needs) returns)

@@ -12,11 +12,8 @@ put-lead-requires c κs = let a = c .before .before .before .args in omega (arit
 put-octets-requires : tie.Need-put-octets-requires
 put-octets-requires c κs = let a = c .before .before .before .before .before .before .before .args in omega (arith, string-length (a .tag) (a .n) (a .s .now) (omega arith), c .before .before .before .put-lead .ensures .place)
 
-same-length : tie.Need-same-length
-same-length c = search needs
-
 returns : tie.Need-returns
 returns c = wrote-string _ _ (c .before .before .before .before .before .before .put-lead .ensures) (c .before .before .put-octets .ensures)
 
 pub put-string-spec : {M : Type 1} → statement M
-put-string-spec = tie.close (tie.spec put-lead-requires put-octets-requires same-length returns)
+put-string-spec = tie.close (tie.spec put-lead-requires put-octets-requires (search needs) returns)

@@ -9,35 +9,14 @@ use Rattle.coding.proofs.tiny.Tie as tie
 returns : tie.Need-returns
 returns c = tiny-none _ _ _ _ (omega arith)
 
-sub-if2 : tie.Need-sub-if2
-sub-if2 c = search needs
-
 returns-2 : tie.Need-returns-2
 returns-2 c = tiny-none _ _ _ _ (omega arith)
-
-shared-slice-read-if3 : tie.Need-shared-slice-read-if3
-shared-slice-read-if3 c = search needs
 
 returns-3 : tie.Need-returns-3
 returns-3 c = tiny-other _ _ _ _ (c .if3 .taken)
 
-add-if4 : tie.Need-add-if4
-add-if4 c = search needs
-
-shared-slice-read-if4 : tie.Need-shared-slice-read-if4
-shared-slice-read-if4 c = search needs
-
 returns-4 : tie.Need-returns-4
 returns-4 c = tiny-long _ _ _ _ (c .if4 .taken)
-
-add-wide : tie.Need-add-wide
-add-wide c = search needs
-
-shared-slice-read-wide : tie.Need-shared-slice-read-wide
-shared-slice-read-wide c = search needs
-
-wide-requires : tie.Need-wide-requires
-wide-requires c κs = search needs
 
 returns-5 : tie.Need-returns-5
 returns-5 c = tiny-some _ _ _ _ (omega arith) (c .before .before .before .before .if3 .left) (c .before .before .if4 .left) (c .wide .ensures .0) (c .wide .ensures .1)
@@ -45,16 +24,4 @@ returns-5 c = tiny-some _ _ _ _ (omega arith) (c .before .before .before .before
 pub tiny-spec : {M : Type 1} → statement M
 tiny-spec =
     tie.close
-    (tie.spec
-    returns
-    sub-if2
-    returns-2
-    shared-slice-read-if3
-    returns-3
-    add-if4
-    shared-slice-read-if4
-    returns-4
-    add-wide
-    shared-slice-read-wide
-    wide-requires
-    returns-5)
+    (tie.spec returns (search needs) returns-2 (search needs) returns-3 (search needs) (search needs) returns-4 (search needs) (search needs) (search needs) returns-5)

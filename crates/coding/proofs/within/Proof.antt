@@ -9,18 +9,6 @@ use Rattle.coding.specs.Shown.{shown}
 use Rattle.coding.proofs.within.Statement.{statement}
 use Rattle.coding.proofs.within.Tie as tie
 
-sub-if1 : tie.Need-sub-if1
-sub-if1 c = search needs
-
-add-t8 : tie.Need-add-t8
-add-t8 c = search needs
-
-add-t10 : tie.Need-add-t10
-add-t10 c = search needs
-
-halted-requires : tie.Need-halted-requires
-halted-requires c κs = search needs
-
 returns : tie.Need-returns
 unfolding extent shown
 returns c =
@@ -36,4 +24,4 @@ returns-2 c =
     rw (c .halted .ensures) (simp (lt-leb _ _ h), omega arith)
 
 pub within-spec : {M : Type 1} → statement M
-within-spec = tie.close (tie.spec sub-if1 add-t8 add-t10 halted-requires returns returns-2)
+within-spec = tie.close (tie.spec (search needs) (search needs) (search needs) (search needs) returns returns-2)

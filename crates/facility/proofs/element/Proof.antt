@@ -4,18 +4,12 @@ use borrow.Author.Needs.{needs}
 use Rattle.facility.proofs.element.Statement.{statement}
 use Rattle.facility.proofs.element.Tie as tie
 
-is-led-requires : tie.Need-is-led-requires
-is-led-requires c κs = search needs
-
 starts-from-requires : tie.Need-starts-from-requires
 starts-from-requires c κs = c .before .is-led .ensures .1 (c .if1 .taken)
 
 returns : tie.Need-returns
 unfolding elementOf
 returns c = (rw (← c .before .before .is-led .ensures .0, c .before .if1 .taken) (c .starts-from .ensures .0), c .starts-from .ensures .1)
-
-refused-requires : tie.Need-refused-requires
-refused-requires c κs = search needs
 
 returns-2 : tie.Need-returns-2
 unfolding elementOf
@@ -24,4 +18,4 @@ returns-2 c =
 
 pub element-spec : {M : Type 1} → statement M
 element-spec =
-    tie.close (tie.spec is-led-requires starts-from-requires returns refused-requires returns-2)
+    tie.close (tie.spec (search needs) starts-from-requires returns (search needs) returns-2)

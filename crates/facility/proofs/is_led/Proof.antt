@@ -17,24 +17,12 @@ returns c =
     let h : length s ≤ 3 = omega arith in
     (simp (le-ltb 3 (length s) h), λ e. absurd (true≢false (sym e)))
 
-shared-slice-read-if2 : tie.Need-shared-slice-read-if2
-shared-slice-read-if2 c = search needs
-
 returns-2 : tie.Need-returns-2
 unfolding led
 returns-2 c =
     let s = c .before .before .before .before .args .octets .now in
     let h : 3 < length s = omega arith in
     (simp (lt-ltb 3 (length s) h, ne-eqb _ _ (c .if2 .taken)), λ e. absurd (true≢false (sym e)))
-
-shared-slice-read-wide : tie.Need-shared-slice-read-wide
-shared-slice-read-wide c = search needs
-
-wide-requires : tie.Need-wide-requires
-wide-requires c κs = search needs
-
-sub-if3 : tie.Need-sub-if3
-sub-if3 c = search needs
 
 returns-3 : tie.Need-returns-3
 unfolding led
@@ -43,9 +31,6 @@ returns-3 c =
     let h : 3 < length s = omega arith in
     let ne : getD s 1 0 ≡ length s - 2 → ⊥ = λ e. c .if3 .taken (c .before .wide .ensures .0 ∙ e) in
     (simp (lt-ltb 3 (length s) h, eq-eqb _ _ (c .before .before .before .if2 .left), ne-eqb _ _ ne), λ e. absurd (true≢false (sym e)))
-
-shared-slice-read-result : tie.Need-shared-slice-read-result
-shared-slice-read-result c = search needs
 
 returns-4 : tie.Need-returns-4
 returns-4 c =
@@ -57,13 +42,4 @@ returns-4 c =
 pub is-led-spec : {M : Type 1} → statement M
 is-led-spec =
     tie.close
-    (tie.spec
-    returns
-    shared-slice-read-if2
-    returns-2
-    shared-slice-read-wide
-    wide-requires
-    sub-if3
-    returns-3
-    shared-slice-read-result
-    returns-4)
+    (tie.spec returns (search needs) returns-2 (search needs) (search needs) (search needs) returns-3 (search needs) returns-4)

@@ -7,23 +7,11 @@ use Rattle.types.specs.Charges.{association, unassociated}
 use Rattle.figures.proofs.association_at.Statement.{statement}
 use Rattle.figures.proofs.association_at.Tie as tie
 
-is-tag-requires : tie.Need-is-tag-requires
-is-tag-requires c κs = search needs
-
-identified-at-requires : tie.Need-identified-at-requires
-identified-at-requires c κs = search needs
-
 returns : tie.Need-returns
 unfolding association sort unassociated canonical over nothing after
 returns c =
     picks _ _ _ _ _ _ _ (c .before .before .is-tag .ensures) (c .before .if1 .taken)
     (c .identified-at .ensures)
-
-is-tag-requires-2 : tie.Need-is-tag-requires-2
-is-tag-requires-2 c κs = search needs
-
-party-at-requires : tie.Need-party-at-requires
-party-at-requires c κs = search needs
 
 returns-2 : tie.Need-returns-2
 unfolding association sort unassociated canonical over nothing after
@@ -42,11 +30,4 @@ returns-3 c =
 pub association-at-spec : {M : Type 1} → statement M
 association-at-spec =
     tie.close
-    (tie.spec
-    is-tag-requires
-    identified-at-requires
-    returns
-    is-tag-requires-2
-    party-at-requires
-    returns-2
-    returns-3)
+    (tie.spec (search needs) (search needs) returns (search needs) (search needs) returns-2 returns-3)

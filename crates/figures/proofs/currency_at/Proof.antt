@@ -8,22 +8,10 @@ use Rattle.types.specs.Charges.{currency}
 use Rattle.figures.proofs.currency_at.Statement.{statement}
 use Rattle.figures.proofs.currency_at.Tie as tie
 
-open-at-requires : tie.Need-open-at-requires
-open-at-requires c κs = search needs
-
-no-currency-requires : tie.Need-no-currency-requires
-no-currency-requires c κs = search needs
-
 returns : tie.Need-returns
 unfolding currency prim primitive
 returns c =
     c .no-currency .ensures ∙ stay _ _ _ _ (c .before .before .before .open-at .ensures .0) (c .before .if1 .taken)
-
-currency-in-requires : tie.Need-currency-in-requires
-currency-in-requires c κs = search needs
-
-no-currency-requires-2 : tie.Need-no-currency-requires-2
-no-currency-requires-2 c κs = search needs
 
 returns-2 : tie.Need-returns-2
 unfolding currency prim primitive
@@ -40,11 +28,4 @@ returns-3 c =
 pub currency-at-spec : {M : Type 1} → statement M
 currency-at-spec =
     tie.close
-    (tie.spec
-    open-at-requires
-    no-currency-requires
-    returns
-    currency-in-requires
-    no-currency-requires-2
-    returns-2
-    returns-3)
+    (tie.spec (search needs) (search needs) returns (search needs) (search needs) returns-2 returns-3)

@@ -6,22 +6,10 @@ use Rattle.coding.proofs.Reading.{fails, passes, stay, step}
 use Rattle.figures.proofs.digits_at.Statement.{statement}
 use Rattle.figures.proofs.digits_at.Tie as tie
 
-open-long-requires : tie.Need-open-long-requires
-open-long-requires c κs = search needs
-
-no-association-requires : tie.Need-no-association-requires
-no-association-requires c κs = search needs
-
 returns : tie.Need-returns
 unfolding primitive
 returns c =
     c .no-association .ensures ∙ stay _ _ _ _ (c .before .before .before .open-long .ensures .0) (c .before .if1 .taken)
-
-digits-in-requires : tie.Need-digits-in-requires
-digits-in-requires c κs = search needs
-
-no-association-requires-2 : tie.Need-no-association-requires-2
-no-association-requires-2 c κs = search needs
 
 returns-2 : tie.Need-returns-2
 unfolding primitive
@@ -38,11 +26,4 @@ returns-3 c =
 pub digits-at-spec : {M : Type 1} → statement M
 digits-at-spec =
     tie.close
-    (tie.spec
-    open-long-requires
-    no-association-requires
-    returns
-    digits-in-requires
-    no-association-requires-2
-    returns-2
-    returns-3)
+    (tie.spec (search needs) (search needs) returns (search needs) (search needs) returns-2 returns-3)

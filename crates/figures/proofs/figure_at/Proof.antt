@@ -6,22 +6,13 @@ use Rattle.types.specs.Arguments.{available}
 use Rattle.figures.proofs.figure_at.Statement.{statement}
 use Rattle.figures.proofs.figure_at.Tie as tie
 
-arrangement-at-requires : tie.Need-arrangement-at-requires
-arrangement-at-requires c κs = search needs
-
 returns : tie.Need-returns
 unfolding available
 returns c = rw (c .before .if1 .taken) (c .arrangement-at .ensures)
 
-subtotals-at-requires : tie.Need-subtotals-at-requires
-subtotals-at-requires c κs = search needs
-
 returns-2 : tie.Need-returns-2
 unfolding available
 returns-2 c = rw (c .before .if2 .taken) (c .subtotals-at .ensures)
-
-finals-at-requires : tie.Need-finals-at-requires
-finals-at-requires c κs = search needs
 
 returns-3 : tie.Need-returns-3
 unfolding available
@@ -32,10 +23,4 @@ returns-3 c =
 pub figure-at-spec : {M : Type 1} → statement M
 figure-at-spec =
     tie.close
-    (tie.spec
-    arrangement-at-requires
-    returns
-    subtotals-at-requires
-    returns-2
-    finals-at-requires
-    returns-3)
+    (tie.spec (search needs) returns (search needs) returns-2 (search needs) returns-3)

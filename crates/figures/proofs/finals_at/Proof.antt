@@ -6,22 +6,10 @@ use Rattle.figures.proofs.Steps.{finals-steps}
 use Rattle.figures.proofs.finals_at.Statement.{statement}
 use Rattle.figures.proofs.finals_at.Tie as tie
 
-open-at-requires : tie.Need-open-at-requires
-open-at-requires c κs = search needs
-
-no-figure-requires : tie.Need-no-figure-requires
-no-figure-requires c κs = search needs
-
 returns : tie.Need-returns
 returns c =
     rw finals-steps
     (c .no-figure .ensures ∙ stay _ _ _ _ (c .before .before .before .open-at .ensures .0) (c .before .if1 .taken))
-
-settled-at-requires : tie.Need-settled-at-requires
-settled-at-requires c κs = search needs
-
-no-figure-requires-2 : tie.Need-no-figure-requires-2
-no-figure-requires-2 c κs = search needs
 
 returns-2 : tie.Need-returns-2
 returns-2 c =
@@ -29,21 +17,12 @@ returns-2 c =
     (c .no-figure2 .ensures ∙ step _ _ _ _ (c .before .before .before .before .before .before .open-at .ensures .0) (c .before .before .before .before .if1 .left)
     (stay _ _ _ _ (c .before .before .before .settled-at .ensures) (c .before .if2 .taken)))
 
-association-at-requires : tie.Need-association-at-requires
-association-at-requires c κs = search needs
-
-no-figure-requires-3 : tie.Need-no-figure-requires-3
-no-figure-requires-3 c κs = search needs
-
 returns-3 : tie.Need-returns-3
 returns-3 c =
     rw finals-steps
     (c .no-figure3 .ensures ∙ step _ _ _ _ (c .before .before .before .before .before .before .before .before .before .open-at .ensures .0) (c .before .before .before .before .before .before .before .if1 .left)
     (step _ _ _ _ (c .before .before .before .before .before .before .settled-at .ensures) (c .before .before .before .before .if2 .left)
     (stay _ _ _ _ (c .before .before .before .association-at .ensures) (c .before .if3 .taken))))
-
-no-figure-requires-4 : tie.Need-no-figure-requires-4
-no-figure-requires-4 c κs = search needs
 
 returns-4 : tie.Need-returns-4
 returns-4 c =
@@ -64,16 +43,4 @@ returns-5 c =
 pub finals-at-spec : {M : Type 1} → statement M
 finals-at-spec =
     tie.close
-    (tie.spec
-    open-at-requires
-    no-figure-requires
-    returns
-    settled-at-requires
-    no-figure-requires-2
-    returns-2
-    association-at-requires
-    no-figure-requires-3
-    returns-3
-    no-figure-requires-4
-    returns-4
-    returns-5)
+    (tie.spec (search needs) (search needs) returns (search needs) (search needs) returns-2 (search needs) (search needs) returns-3 (search needs) returns-4 returns-5)

@@ -7,23 +7,11 @@ use Rattle.types.specs.Charges.{money}
 use Rattle.figures.proofs.money_at.Statement.{statement}
 use Rattle.figures.proofs.money_at.Tie as tie
 
-currency-at-requires : tie.Need-currency-at-requires
-currency-at-requires c κs = search needs
-
-no-money-requires : tie.Need-no-money-requires
-no-money-requires c κs = search needs
-
 returns : tie.Need-returns
 unfolding money shape over pair
 returns c =
     simp flat
     (c .no-money .ensures ∙ stay _ _ _ _ (c .before .before .before .currency-at .ensures) (c .before .if1 .taken))
-
-scaled-at-requires : tie.Need-scaled-at-requires
-scaled-at-requires c κs = search needs
-
-no-money-requires-2 : tie.Need-no-money-requires-2
-no-money-requires-2 c κs = search needs
 
 returns-2 : tie.Need-returns-2
 unfolding money shape over pair
@@ -43,11 +31,4 @@ returns-3 c =
 pub money-at-spec : {M : Type 1} → statement M
 money-at-spec =
     tie.close
-    (tie.spec
-    currency-at-requires
-    no-money-requires
-    returns
-    scaled-at-requires
-    no-money-requires-2
-    returns-2
-    returns-3)
+    (tie.spec (search needs) (search needs) returns (search needs) (search needs) returns-2 returns-3)

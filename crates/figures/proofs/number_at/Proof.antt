@@ -6,18 +6,9 @@ use Rattle.figures.proofs.Steps.{plain-steps}
 use Rattle.figures.proofs.number_at.Statement.{statement}
 use Rattle.figures.proofs.number_at.Tie as tie
 
-is-tag-requires : tie.Need-is-tag-requires
-is-tag-requires c κs = search needs
-
-public-at-requires : tie.Need-public-at-requires
-public-at-requires c κs = search needs
-
 returns : tie.Need-returns
 unfolding sort
 returns c = picks _ _ _ _ _ _ _ (c .before .before .is-tag .ensures) (c .before .if1 .taken) (c .public-at .ensures)
-
-digits-at-requires : tie.Need-digits-at-requires
-digits-at-requires c κs = search needs
 
 returns-2 : tie.Need-returns-2
 unfolding sort
@@ -28,9 +19,4 @@ returns-2 c =
 pub number-at-spec : {M : Type 1} → statement M
 number-at-spec =
     tie.close
-    (tie.spec
-    is-tag-requires
-    public-at-requires
-    returns
-    digits-at-requires
-    returns-2)
+    (tie.spec (search needs) (search needs) returns (search needs) returns-2)

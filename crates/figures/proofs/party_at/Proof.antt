@@ -8,31 +8,16 @@ use Rattle.types.specs.Charges.{party}
 use Rattle.figures.proofs.party_at.Statement.{statement}
 use Rattle.figures.proofs.party_at.Tie as tie
 
-open-long-requires : tie.Need-open-long-requires
-open-long-requires c κs = search needs
-
-no-association-requires : tie.Need-no-association-requires
-no-association-requires c κs = search needs
-
 returns : tie.Need-returns
 unfolding party cons constructed
 returns c =
     c .no-association .ensures ∙ stay _ _ _ _ (c .before .before .before .open-long .ensures .0) (c .before .if1 .taken)
-
-number-at-requires : tie.Need-number-at-requires
-number-at-requires c κs = search needs
-
-no-association-requires-2 : tie.Need-no-association-requires-2
-no-association-requires-2 c κs = search needs
 
 returns-2 : tie.Need-returns-2
 unfolding party cons constructed
 returns-2 c =
     c .no-association2 .ensures ∙ step _ _ _ _ (c .before .before .before .before .before .before .open-long .ensures .0) (c .before .before .before .before .if1 .left)
     (stay _ _ _ _ (c .before .before .before .number-at .ensures) (c .before .if2 .taken))
-
-no-association-requires-3 : tie.Need-no-association-requires-3
-no-association-requires-3 c κs = search needs
 
 returns-3 : tie.Need-returns-3
 unfolding party cons constructed
@@ -51,13 +36,4 @@ returns-4 c =
 pub party-at-spec : {M : Type 1} → statement M
 party-at-spec =
     tie.close
-    (tie.spec
-    open-long-requires
-    no-association-requires
-    returns
-    number-at-requires
-    no-association-requires-2
-    returns-2
-    no-association-requires-3
-    returns-3
-    returns-4)
+    (tie.spec (search needs) (search needs) returns (search needs) (search needs) returns-2 (search needs) returns-3 returns-4)

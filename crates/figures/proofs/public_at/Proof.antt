@@ -8,31 +8,16 @@ use Rattle.figures.proofs.Steps.{public-steps}
 use Rattle.figures.proofs.public_at.Statement.{statement}
 use Rattle.figures.proofs.public_at.Tie as tie
 
-open-long-requires : tie.Need-open-long-requires
-open-long-requires c κs = search needs
-
-no-association-requires : tie.Need-no-association-requires
-no-association-requires c κs = search needs
-
 returns : tie.Need-returns
 returns c =
     rw public-steps
     (c .no-association .ensures ∙ stay _ _ _ _ (c .before .before .before .open-long .ensures .0) (c .before .if1 .taken))
-
-natural-long-requires : tie.Need-natural-long-requires
-natural-long-requires c κs = search needs
-
-no-association-requires-2 : tie.Need-no-association-requires-2
-no-association-requires-2 c κs = search needs
 
 returns-2 : tie.Need-returns-2
 returns-2 c =
     rw public-steps
     (c .no-association2 .ensures ∙ step _ _ _ _ (c .before .before .before .before .before .before .open-long .ensures .0) (c .before .before .before .before .if1 .left)
     (stay _ _ _ _ (c .before .before .before .natural-long .ensures .0) (c .before .if2 .taken)))
-
-no-association-requires-3 : tie.Need-no-association-requires-3
-no-association-requires-3 c κs = search needs
 
 returns-3 : tie.Need-returns-3
 returns-3 c =
@@ -41,15 +26,6 @@ returns-3 c =
     (step _ _ _ _ (c .before .before .before .before .before .natural-long .ensures .0) (c .before .before .before .if2 .left)
     (when-no _ _ _ _ (ap not (eq-eqb _ _ (c .before .if3 .taken))) (halts _ _ _))))
 
-cast-digits-at : tie.Need-cast-digits-at
-cast-digits-at c = search needs
-
-digits-at-requires : tie.Need-digits-at-requires
-digits-at-requires c κs = search needs
-
-no-association-requires-4 : tie.Need-no-association-requires-4
-no-association-requires-4 c κs = search needs
-
 returns-4 : tie.Need-returns-4
 returns-4 c =
     rw public-steps
@@ -57,9 +33,6 @@ returns-4 c =
     (step _ _ _ _ (c .before .before .before .before .before .before .before .before .before .natural-long .ensures .0) (c .before .before .before .before .before .before .before .if2 .left)
     (when-yes _ _ _ _ (ap not (ne-eqb _ _ (c .before .before .before .before .before .if3 .left)))
     (stay _ _ _ _ (c .before .before .before .digits-at .ensures) (c .before .if4 .taken)))))
-
-no-association-requires-5 : tie.Need-no-association-requires-5
-no-association-requires-5 c κs = search needs
 
 returns-5 : tie.Need-returns-5
 returns-5 c =
@@ -82,19 +55,4 @@ returns-6 c =
 pub public-at-spec : {M : Type 1} → statement M
 public-at-spec =
     tie.close
-    (tie.spec
-    open-long-requires
-    no-association-requires
-    returns
-    natural-long-requires
-    no-association-requires-2
-    returns-2
-    no-association-requires-3
-    returns-3
-    cast-digits-at
-    digits-at-requires
-    no-association-requires-4
-    returns-4
-    no-association-requires-5
-    returns-5
-    returns-6)
+    (tie.spec (search needs) (search needs) returns (search needs) (search needs) returns-2 (search needs) returns-3 (search needs) (search needs) (search needs) returns-4 (search needs) returns-5 returns-6)

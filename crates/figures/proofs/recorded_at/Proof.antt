@@ -7,31 +7,16 @@ use Rattle.coding.proofs.Reading.{remains, shut, stay, step}
 use Rattle.figures.proofs.recorded_at.Statement.{statement}
 use Rattle.figures.proofs.recorded_at.Tie as tie
 
-open-at-requires : tie.Need-open-at-requires
-open-at-requires c κs = search needs
-
-no-money-requires : tie.Need-no-money-requires
-no-money-requires c κs = search needs
-
 returns : tie.Need-returns
 unfolding cons constructed
 returns c =
     c .no-money .ensures ∙ stay _ _ _ _ (c .before .before .before .open-at .ensures .0) (c .before .if1 .taken)
-
-money-at-requires : tie.Need-money-at-requires
-money-at-requires c κs = search needs
-
-no-money-requires-2 : tie.Need-no-money-requires-2
-no-money-requires-2 c κs = search needs
 
 returns-2 : tie.Need-returns-2
 unfolding cons constructed
 returns-2 c =
     c .no-money2 .ensures ∙ step _ _ _ _ (c .before .before .before .before .before .before .open-at .ensures .0) (c .before .before .before .before .if1 .left)
     (stay _ _ _ _ (c .before .before .before .money-at .ensures) (c .before .if2 .taken))
-
-no-money-requires-3 : tie.Need-no-money-requires-3
-no-money-requires-3 c κs = search needs
 
 returns-3 : tie.Need-returns-3
 unfolding cons constructed
@@ -50,13 +35,4 @@ returns-4 c =
 pub recorded-at-spec : {M : Type 1} → statement M
 recorded-at-spec =
     tie.close
-    (tie.spec
-    open-at-requires
-    no-money-requires
-    returns
-    money-at-requires
-    no-money-requires-2
-    returns-2
-    no-money-requires-3
-    returns-3
-    returns-4)
+    (tie.spec (search needs) (search needs) returns (search needs) (search needs) returns-2 (search needs) returns-3 returns-4)

@@ -9,12 +9,6 @@ use Rattle.types.specs.Charges.{scaled}
 use Rattle.figures.proofs.scaled_at.Statement.{statement}
 use Rattle.figures.proofs.scaled_at.Tie as tie
 
-open-at-requires : tie.Need-open-at-requires
-open-at-requires c κs = search needs
-
-no-scaled-requires : tie.Need-no-scaled-requires
-no-scaled-requires c κs = search needs
-
 returns : tie.Need-returns
 unfolding scaled cons shape over pair constructed
 returns c = (
@@ -22,12 +16,6 @@ returns c = (
       (c .no-scaled .ensures .0 ∙ stay _ _ _ _ (c .before .before .before .open-at .ensures .0) (c .before .if1 .taken)),
   omega arith,
 )
-
-natural-at-requires : tie.Need-natural-at-requires
-natural-at-requires c κs = search needs
-
-no-scaled-requires-2 : tie.Need-no-scaled-requires-2
-no-scaled-requires-2 c κs = search needs
 
 returns-2 : tie.Need-returns-2
 unfolding scaled cons shape over pair constructed
@@ -37,12 +25,6 @@ returns-2 c = (
       (stay _ _ _ _ (c .before .before .before .natural-at .ensures .0) (c .before .if2 .taken))),
   omega arith,
 )
-
-natural-at-requires-2 : tie.Need-natural-at-requires-2
-natural-at-requires-2 c κs = search needs
-
-no-scaled-requires-3 : tie.Need-no-scaled-requires-3
-no-scaled-requires-3 c κs = search needs
 
 returns-3 : tie.Need-returns-3
 unfolding scaled cons shape over pair constructed
@@ -54,9 +36,6 @@ returns-3 c = (
   omega arith,
 )
 
-no-scaled-requires-4 : tie.Need-no-scaled-requires-4
-no-scaled-requires-4 c κs = search needs
-
 returns-4 : tie.Need-returns-4
 unfolding scaled cons shape over pair constructed
 returns-4 c = (
@@ -67,9 +46,6 @@ returns-4 c = (
       (remains _ _ _ _ _ (c .before .if4 .taken))))),
   omega arith,
 )
-
-cast-t9 : tie.Need-cast-t9
-cast-t9 c = search needs
 
 returns-5 : tie.Need-returns-5
 unfolding scaled cons shape over pair constructed
@@ -85,17 +61,4 @@ returns-5 c = (
 pub scaled-at-spec : {M : Type 1} → statement M
 scaled-at-spec =
     tie.close
-    (tie.spec
-    open-at-requires
-    no-scaled-requires
-    returns
-    natural-at-requires
-    no-scaled-requires-2
-    returns-2
-    natural-at-requires-2
-    no-scaled-requires-3
-    returns-3
-    no-scaled-requires-4
-    returns-4
-    cast-t9
-    returns-5)
+    (tie.spec (search needs) (search needs) returns (search needs) (search needs) returns-2 (search needs) (search needs) returns-3 (search needs) returns-4 (search needs) returns-5)

@@ -6,20 +6,11 @@ use Rattle.types.specs.Arguments.{settled}
 use Rattle.figures.proofs.settled_at.Statement.{statement}
 use Rattle.figures.proofs.settled_at.Tie as tie
 
-is-tag-requires : tie.Need-is-tag-requires
-is-tag-requires c κs = search needs
-
-sign-at-requires : tie.Need-sign-at-requires
-sign-at-requires c κs = search needs
-
 returns : tie.Need-returns
 unfolding settled sort
 returns c =
     picks _ _ _ _ _ _ _ (c .before .before .is-tag .ensures) (c .before .if1 .taken)
     (c .sign-at .ensures)
-
-ending-at-requires : tie.Need-ending-at-requires
-ending-at-requires c κs = search needs
 
 returns-2 : tie.Need-returns-2
 unfolding settled sort
@@ -30,9 +21,4 @@ returns-2 c =
 pub settled-at-spec : {M : Type 1} → statement M
 settled-at-spec =
     tie.close
-    (tie.spec
-    is-tag-requires
-    sign-at-requires
-    returns
-    ending-at-requires
-    returns-2)
+    (tie.spec (search needs) (search needs) returns (search needs) returns-2)

@@ -7,12 +7,6 @@ use Rattle.types.specs.Arguments.{sign}
 use Rattle.figures.proofs.sign_at.Statement.{statement}
 use Rattle.figures.proofs.sign_at.Tie as tie
 
-null-at-requires : tie.Need-null-at-requires
-null-at-requires c κs = search needs
-
-no-figure-requires : tie.Need-no-figure-requires
-no-figure-requires c κs = search needs
-
 returns : tie.Need-returns
 unfolding sign canonical over
 returns c =
@@ -27,8 +21,4 @@ returns-2 c =
 pub sign-at-spec : {M : Type 1} → statement M
 sign-at-spec =
     tie.close
-    (tie.spec
-    null-at-requires
-    no-figure-requires
-    returns
-    returns-2)
+    (tie.spec (search needs) (search needs) returns returns-2)

@@ -6,20 +6,11 @@ use Rattle.types.specs.Arguments.{subtotals}
 use Rattle.figures.proofs.subtotals_at.Statement.{statement}
 use Rattle.figures.proofs.subtotals_at.Tie as tie
 
-is-tag-requires : tie.Need-is-tag-requires
-is-tag-requires c κs = search needs
-
-sign-at-requires : tie.Need-sign-at-requires
-sign-at-requires c κs = search needs
-
 returns : tie.Need-returns
 unfolding subtotals sort
 returns c =
     picks _ _ _ _ _ _ _ (c .before .before .is-tag .ensures) (c .before .if1 .taken)
     (c .sign-at .ensures)
-
-during-at-requires : tie.Need-during-at-requires
-during-at-requires c κs = search needs
 
 returns-2 : tie.Need-returns-2
 unfolding subtotals sort
@@ -30,9 +21,4 @@ returns-2 c =
 pub subtotals-at-spec : {M : Type 1} → statement M
 subtotals-at-spec =
     tie.close
-    (tie.spec
-    is-tag-requires
-    sign-at-requires
-    returns
-    during-at-requires
-    returns-2)
+    (tie.spec (search needs) (search needs) returns (search needs) returns-2)

@@ -26,12 +26,6 @@ unfolding frontFine
 returns-4 c =
     simp (eq-eqb _ _ (c .before .before .before .before .before .before .before .before .pre), eq-eqb _ _ (sym (c .before .before .before .before .before .before .before .before .pre)), ne-eqb (c .before .before .before .before .before .before .before .before .args .f .frame) 1 (λ h. omega (arith, h, c .before .before .before .before .before .before .before .before .pre)), ne-eqb (c .before .before .before .before .before .before .before .before .args .f .frame) 2 (λ h. omega (arith, h, c .before .before .before .before .before .before .before .before .pre)), ne-eqb (c .before .before .before .before .before .before .before .before .args .f .frame) 4 (λ h. omega (arith, h, c .before .before .before .before .before .before .before .before .pre)), ne-eqb _ _ (c .if4 .taken), ne-eqb _ _ (λ h. c .if4 .taken (sym h)), eq-eqb _ _ (c .before .before .if3 .left), eq-eqb _ _ (sym (c .before .before .if3 .left)), eq-eqb _ _ (c .before .before .before .before .if2 .left), eq-eqb _ _ (sym (c .before .before .before .before .if2 .left)), eq-eqb _ _ (c .before .before .before .before .before .before .if1 .left), eq-eqb _ _ (sym (c .before .before .before .before .before .before .if1 .left)), eq-eqb (c .before .before .before .before .before .before .before .before .args .f .id) (c .before .before .before .before .before .before .before .before .args .f .id) refl, eq-eqb (c .before .before .before .before .before .before .before .before .args .f .operation) (c .before .before .before .before .before .before .before .before .args .f .operation) refl, eq-eqb (c .before .before .before .before .before .before .before .before .args .f .error) (c .before .before .before .before .before .before .before .before .args .f .error) refl, eq-eqb (c .before .before .before .before .before .before .before .before .args .f .problem) (c .before .before .before .before .before .before .before .before .args .f .problem) refl, eq-eqb (c .before .before .before .before .before .before .before .before .args .f .detail) (c .before .before .before .before .before .before .before .before .args .f .detail) refl, eq-eqb (c .before .before .before .before .before .before .before .before .args .f .unnamed) (c .before .before .before .before .before .before .before .before .args .f .unnamed) refl)
 
-cast-known-error : tie.Need-cast-known-error
-cast-known-error c = search needs
-
-known-error-requires : tie.Need-known-error-requires
-known-error-requires c κs = search needs
-
 returns-5 : tie.Need-returns-5
 unfolding frontFine
 returns-5 c =
@@ -40,11 +34,4 @@ returns-5 c =
 pub error-fine-spec : {M : Type 1} → statement M
 error-fine-spec =
     tie.close
-    (tie.spec
-    returns
-    returns-2
-    returns-3
-    returns-4
-    cast-known-error
-    known-error-requires
-    returns-5)
+    (tie.spec returns returns-2 returns-3 returns-4 (search needs) (search needs) returns-5)

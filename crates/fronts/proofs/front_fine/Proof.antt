@@ -5,29 +5,17 @@ use Rattle.fronts.specs.Fronts.{frontFine}
 use Rattle.fronts.proofs.front_fine.Statement.{statement}
 use Rattle.fronts.proofs.front_fine.Tie as tie
 
-invoke-fine-requires : tie.Need-invoke-fine-requires
-invoke-fine-requires c κs = search needs
-
 returns : tie.Need-returns
 returns c =
     c .invoke-fine .ensures
-
-result-fine-requires : tie.Need-result-fine-requires
-result-fine-requires c κs = search needs
 
 returns-2 : tie.Need-returns-2
 returns-2 c =
     c .result-fine .ensures
 
-error-fine-requires : tie.Need-error-fine-requires
-error-fine-requires c κs = search needs
-
 returns-3 : tie.Need-returns-3
 returns-3 c =
     c .error-fine .ensures
-
-reject-fine-requires : tie.Need-reject-fine-requires
-reject-fine-requires c κs = search needs
 
 returns-4 : tie.Need-returns-4
 returns-4 c =
@@ -41,13 +29,4 @@ returns-5 c =
 pub front-fine-spec : {M : Type 1} → statement M
 front-fine-spec =
     tie.close
-    (tie.spec
-    invoke-fine-requires
-    returns
-    result-fine-requires
-    returns-2
-    error-fine-requires
-    returns-3
-    reject-fine-requires
-    returns-4
-    returns-5)
+    (tie.spec (search needs) returns (search needs) returns-2 (search needs) returns-3 (search needs) returns-4 returns-5)

@@ -5,15 +5,9 @@ use Rattle.fronts.specs.Fronts.{frontFine}
 use Rattle.fronts.proofs.invoke_fine.Statement.{statement}
 use Rattle.fronts.proofs.invoke_fine.Tie as tie
 
-request-fine-requires : tie.Need-request-fine-requires
-request-fine-requires c κs = search needs
-
 returns : tie.Need-returns
 returns c =
     c .request-fine .ensures
-
-is-operation-requires : tie.Need-is-operation-requires
-is-operation-requires c κs = search needs
 
 returns-2 : tie.Need-returns-2
 unfolding frontFine
@@ -48,13 +42,4 @@ returns-7 c =
 pub invoke-fine-spec : {M : Type 1} → statement M
 invoke-fine-spec =
     tie.close
-    (tie.spec
-    request-fine-requires
-    returns
-    is-operation-requires
-    returns-2
-    returns-3
-    returns-4
-    returns-5
-    returns-6
-    returns-7)
+    (tie.spec (search needs) returns (search needs) returns-2 returns-3 returns-4 returns-5 returns-6 returns-7)

@@ -15,9 +15,6 @@ put-small-requires : tie.Need-put-small-requires
 put-small-requires c κs =
     (c .before .before .before .before .before .before .pre .0, omega (arith, length-append (idOctets (c .before .before .before .before .before .before .args .f)) (fullNumber 0x02 (c .before .before .before .before .before .before .args .f .error)), c .before .before .before .put-id .ensures .place, c .before .before .before .put-id .ensures .kept, c .before .before .before .before .before .before .pre .1))
 
-same-length : tie.Need-same-length
-same-length c = search needs
-
 returns : tie.Need-returns
 returns c =
     wrote-both (c .before .before .before .before .before .before .put-id .ensures) (c .before .before .put-small .ensures)
@@ -25,8 +22,4 @@ returns c =
 pub put-error-spec : {M : Type 1} → statement M
 put-error-spec =
     tie.close
-    (tie.spec
-    put-id-requires
-    put-small-requires
-    same-length
-    returns)
+    (tie.spec put-id-requires put-small-requires (search needs) returns)

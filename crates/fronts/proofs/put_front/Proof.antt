@@ -13,9 +13,6 @@ put-invoke-requires c κs =
     let q = small-1 (s .args .f) (s .pre .0) (c .before .if1 .taken) in
     (q .0, q .1, omega (arith, ap length (front-1 (s .args .f) (s .args .n) (c .before .if1 .taken)), s .pre .2))
 
-same-length : tie.Need-same-length
-same-length c = search needs
-
 returns : tie.Need-returns
 returns c =
     wrote-as (sym (front-1 _ _ (c .before .before .before .before .if1 .taken))) (c .before .before .put-invoke .ensures)
@@ -24,9 +21,6 @@ put-result-requires : tie.Need-put-result-requires
 put-result-requires c κs =
     let s = c .before .before .before .before .before .before in
     (small-2 (s .args .f) (s .pre .0) (c .before .if2 .taken), s .pre .1, omega (arith, ap length (front-2 (s .args .f) (s .args .n) (c .before .if2 .taken)), s .pre .2))
-
-same-length-2 : tie.Need-same-length-2
-same-length-2 c = search needs
 
 returns-2 : tie.Need-returns-2
 returns-2 c =
@@ -37,9 +31,6 @@ put-error-requires c κs =
     let s = c .before .before .before .before .before .before .before .before in
     (small-3 (s .args .f) (s .pre .0) (c .before .if3 .taken), omega (arith, ap length (front-3 (s .args .f) (s .args .n) (c .before .if3 .taken)), s .pre .2))
 
-same-length-3 : tie.Need-same-length-3
-same-length-3 c = search needs
-
 returns-3 : tie.Need-returns-3
 returns-3 c =
     wrote-as (sym (front-3 _ _ (c .before .before .before .before .if3 .taken))) (c .before .before .put-error .ensures)
@@ -49,9 +40,6 @@ put-reject-requires c κs =
     let s = c .before .before .before .before .before .before .before .before in
     (small-4 (s .args .f) (s .pre .0) (c .before .before .before .before .before .if1 .left) (c .before .before .before .if2 .left) (c .before .if3 .left), omega (arith, ap length (front-4 (s .args .f) (s .args .n) (c .before .before .before .before .before .if1 .left) (c .before .before .before .if2 .left) (c .before .if3 .left)), s .pre .2))
 
-same-length-4 : tie.Need-same-length-4
-same-length-4 c = search needs
-
 returns-4 : tie.Need-returns-4
 returns-4 c =
     wrote-as (sym (front-4 _ _ (c .before .before .before .before .before .before .before .before .if1 .left) (c .before .before .before .before .before .before .if2 .left) (c .before .before .before .before .if3 .left))) (c .before .before .put-reject .ensures)
@@ -59,16 +47,4 @@ returns-4 c =
 pub put-front-spec : {M : Type 1} → statement M
 put-front-spec =
     tie.close
-    (tie.spec
-    put-invoke-requires
-    same-length
-    returns
-    put-result-requires
-    same-length-2
-    returns-2
-    put-error-requires
-    same-length-3
-    returns-3
-    put-reject-requires
-    same-length-4
-    returns-4)
+    (tie.spec put-invoke-requires (search needs) returns put-result-requires (search needs) returns-2 put-error-requires (search needs) returns-3 put-reject-requires (search needs) returns-4)

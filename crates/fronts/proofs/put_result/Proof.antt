@@ -13,9 +13,6 @@ put-id-requires : tie.Need-put-id-requires
 put-id-requires c κs =
     omega (arith, length-append (idOctets (c .before .before .args .f)) (lead 0x30 (3 + c .before .before .args .n) ++ fullNumber 0x02 (c .before .before .args .f .operation)), c .before .before .pre .2)
 
-add-put-lead : tie.Need-add-put-lead
-add-put-lead c = search needs
-
 put-lead-requires : tie.Need-put-lead-requires
 put-lead-requires c κs =
     (omega (arith, c .before .before .before .before .before .before .pre .1), omega (arith, length-append (idOctets (c .before .before .before .before .before .before .args .f)) (lead 0x30 (3 + c .before .before .before .before .before .before .args .n) ++ fullNumber 0x02 (c .before .before .before .before .before .before .args .f .operation)), length-append (lead 0x30 (3 + c .before .before .before .before .before .before .args .n)) (fullNumber 0x02 (c .before .before .before .before .before .before .args .f .operation)), c .before .before .before .put-id .ensures .place, c .before .before .before .put-id .ensures .kept, c .before .before .before .before .before .before .pre .2))
@@ -24,9 +21,6 @@ put-small-requires : tie.Need-put-small-requires
 put-small-requires c κs =
     (c .before .before .before .before .before .before .before .before .before .before .pre .0, omega (arith, length-append (idOctets (c .before .before .before .before .before .before .before .before .before .before .args .f)) (lead 0x30 (3 + c .before .before .before .before .before .before .before .before .before .before .args .n) ++ fullNumber 0x02 (c .before .before .before .before .before .before .before .before .before .before .args .f .operation)), length-append (lead 0x30 (3 + c .before .before .before .before .before .before .before .before .before .before .args .n)) (fullNumber 0x02 (c .before .before .before .before .before .before .before .before .before .before .args .f .operation)), c .before .before .before .before .before .before .before .put-id .ensures .place, c .before .before .before .before .before .before .before .put-id .ensures .kept, c .before .before .before .put-lead .ensures .place, c .before .before .before .put-lead .ensures .kept, c .before .before .before .before .before .before .before .before .before .before .pre .2))
 
-same-length : tie.Need-same-length
-same-length c = search needs
-
 returns : tie.Need-returns
 returns c =
     wrote-both (c .before .before .before .before .before .before .before .before .before .before .put-id .ensures) (wrote-both (c .before .before .before .before .before .before .put-lead .ensures) (c .before .before .put-small .ensures))
@@ -34,10 +28,4 @@ returns c =
 pub put-result-spec : {M : Type 1} → statement M
 put-result-spec =
     tie.close
-    (tie.spec
-    put-id-requires
-    add-put-lead
-    put-lead-requires
-    put-small-requires
-    same-length
-    returns)
+    (tie.spec put-id-requires (search needs) put-lead-requires put-small-requires (search needs) returns)

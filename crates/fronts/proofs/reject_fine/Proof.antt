@@ -6,9 +6,6 @@ use Rattle.fronts.specs.Fronts.{frontFine}
 use Rattle.fronts.proofs.reject_fine.Statement.{statement}
 use Rattle.fronts.proofs.reject_fine.Tie as tie
 
-is-called-requires : tie.Need-is-called-requires
-is-called-requires c κs = search needs
-
 returns : tie.Need-returns
 unfolding frontFine
 returns c =
@@ -24,9 +21,6 @@ unfolding frontFine
 returns-3 c =
     simp (eq-eqb _ _ (c .before .before .before .before .before .before .pre), eq-eqb _ _ (sym (c .before .before .before .before .before .before .pre)), ne-eqb (c .before .before .before .before .before .before .args .f .frame) 1 (λ h. omega (arith, h, c .before .before .before .before .before .before .pre)), ne-eqb (c .before .before .before .before .before .before .args .f .frame) 2 (λ h. omega (arith, h, c .before .before .before .before .before .before .pre)), ne-eqb (c .before .before .before .before .before .before .args .f .frame) 3 (λ h. omega (arith, h, c .before .before .before .before .before .before .pre)), ne-eqb _ _ (c .if3 .taken), ne-eqb _ _ (λ h. c .if3 .taken (sym h)), eq-eqb _ _ (c .before .before .if2 .left), eq-eqb _ _ (sym (c .before .before .if2 .left)), sym (c .before .before .before .before .before .is-called .ensures) ∙ not-false _ (c .before .before .before .before .if1 .left), eq-eqb (c .before .before .before .before .before .before .args .f .id) (c .before .before .before .before .before .before .args .f .id) refl, eq-eqb (c .before .before .before .before .before .before .args .f .operation) (c .before .before .before .before .before .before .args .f .operation) refl, eq-eqb (c .before .before .before .before .before .before .args .f .error) (c .before .before .before .before .before .before .args .f .error) refl, eq-eqb (c .before .before .before .before .before .before .args .f .problem) (c .before .before .before .before .before .before .args .f .problem) refl, eq-eqb (c .before .before .before .before .before .before .args .f .detail) (c .before .before .before .before .before .before .args .f .detail) refl, eq-eqb (c .before .before .before .before .before .before .args .f .unnamed) (c .before .before .before .before .before .before .args .f .unnamed) refl)
 
-problem-fine-requires : tie.Need-problem-fine-requires
-problem-fine-requires c κs = search needs
-
 returns-4 : tie.Need-returns-4
 unfolding frontFine
 returns-4 c =
@@ -35,10 +29,4 @@ returns-4 c =
 pub reject-fine-spec : {M : Type 1} → statement M
 reject-fine-spec =
     tie.close
-    (tie.spec
-    is-called-requires
-    returns
-    returns-2
-    returns-3
-    problem-fine-requires
-    returns-4)
+    (tie.spec (search needs) returns returns-2 returns-3 (search needs) returns-4)

@@ -6,12 +6,6 @@ use Rattle.types.specs.Frames.{caller}
 use Rattle.heads.proofs.caller_at.Statement.{statement}
 use Rattle.heads.proofs.caller_at.Tie as tie
 
-is-tag-requires : tie.Need-is-tag-requires
-is-tag-requires c κs = search needs
-
-null-at-requires : tie.Need-null-at-requires
-null-at-requires c κs = search needs
-
 returns : tie.Need-returns
 unfolding caller alt
 returns c = (
@@ -28,9 +22,6 @@ returns-2 c = (
   λ tag detail. refl,
 )
 
-identifier-at-requires : tie.Need-identifier-at-requires
-identifier-at-requires c κs = search needs
-
 returns-3 : tie.Need-returns-3
 unfolding caller alt
 returns-3 c = (
@@ -38,9 +29,6 @@ returns-3 c = (
       (stay _ _ _ _ (c .before .before .identifier-at .ensures .0) (c .if3 .taken)),
   λ tag detail. refl,
 )
-
-cast-id : tie.Need-cast-id
-cast-id c = search needs
 
 returns-4 : tie.Need-returns-4
 unfolding caller alt
@@ -53,12 +41,4 @@ returns-4 c = (
 pub caller-at-spec : {M : Type 1} → statement M
 caller-at-spec =
     tie.close
-    (tie.spec
-    is-tag-requires
-    null-at-requires
-    returns
-    returns-2
-    identifier-at-requires
-    returns-3
-    cast-id
-    returns-4)
+    (tie.spec (search needs) (search needs) returns returns-2 (search needs) returns-3 (search needs) returns-4)

@@ -9,45 +9,21 @@ use Rattle.heads.proofs.Entered.{alone, tag-below, tag-above, tag-among
 use Rattle.heads.proofs.enter.Statement.{statement}
 use Rattle.heads.proofs.enter.Tie as tie
 
-shut-out-requires : tie.Need-shut-out-requires
-shut-out-requires c κs = search needs
-
 returns : tie.Need-returns
 returns c =
     (rw (c .shut-out .ensures) (alone _ _ (any-lacks _ _ _ _ _ _ _ _ (omega (arith, c .before .if1 .taken)))), ((λ h. absurd (omega (arith, ap (λ o. o .fault) (c .shut-out .ensures), h))), rw (c .shut-out .ensures) (omega arith)))
-
-shared-slice-read-tag : tie.Need-shared-slice-read-tag
-shared-slice-read-tag c = search needs
-
-shut-out-requires-2 : tie.Need-shut-out-requires-2
-shut-out-requires-2 c κs = search needs
 
 returns-2 : tie.Need-returns-2
 returns-2 c =
     (rw (c .shut-out2 .ensures) (alone _ _ (any-strange _ _ _ _ _ _ _ _ (omega (arith, c .before .before .before .if1 .left)) (tag-below _ (c .before .if2 .taken)))), ((λ h. absurd (omega (arith, ap (λ o. o .fault) (c .shut-out2 .ensures), h))), rw (c .shut-out2 .ensures) (omega arith)))
 
-shut-out-requires-3 : tie.Need-shut-out-requires-3
-shut-out-requires-3 c κs = search needs
-
 returns-3 : tie.Need-returns-3
 returns-3 c =
     (rw (c .shut-out3 .ensures) (alone _ _ (any-strange _ _ _ _ _ _ _ _ (omega (arith, c .before .before .before .before .if1 .left)) (tag-above _ (c .before .if3 .taken)))), ((λ h. absurd (omega (arith, ap (λ o. o .fault) (c .shut-out3 .ensures), h))), rw (c .shut-out3 .ensures) (omega arith)))
 
-length-at-requires : tie.Need-length-at-requires
-length-at-requires c κs = search needs
-
-outer-requires : tie.Need-outer-requires
-outer-requires c κs = search needs
-
-shut-out-requires-4 : tie.Need-shut-out-requires-4
-shut-out-requires-4 c κs = search needs
-
 returns-4 : tie.Need-returns-4
 returns-4 c =
     (rw (c .shut-out4 .ensures, c .before .outer .ensures) (alone _ _ (any-told _ _ _ _ _ _ _ _ outsideCode outside-code _ (omega (arith, c .before .before .before .before .before .before .before .before .if1 .left)) (tag-among _ (c .before .before .before .before .before .before .if2 .left) (c .before .before .before .before .before .if3 .left)) (c .before .before .before .before .length-at .ensures .0) (c .before .before .if4 .taken))), ((λ h. omega (arith, c .before .before .before .before .before .before .before .before .if1 .left)), rw (c .shut-out4 .ensures) (omega arith)))
-
-shut-out-requires-5 : tie.Need-shut-out-requires-5
-shut-out-requires-5 c κs = search needs
 
 returns-5 : tie.Need-returns-5
 returns-5 c =
@@ -60,18 +36,4 @@ returns-6 c =
 pub enter-spec : {M : Type 1} → statement M
 enter-spec =
     tie.close
-    (tie.spec
-    shut-out-requires
-    returns
-    shared-slice-read-tag
-    shut-out-requires-2
-    returns-2
-    shut-out-requires-3
-    returns-3
-    length-at-requires
-    outer-requires
-    shut-out-requires-4
-    returns-4
-    shut-out-requires-5
-    returns-5
-    returns-6)
+    (tie.spec (search needs) returns (search needs) (search needs) returns-2 (search needs) returns-3 (search needs) (search needs) (search needs) returns-4 (search needs) returns-5 returns-6)

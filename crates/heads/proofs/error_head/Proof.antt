@@ -8,15 +8,6 @@ use Rattle.heads.proofs.Answers.{goes, refuses, ends, leaves}
 use Rattle.heads.proofs.error_head.Statement.{statement}
 use Rattle.heads.proofs.error_head.Tie as tie
 
-identifier-at-requires : tie.Need-identifier-at-requires
-identifier-at-requires c κs = search needs
-
-number-of-requires : tie.Need-number-of-requires
-number-of-requires c κs = search needs
-
-no-head-requires : tie.Need-no-head-requires
-no-head-requires c κs = search needs
-
 returns : tie.Need-returns
 unfolding restOf tailOf contentsOf returnError failed leads canonical over
 returns c = (
@@ -24,15 +15,6 @@ returns c = (
       (simp flat (refuses _ _ _ (c .before .before .before .before .identifier-at .ensures .0) (c .before .before .if1 .taken))),
   rw (c .no-head .ensures) (omega arith),
 )
-
-value-at-requires : tie.Need-value-at-requires
-value-at-requires c κs = search needs
-
-number-of-requires-2 : tie.Need-number-of-requires-2
-number-of-requires-2 c κs = search needs
-
-no-head-requires-2 : tie.Need-no-head-requires-2
-no-head-requires-2 c κs = search needs
 
 returns-2 : tie.Need-returns-2
 unfolding restOf tailOf contentsOf returnError failed leads canonical over
@@ -43,9 +25,6 @@ returns-2 c = (
   rw (c .no-head2 .ensures) (omega arith),
 )
 
-no-head-requires-3 : tie.Need-no-head-requires-3
-no-head-requires-3 c κs = search needs
-
 returns-3 : tie.Need-returns-3
 unfolding restOf tailOf contentsOf returnError failed leads canonical over
 returns-3 c = (
@@ -55,12 +34,6 @@ returns-3 c = (
       (leaves _ _ _ _ (c .before .if3 .taken))))),
   rw (c .no-head3 .ensures) (omega arith),
 )
-
-cast-id : tie.Need-cast-id
-cast-id c = search needs
-
-cast-error : tie.Need-cast-error
-cast-error c = search needs
 
 returns-4 : tie.Need-returns-4
 unfolding restOf tailOf contentsOf returnError failed leads canonical over
@@ -74,17 +47,4 @@ returns-4 c = (
 pub error-head-spec : {M : Type 1} → statement M
 error-head-spec =
     tie.close
-    (tie.spec
-    identifier-at-requires
-    number-of-requires
-    no-head-requires
-    returns
-    value-at-requires
-    number-of-requires-2
-    no-head-requires-2
-    returns-2
-    no-head-requires-3
-    returns-3
-    cast-id
-    cast-error
-    returns-4)
+    (tie.spec (search needs) (search needs) (search needs) returns (search needs) (search needs) (search needs) returns-2 (search needs) returns-3 (search needs) (search needs) returns-4)

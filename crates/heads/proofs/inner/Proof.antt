@@ -7,9 +7,6 @@ returns : tie.Need-returns
 returns c =
     simp (eq-eqb _ _ (c .if1 .taken))
 
-add-result : tie.Need-add-result
-add-result c = search needs
-
 returns-2 : tie.Need-returns-2
 returns-2 c =
     simp (ne-eqb _ _ (c .before .if1 .left), lt-ltb _ _ (c .if2 .taken))
@@ -21,8 +18,4 @@ returns-3 c =
 pub inner-spec : {M : Type 1} → statement M
 inner-spec =
     tie.close
-    (tie.spec
-    returns
-    add-result
-    returns-2
-    returns-3)
+    (tie.spec returns (search needs) returns-2 returns-3)

@@ -9,15 +9,6 @@ use Rattle.heads.proofs.Answers.{goes, refuses, tail-one}
 use Rattle.heads.proofs.invoke_head.Statement.{statement}
 use Rattle.heads.proofs.invoke_head.Tie as tie
 
-identifier-at-requires : tie.Need-identifier-at-requires
-identifier-at-requires c κs = search needs
-
-number-of-requires : tie.Need-number-of-requires
-number-of-requires c κs = search needs
-
-no-head-requires : tie.Need-no-head-requires
-no-head-requires c κs = search needs
-
 returns : tie.Need-returns
 unfolding restOf contentsOf invoke leads
 returns c = (
@@ -25,15 +16,6 @@ returns c = (
       (simp flat (refuses _ _ _ (c .before .before .before .before .identifier-at .ensures .0) (c .before .before .if1 .taken))),
   rw (c .no-head .ensures) (omega arith),
 )
-
-value-at-requires : tie.Need-value-at-requires
-value-at-requires c κs = search needs
-
-number-of-requires-2 : tie.Need-number-of-requires-2
-number-of-requires-2 c κs = search needs
-
-no-head-requires-2 : tie.Need-no-head-requires-2
-no-head-requires-2 c κs = search needs
 
 returns-2 : tie.Need-returns-2
 unfolding restOf contentsOf invoke leads
@@ -43,12 +25,6 @@ returns-2 c = (
       (refuses _ _ _ (c .before .before .before .before .value-at .ensures .0) (c .before .before .if2 .taken)))),
   rw (c .no-head2 .ensures) (omega arith),
 )
-
-cast-id : tie.Need-cast-id
-cast-id c = search needs
-
-cast-operation : tie.Need-cast-operation
-cast-operation c = search needs
 
 returns-3 : tie.Need-returns-3
 unfolding restOf contentsOf invoke leads
@@ -61,15 +37,4 @@ returns-3 c = (
 pub invoke-head-spec : {M : Type 1} → statement M
 invoke-head-spec =
     tie.close
-    (tie.spec
-    identifier-at-requires
-    number-of-requires
-    no-head-requires
-    returns
-    value-at-requires
-    number-of-requires-2
-    no-head-requires-2
-    returns-2
-    cast-id
-    cast-operation
-    returns-3)
+    (tie.spec (search needs) (search needs) (search needs) returns (search needs) (search needs) (search needs) returns-2 (search needs) (search needs) returns-3)

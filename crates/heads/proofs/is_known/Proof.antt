@@ -3,20 +3,11 @@ use borrow.Author.Tests.{eq-eqb, ne-eqb}
 use Rattle.heads.proofs.is_known.Statement.{statement}
 use Rattle.heads.proofs.is_known.Tie as tie
 
-known-operation-requires : tie.Need-known-operation-requires
-known-operation-requires c κs = search needs
-
 returns : tie.Need-returns
 returns c = simp (eq-eqb _ _ (c .before .if1 .taken)) (c .known-operation .ensures)
 
-is-charging-request-requires : tie.Need-is-charging-request-requires
-is-charging-request-requires c κs = search needs
-
 returns-2 : tie.Need-returns-2
 returns-2 c = simp (ne-eqb _ _ (c .before .before .if1 .left), eq-eqb _ _ (c .before .if2 .taken)) (c .is-charging-request .ensures)
-
-known-error-requires : tie.Need-known-error-requires
-known-error-requires c κs = search needs
 
 returns-3 : tie.Need-returns-3
 returns-3 c = simp (ne-eqb _ _ (c .before .before .if1 .left), ne-eqb _ _ (c .before .if2 .left)) (c .known-error .ensures)
@@ -24,10 +15,4 @@ returns-3 c = simp (ne-eqb _ _ (c .before .before .if1 .left), ne-eqb _ _ (c .be
 pub is-known-spec : {M : Type 1} → statement M
 is-known-spec =
     tie.close
-    (tie.spec
-    known-operation-requires
-    returns
-    is-charging-request-requires
-    returns-2
-    known-error-requires
-    returns-3)
+    (tie.spec (search needs) returns (search needs) returns-2 (search needs) returns-3)

@@ -16,9 +16,6 @@ returns-3 : tie.Need-returns-3
 returns-3 c =
     simp (le-ltb _ _ (c .before .if1 .left), le-leb _ _ (c .if3 .taken))
 
-named-one-requires : tie.Need-named-one-requires
-named-one-requires c κs = search needs
-
 returns-4 : tie.Need-returns-4
 returns-4 c =
     simp (le-ltb _ _ (c .before .before .before .if1 .left), lt-leb _ _ (c .before .before .if3 .left), sym (c .before .named-one .ensures) ∙ c .if4 .taken)
@@ -30,10 +27,4 @@ returns-5 c =
 pub number-of-spec : {M : Type 1} → statement M
 number-of-spec =
     tie.close
-    (tie.spec
-    returns
-    returns-2
-    returns-3
-    named-one-requires
-    returns-4
-    returns-5)
+    (tie.spec returns returns-2 returns-3 (search needs) returns-4 returns-5)

@@ -4,16 +4,10 @@ use Rattle.heads.specs.Heads.{problemIn}
 use Rattle.heads.proofs.problem_at.Statement.{statement}
 use Rattle.heads.proofs.problem_at.Tie as tie
 
-natural-at-requires : tie.Need-natural-at-requires
-natural-at-requires c κs = search needs
-
 returns : tie.Need-returns
 unfolding problemIn
 returns c =
     stay _ _ _ _ (c .before .before .natural-at .ensures .0) (c .if1 .taken)
-
-cast-detail : tie.Need-cast-detail
-cast-detail c = search needs
 
 returns-2 : tie.Need-returns-2
 unfolding problemIn
@@ -23,8 +17,4 @@ returns-2 c =
 pub problem-at-spec : {M : Type 1} → statement M
 problem-at-spec =
     tie.close
-    (tie.spec
-    natural-at-requires
-    returns
-    cast-detail
-    returns-2)
+    (tie.spec (search needs) returns (search needs) returns-2)

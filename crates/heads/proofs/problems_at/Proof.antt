@@ -4,23 +4,11 @@ use Rattle.heads.specs.Heads.{problemsIn}
 use Rattle.heads.proofs.problems_at.Statement.{statement}
 use Rattle.heads.proofs.problems_at.Tie as tie
 
-is-tag-requires : tie.Need-is-tag-requires
-is-tag-requires c κs = search needs
-
-problem-at-requires : tie.Need-problem-at-requires
-problem-at-requires c κs = search needs
-
 returns : tie.Need-returns
 unfolding problemsIn
 returns c =
     picks _ _ _ _ _ _ _ (c .before .before .is-tag .ensures) (c .before .if1 .taken)
     (c .problem-at .ensures)
-
-is-tag-requires-2 : tie.Need-is-tag-requires-2
-is-tag-requires-2 c κs = search needs
-
-problem-at-requires-2 : tie.Need-problem-at-requires-2
-problem-at-requires-2 c κs = search needs
 
 returns-2 : tie.Need-returns-2
 unfolding problemsIn
@@ -29,12 +17,6 @@ returns-2 c =
     (picks _ _ _ _ _ _ _ (c .before .before .is-tag2 .ensures) (c .before .if2 .taken)
     (c .problem-at2 .ensures))
 
-is-tag-requires-3 : tie.Need-is-tag-requires-3
-is-tag-requires-3 c κs = search needs
-
-problem-at-requires-3 : tie.Need-problem-at-requires-3
-problem-at-requires-3 c κs = search needs
-
 returns-3 : tie.Need-returns-3
 unfolding problemsIn
 returns-3 c =
@@ -42,9 +24,6 @@ returns-3 c =
     (skips _ _ _ _ _ _ _ (c .before .before .before .before .is-tag2 .ensures) (c .before .before .before .if2 .left)
     (picks _ _ _ _ _ _ _ (c .before .before .is-tag3 .ensures) (c .before .if3 .taken)
     (c .problem-at3 .ensures)))
-
-problem-at-requires-4 : tie.Need-problem-at-requires-4
-problem-at-requires-4 c κs = search needs
 
 returns-4 : tie.Need-returns-4
 unfolding problemsIn
@@ -57,15 +36,4 @@ returns-4 c =
 pub problems-at-spec : {M : Type 1} → statement M
 problems-at-spec =
     tie.close
-    (tie.spec
-    is-tag-requires
-    problem-at-requires
-    returns
-    is-tag-requires-2
-    problem-at-requires-2
-    returns-2
-    is-tag-requires-3
-    problem-at-requires-3
-    returns-3
-    problem-at-requires-4
-    returns-4)
+    (tie.spec (search needs) (search needs) returns (search needs) (search needs) returns-2 (search needs) (search needs) returns-3 (search needs) returns-4)

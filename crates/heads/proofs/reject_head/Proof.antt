@@ -8,15 +8,6 @@ use Rattle.heads.proofs.Rejects.{reject-by}
 use Rattle.heads.proofs.reject_head.Statement.{statement}
 use Rattle.heads.proofs.reject_head.Tie as tie
 
-caller-at-requires : tie.Need-caller-at-requires
-caller-at-requires c κs = search needs
-
-number-of-requires : tie.Need-number-of-requires
-number-of-requires c κs = search needs
-
-no-head-requires : tie.Need-no-head-requires
-no-head-requires c κs = search needs
-
 returns : tie.Need-returns
 unfolding restOf
 returns c = (
@@ -24,15 +15,6 @@ returns c = (
       (refuses _ _ _ (c .before .before .before .before .caller-at .ensures .0) (c .before .before .if1 .taken)),
   rw (c .no-head .ensures) (omega arith),
 )
-
-problems-at-requires : tie.Need-problems-at-requires
-problems-at-requires c κs = search needs
-
-number-of-requires-2 : tie.Need-number-of-requires-2
-number-of-requires-2 c κs = search needs
-
-no-head-requires-2 : tie.Need-no-head-requires-2
-no-head-requires-2 c κs = search needs
 
 returns-2 : tie.Need-returns-2
 unfolding restOf
@@ -42,9 +24,6 @@ returns-2 c = (
       (refuses _ _ _ (c .before .before .before .before .problems-at .ensures) (c .before .before .if2 .taken))),
   rw (c .no-head2 .ensures) (omega arith),
 )
-
-no-head-requires-3 : tie.Need-no-head-requires-3
-no-head-requires-3 c κs = search needs
 
 returns-3 : tie.Need-returns-3
 unfolding restOf
@@ -69,15 +48,4 @@ returns-4 c = (
 pub reject-head-spec : {M : Type 1} → statement M
 reject-head-spec =
     tie.close
-    (tie.spec
-    caller-at-requires
-    number-of-requires
-    no-head-requires
-    returns
-    problems-at-requires
-    number-of-requires-2
-    no-head-requires-2
-    returns-2
-    no-head-requires-3
-    returns-3
-    returns-4)
+    (tie.spec (search needs) (search needs) (search needs) returns (search needs) (search needs) (search needs) returns-2 (search needs) returns-3 returns-4)

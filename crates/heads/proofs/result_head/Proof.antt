@@ -10,15 +10,6 @@ use Rattle.heads.proofs.Answers.{goes, refuses}
 use Rattle.heads.proofs.result_head.Statement.{statement}
 use Rattle.heads.proofs.result_head.Tie as tie
 
-identifier-at-requires : tie.Need-identifier-at-requires
-identifier-at-requires c κs = search needs
-
-number-of-requires : tie.Need-number-of-requires
-number-of-requires c κs = search needs
-
-no-head-requires : tie.Need-no-head-requires
-no-head-requires c κs = search needs
-
 returns : tie.Need-returns
 unfolding restOf tailOf contentsOf returnResult leads cons constructed
 returns c = (
@@ -26,15 +17,6 @@ returns c = (
       (simp flat (refuses _ _ _ (c .before .before .before .before .identifier-at .ensures .0) (c .before .before .if1 .taken))),
   rw (c .no-head .ensures) (omega arith),
 )
-
-open-at-requires : tie.Need-open-at-requires
-open-at-requires c κs = search needs
-
-number-of-requires-2 : tie.Need-number-of-requires-2
-number-of-requires-2 c κs = search needs
-
-no-head-requires-2 : tie.Need-no-head-requires-2
-no-head-requires-2 c κs = search needs
 
 returns-2 : tie.Need-returns-2
 unfolding restOf tailOf contentsOf returnResult leads cons constructed
@@ -45,15 +27,6 @@ returns-2 c = (
   rw (c .no-head2 .ensures) (omega arith),
 )
 
-value-long-requires : tie.Need-value-long-requires
-value-long-requires c κs = search needs
-
-number-of-requires-3 : tie.Need-number-of-requires-3
-number-of-requires-3 c κs = search needs
-
-no-head-requires-3 : tie.Need-no-head-requires-3
-no-head-requires-3 c κs = search needs
-
 returns-3 : tie.Need-returns-3
 unfolding restOf tailOf contentsOf returnResult leads cons constructed
 returns-3 c = (
@@ -63,12 +36,6 @@ returns-3 c = (
       (refuses _ _ _ (c .before .before .before .before .value-long .ensures .0) (c .before .before .if3 .taken))))),
   rw (c .no-head3 .ensures) (omega arith),
 )
-
-cast-id : tie.Need-cast-id
-cast-id c = search needs
-
-cast-operation : tie.Need-cast-operation
-cast-operation c = search needs
 
 returns-4 : tie.Need-returns-4
 unfolding restOf tailOf contentsOf returnResult leads cons constructed
@@ -82,19 +49,4 @@ returns-4 c = (
 pub result-head-spec : {M : Type 1} → statement M
 result-head-spec =
     tie.close
-    (tie.spec
-    identifier-at-requires
-    number-of-requires
-    no-head-requires
-    returns
-    open-at-requires
-    number-of-requires-2
-    no-head-requires-2
-    returns-2
-    value-long-requires
-    number-of-requires-3
-    no-head-requires-3
-    returns-3
-    cast-id
-    cast-operation
-    returns-4)
+    (tie.spec (search needs) (search needs) (search needs) returns (search needs) (search needs) (search needs) returns-2 (search needs) (search needs) (search needs) returns-3 (search needs) (search needs) returns-4)

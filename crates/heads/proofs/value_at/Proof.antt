@@ -5,15 +5,6 @@ use Rattle.heads.proofs.Short.{tiny-value}
 use Rattle.heads.proofs.value_at.Statement.{statement}
 use Rattle.heads.proofs.value_at.Tie as tie
 
-tiny-requires : tie.Need-tiny-requires
-tiny-requires c κs = search needs
-
-cast-x : tie.Need-cast-x
-cast-x c = search needs
-
-is-known-requires : tie.Need-is-known-requires
-is-known-requires c κs = search needs
-
 add-t9 : tie.Need-add-t9
 add-t9 c = omega (arith, c .before .before .before .tiny .ensures .1 .1 (omega arith) .inside)
 
@@ -24,20 +15,10 @@ returns c = (
   omega arith,
 )
 
-value-long-requires : tie.Need-value-long-requires
-value-long-requires c κs = search needs
-
 returns-2 : tie.Need-returns-2
 returns-2 c = c .value-long .ensures
 
 pub value-at-spec : {M : Type 1} → statement M
 value-at-spec =
     tie.close
-    (tie.spec
-    tiny-requires
-    cast-x
-    is-known-requires
-    add-t9
-    returns
-    value-long-requires
-    returns-2)
+    (tie.spec (search needs) (search needs) (search needs) add-t9 returns (search needs) returns-2)

@@ -7,43 +7,22 @@ use Rattle.heads.proofs.Codes.{list-form, list-long, list-negative, lis
 use Rattle.heads.proofs.value_in.Statement.{statement}
 use Rattle.heads.proofs.value_in.Tie as tie
 
-is-shortest-requires : tie.Need-is-shortest-requires
-is-shortest-requires c κs = search needs
-
 returns : tie.Need-returns
 returns c =
     (list-form _ _ _ (sym (c .before .is-shortest .ensures) ∙ not-true _ (c .if1 .taken)), omega arith)
-
-sub-if2 : tie.Need-sub-if2
-sub-if2 c = search needs
 
 returns-2 : tie.Need-returns-2
 returns-2 c =
     (list-long _ _ _ (sym (c .before .before .is-shortest .ensures) ∙ not-false _ (c .before .if1 .left)) (omega (arith, part-length (c .before .before .before .before .args .s .now) (c .before .before .before .before .args .start) (c .before .before .before .before .args .stop) (c .before .before .before .before .pre .1))), omega arith)
 
-is-negative-requires : tie.Need-is-negative-requires
-is-negative-requires c κs = search needs
-
-unknown-requires : tie.Need-unknown-requires
-unknown-requires c κs = search needs
-
 returns-3 : tie.Need-returns-3
 returns-3 c =
     (rw (c .unknown .ensures) (list-negative _ _ _ (sym (c .before .before .before .before .before .is-shortest .ensures) ∙ not-false _ (c .before .before .before .before .if1 .left)) (omega (arith, part-length (c .before .before .before .before .before .before .before .args .s .now) (c .before .before .before .before .before .before .before .args .start) (c .before .before .before .before .before .before .before .args .stop) (c .before .before .before .before .before .before .before .pre .1))) (sym (c .before .before .is-negative .ensures) ∙ c .before .if3 .taken)), omega arith)
-
-magnitude-requires : tie.Need-magnitude-requires
-magnitude-requires c κs = search needs
-
-is-known-requires : tie.Need-is-known-requires
-is-known-requires c κs = search needs
 
 returns-4 : tie.Need-returns-4
 returns-4 c =
     let h = sym (c .before .is-known .ensures) ∙ c .if4 .taken in
     (list-known _ _ _ (sym (c .before .before .before .before .before .before .before .is-shortest .ensures) ∙ not-false _ (c .before .before .before .before .before .before .if1 .left)) (omega (arith, part-length (c .before .before .before .before .before .before .before .before .before .args .s .now) (c .before .before .before .before .before .before .before .before .before .args .start) (c .before .before .before .before .before .before .before .before .before .args .stop) (c .before .before .before .before .before .before .before .before .before .pre .1))) (sym (c .before .before .before .before .is-negative .ensures) ∙ c .before .before .before .if3 .left) (known-held (c .before .before .before .before .before .before .before .before .before .args .frame) _ _ (c .before .before .magnitude .ensures) h) h, known-low (c .before .before .before .before .before .before .before .before .before .args .frame) _ h)
-
-unknown-requires-2 : tie.Need-unknown-requires-2
-unknown-requires-2 c κs = search needs
 
 returns-5 : tie.Need-returns-5
 returns-5 c =
@@ -53,16 +32,4 @@ returns-5 c =
 pub value-in-spec : {M : Type 1} → statement M
 value-in-spec =
     tie.close
-    (tie.spec
-    is-shortest-requires
-    returns
-    sub-if2
-    returns-2
-    is-negative-requires
-    unknown-requires
-    returns-3
-    magnitude-requires
-    is-known-requires
-    returns-4
-    unknown-requires-2
-    returns-5)
+    (tie.spec (search needs) returns (search needs) returns-2 (search needs) (search needs) returns-3 (search needs) (search needs) returns-4 (search needs) returns-5)

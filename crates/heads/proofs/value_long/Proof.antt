@@ -9,19 +9,10 @@ use Rattle.types.specs.Frames.{value}
 use Rattle.heads.proofs.value_long.Statement.{statement}
 use Rattle.heads.proofs.value_long.Tie as tie
 
-is-tag-requires : tie.Need-is-tag-requires
-is-tag-requires c κs = search needs
-
-unknown-requires : tie.Need-unknown-requires
-unknown-requires c κs = search needs
-
 returns : tie.Need-returns
 unfolding value barring prim listed primitive
 returns c =
     (rw (c .unknown .ensures) (picks _ _ _ _ _ _ _ (c .before .before .is-tag .ensures) (c .before .if1 .taken) (halts _ _ _)), omega arith)
-
-open-at-requires : tie.Need-open-at-requires
-open-at-requires c κs = search needs
 
 returns-2 : tie.Need-returns-2
 unfolding value barring prim listed primitive
@@ -30,9 +21,6 @@ returns-2 c = (
       (stay _ _ _ _ (c .before .before .open-at .ensures .0) (c .if2 .taken)),
   omega arith,
 )
-
-value-in-requires : tie.Need-value-in-requires
-value-in-requires c κs = search needs
 
 returns-3 : tie.Need-returns-3
 unfolding value barring prim listed primitive
@@ -55,12 +43,4 @@ returns-4 c = (
 pub value-long-spec : {M : Type 1} → statement M
 value-long-spec =
     tie.close
-    (tie.spec
-    is-tag-requires
-    unknown-requires
-    returns
-    open-at-requires
-    returns-2
-    value-in-requires
-    returns-3
-    returns-4)
+    (tie.spec (search needs) (search needs) returns (search needs) returns-2 (search needs) returns-3 returns-4)

@@ -7,9 +7,6 @@ use Rattle.put_figures.proofs.Truth.{tests}
 use Rattle.put_figures.proofs.arranged_marks.Statement.{statement}
 use Rattle.put_figures.proofs.arranged_marks.Tie as tie
 
-arranges-requires : tie.Need-arranges-requires
-arranges-requires c κs = search needs
-
 returns : tie.Need-returns
 returns c =
     let b : (eqb (c .before .before .args .operation) 30 || eqb (c .before .before .args .operation) 32) ≡ false = sym (c .before .arranges .ensures) ∙ not-true _ (c .if1 .taken) in
@@ -48,12 +45,4 @@ returns-7 c =
 pub arranged-marks-spec : {M : Type 1} → statement M
 arranged-marks-spec =
     tie.close
-    (tie.spec
-    arranges-requires
-    returns
-    returns-2
-    returns-3
-    returns-4
-    returns-5
-    returns-6
-    returns-7)
+    (tie.spec (search needs) returns returns-2 returns-3 returns-4 returns-5 returns-6 returns-7)

@@ -16,14 +16,8 @@ identified-fine-requires c κs = c .before .before .before .before .pre
 returns-2 : tie.Need-returns-2
 returns-2 c = c .identified-fine .ensures ∙ sym (association-1 (c .before .before .before .before .before .args .a) (c .before .if2 .taken))
 
-public-fine-requires : tie.Need-public-fine-requires
-public-fine-requires c κs = search needs
-
 returns-3 : tie.Need-returns-3
 returns-3 c = c .public-fine .ensures ∙ sym (association-3 (c .before .before .before .before .before .before .before .args .a) (c .before .if3 .taken))
-
-plain-fine-requires : tie.Need-plain-fine-requires
-plain-fine-requires c κs = search needs
 
 returns-4 : tie.Need-returns-4
 returns-4 c = c .plain-fine .ensures ∙ sym (association-2 (c .before .before .before .before .before .before .before .args .a) (c .before .before .before .before .before .if1 .left) (c .before .before .before .if2 .left) (c .before .if3 .left))
@@ -31,12 +25,4 @@ returns-4 c = c .plain-fine .ensures ∙ sym (association-2 (c .before .before .
 pub association-fine-spec : {M : Type 1} → statement M
 association-fine-spec =
     tie.close
-    (tie.spec
-    no-association-requires
-    returns
-    identified-fine-requires
-    returns-2
-    public-fine-requires
-    returns-3
-    plain-fine-requires
-    returns-4)
+    (tie.spec no-association-requires returns identified-fine-requires returns-2 (search needs) returns-3 (search needs) returns-4)

@@ -10,22 +10,10 @@ returns c =
     let a = c .before .before .args .a in
     omega (arith, association-none-length a (c .if1 .taken))
 
-id-width-requires : tie.Need-id-width-requires
-id-width-requires c κs = search needs
-
-add-result : tie.Need-add-result
-add-result c = search needs
-
 returns-2 : tie.Need-returns-2
 returns-2 c =
     let a = c .before .before .before .before .before .args .a in
     omega (arith, association-id-length a (c .before .if2 .taken), c .id-width .ensures)
-
-cast-n : tie.Need-cast-n
-cast-n c = search needs
-
-add-result-2 : tie.Need-add-result-2
-add-result-2 c = search needs
 
 returns-3 : tie.Need-returns-3
 returns-3 c =
@@ -33,9 +21,6 @@ returns-3 c =
     let a = s .args .a in
     let r = public-room a (s .pre) (c .if3 .taken) in
     omega (arith, r, association-public-length a (r .1 .0) (r .1 .1) (r .0) (c .if3 .taken))
-
-add-result-3 : tie.Need-add-result-3
-add-result-3 c = search needs
 
 returns-4 : tie.Need-returns-4
 returns-4 c =
@@ -49,13 +34,4 @@ returns-4 c =
 pub association-size-spec : {M : Type 1} → statement M
 association-size-spec =
     tie.close
-    (tie.spec
-    returns
-    id-width-requires
-    add-result
-    returns-2
-    cast-n
-    add-result-2
-    returns-3
-    add-result-3
-    returns-4)
+    (tie.spec returns (search needs) (search needs) returns-2 (search needs) (search needs) returns-3 (search needs) returns-4)

@@ -16,22 +16,10 @@ returns c = search (tests, digits-is)
 returns-2 : tie.Need-returns-2
 returns-2 c = search (tests, digits-is)
 
-slice-aggregate-below : tie.Need-slice-aggregate-below
-slice-aggregate-below c = search needs
-
-below-requires : tie.Need-below-requires
-below-requires c κs = search needs
-
 returns-3 : tie.Need-returns-3
 returns-3 c =
     let b : every (λ x. ltb x 1) (part (c .before .before .before .before .before .args .t1) (c .before .before .before .before .before .args .count) 20) ≡ false = sym (c .before .below .ensures) ∙ not-true _ (c .if3 .taken) in
     search (tests, digits-is, b)
-
-slice-aggregate-all-digits : tie.Need-slice-aggregate-all-digits
-slice-aggregate-all-digits c = search needs
-
-all-digits-requires : tie.Need-all-digits-requires
-all-digits-requires c κs = search needs
 
 returns-4 : tie.Need-returns-4
 returns-4 c =
@@ -41,12 +29,4 @@ returns-4 c =
 pub digits-fine-spec : {M : Type 1} → statement M
 digits-fine-spec =
     tie.close
-    (tie.spec
-    returns
-    returns-2
-    slice-aggregate-below
-    below-requires
-    returns-3
-    slice-aggregate-all-digits
-    all-digits-requires
-    returns-4)
+    (tie.spec returns returns-2 (search needs) (search needs) returns-3 (search needs) (search needs) returns-4)

@@ -15,12 +15,6 @@ association-size-requires c κs =
     let s = c .before .before in
     fine-association (s .args .operation) (s .args .f) (s .pre)
 
-add-sized : tie.Need-add-sized
-add-sized c = search needs
-
-sized-requires : tie.Need-sized-requires
-sized-requires c κs = search needs
-
 returns-2 : tie.Need-returns-2
 returns-2 c =
     let s = c .before .before .before .before in
@@ -29,4 +23,4 @@ returns-2 c =
 
 pub free-size-spec : {M : Type 1} → statement M
 free-size-spec =
-    tie.close (tie.spec returns association-size-requires add-sized sized-requires returns-2)
+    tie.close (tie.spec returns association-size-requires (search needs) (search needs) returns-2)

@@ -4,12 +4,6 @@ use Rattle.put_figures.proofs.Frames.{marks-during-length, marks-ending
 use Rattle.put_figures.proofs.marks_size.Statement.{statement}
 use Rattle.put_figures.proofs.marks_size.Tie as tie
 
-billing-size-requires : tie.Need-billing-size-requires
-billing-size-requires c κs = search needs
-
-add-result : tie.Need-add-result
-add-result c = search needs
-
 returns : tie.Need-returns
 returns c =
     let s = c .before .before in
@@ -23,4 +17,4 @@ returns-2 c =
     omega (arith, marks-ending-length (s .args .operation) f (c .if1 .left), c .before .billing-size .ensures .0 0x82 (f .billing) (s .pre .1))
 
 pub marks-size-spec : {M : Type 1} → statement M
-marks-size-spec = tie.close (tie.spec billing-size-requires add-result returns returns-2)
+marks-size-spec = tie.close (tie.spec (search needs) (search needs) returns returns-2)

@@ -4,9 +4,6 @@ use Rattle.put_figures.specs.Fine.{moneyFine}
 use Rattle.put_figures.proofs.money_by_kind.Statement.{statement}
 use Rattle.put_figures.proofs.money_by_kind.Tie as tie
 
-money-fine-requires : tie.Need-money-fine-requires
-money-fine-requires c κs = search needs
-
 returns : tie.Need-returns
 unfolding moneyFine
 returns c = simp (eq-eqb _ _ (c .before .if1 .taken)) (c .money-fine .ensures)
@@ -19,4 +16,4 @@ unfolding moneyFine
 returns-2 c = simp (ne-eqb _ _ (c .before .if1 .left)) (c .no-money .ensures)
 
 pub money-by-kind-spec : {M : Type 1} → statement M
-money-by-kind-spec = tie.close (tie.spec money-fine-requires returns no-money-requires returns-2)
+money-by-kind-spec = tie.close (tie.spec (search needs) returns no-money-requires returns-2)

@@ -6,18 +6,12 @@ use Rattle.put_figures.proofs.Truth.{as-test}
 use Rattle.put_figures.proofs.money_fine.Statement.{statement}
 use Rattle.put_figures.proofs.money_fine.Tie as tie
 
-scaled-fine-requires : tie.Need-scaled-fine-requires
-scaled-fine-requires c κs = search needs
-
 returns : tie.Need-returns
 returns c = as-test (money-is (c .before .before .before .args .m)) (rw (sym (c .before .scaled-fine .ensures 0xa2) ∙ not-true _ (c .if1 .taken)))
-
-currency-fine-requires : tie.Need-currency-fine-requires
-currency-fine-requires c κs = search needs
 
 returns-2 : tie.Need-returns-2
 returns-2 c = as-test (money-is (c .before .before .before .before .args .m)) (rw (sym (c .before .before .scaled-fine .ensures 0xa2) ∙ not-false _ (c .before .if1 .left)) (c .currency-fine .ensures))
 
 pub money-fine-spec : {M : Type 1} → statement M
 money-fine-spec =
-    tie.close (tie.spec scaled-fine-requires returns currency-fine-requires returns-2)
+    tie.close (tie.spec (search needs) returns (search needs) returns-2)

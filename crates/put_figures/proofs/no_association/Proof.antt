@@ -20,9 +20,6 @@ returns-3 c = search tests
 returns-4 : tie.Need-returns-4
 returns-4 c = search tests
 
-zeros-requires : tie.Need-zeros-requires
-zeros-requires c κs = search needs
-
 returns-5 : tie.Need-returns-5
 returns-5 c =
     let s = c .before .before .before .before .before .before .before .before .before .before in
@@ -30,4 +27,4 @@ returns-5 c =
     search tests
 
 pub no-association-spec : {M : Type 1} → statement M
-no-association-spec = tie.close (tie.spec returns returns-2 returns-3 returns-4 zeros-requires returns-5)
+no-association-spec = tie.close (tie.spec returns returns-2 returns-3 returns-4 (search needs) returns-5)

@@ -9,17 +9,11 @@ use Rattle.put_figures.proofs.Tests.{zeros-array}
 use Rattle.put_figures.proofs.no_entries.Statement.{statement}
 use Rattle.put_figures.proofs.no_entries.Tie as tie
 
-zero-numbers-requires : tie.Need-zero-numbers-requires
-zero-numbers-requires c κs = search needs
-
 returns : tie.Need-returns
 returns c =
     let a = c .before .before .before .args in
     let z = zeros-array (a .numbers .now) 32 (c .before .zero-numbers .result) (c .before .zero-numbers .ensures) (search needs) in
     sym (ap (λ (t : Bool). t && sameList eqb (replicate 192 0) (a .octets .now)) (sym z ∙ not-true _ (c .if1 .taken)))
-
-zeros-requires : tie.Need-zeros-requires
-zeros-requires c κs = search needs
 
 returns-2 : tie.Need-returns-2
 returns-2 c =
@@ -30,4 +24,4 @@ returns-2 c =
     o ∙ sym (ap (λ (t : Bool). t && sameList eqb (replicate 192 0) (a .octets .now)) (sym z ∙ not-false _ (c .before .before .if1 .left)))
 
 pub no-entries-spec : {M : Type 1} → statement M
-no-entries-spec = tie.close (tie.spec zero-numbers-requires returns zeros-requires returns-2)
+no-entries-spec = tie.close (tie.spec (search needs) returns (search needs) returns-2)

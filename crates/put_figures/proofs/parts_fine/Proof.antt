@@ -5,9 +5,6 @@ use Rattle.put_figures.specs.Fine.{figureFine}
 use Rattle.put_figures.proofs.parts_fine.Statement.{statement}
 use Rattle.put_figures.proofs.parts_fine.Tie as tie
 
-marks-fine-requires : tie.Need-marks-fine-requires
-marks-fine-requires c κs = search needs
-
 returns : tie.Need-returns
 unfolding figureFine
 returns c = rw (sym (c .before .marks-fine .ensures) ∙ not-true _ (c .if1 .taken))
@@ -29,10 +26,4 @@ returns-3 c = rw (sym (c .before .before .before .before .marks-fine .ensures) �
 pub parts-fine-spec : {M : Type 1} → statement M
 parts-fine-spec =
     tie.close
-    (tie.spec
-    marks-fine-requires
-    returns
-    money-by-kind-requires
-    returns-2
-    association-by-kind-requires
-    returns-3)
+    (tie.spec (search needs) returns money-by-kind-requires returns-2 association-by-kind-requires returns-3)

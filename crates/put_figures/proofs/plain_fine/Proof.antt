@@ -13,11 +13,8 @@ returns-2 c = search (tests, plain-is)
 returns-3 : tie.Need-returns-3
 returns-3 c = search (tests, plain-is)
 
-digits-fine-requires : tie.Need-digits-fine-requires
-digits-fine-requires c κs = search needs
-
 returns-4 : tie.Need-returns-4
 returns-4 c = search (tests, plain-is)
 
 pub plain-fine-spec : {M : Type 1} → statement M
-plain-fine-spec = tie.close (tie.spec returns returns-2 returns-3 digits-fine-requires returns-4)
+plain-fine-spec = tie.close (tie.spec returns returns-2 returns-3 (search needs) returns-4)

@@ -9,9 +9,6 @@ returns c = search tests
 returns-2 : tie.Need-returns-2
 returns-2 c = search tests
 
-billing-fine-requires : tie.Need-billing-fine-requires
-billing-fine-requires c κs = search needs
-
 returns-3 : tie.Need-returns-3
 returns-3 c = search tests
 
@@ -24,22 +21,10 @@ returns-5 c = search tests
 returns-6 : tie.Need-returns-6
 returns-6 c = search tests
 
-billing-fine-requires-2 : tie.Need-billing-fine-requires-2
-billing-fine-requires-2 c κs = search needs
-
 returns-7 : tie.Need-returns-7
 returns-7 c = search tests
 
 pub priced-marks-spec : {M : Type 1} → statement M
 priced-marks-spec =
     tie.close
-    (tie.spec
-    returns
-    returns-2
-    billing-fine-requires
-    returns-3
-    returns-4
-    returns-5
-    returns-6
-    billing-fine-requires-2
-    returns-7)
+    (tie.spec returns returns-2 (search needs) returns-3 returns-4 returns-5 returns-6 (search needs) returns-7)

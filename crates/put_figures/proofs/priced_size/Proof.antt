@@ -6,20 +6,11 @@ use Rattle.put_figures.proofs.Frames.{fine-small, fine-association, pri
 use Rattle.put_figures.proofs.priced_size.Statement.{statement}
 use Rattle.put_figures.proofs.priced_size.Tie as tie
 
-sized-requires : tie.Need-sized-requires
-sized-requires c κs = search needs
-
 marks-size-requires : tie.Need-marks-size-requires
 marks-size-requires c κs =
     let s = c .before .before in
     let q = fine-small (s .args .operation) (s .args .f) (s .pre .0) in
     omega arith
-
-add-sized : tie.Need-add-sized
-add-sized c = search needs
-
-sized-requires-2 : tie.Need-sized-requires-2
-sized-requires-2 c κs = search needs
 
 returns : tie.Need-returns
 returns c =
@@ -35,12 +26,6 @@ association-size-requires c κs =
     let s = c .before .before .before .before .before in
     fine-association (s .args .operation) (s .args .f) (s .pre .0)
 
-add-sized-2 : tie.Need-add-sized-2
-add-sized-2 c = search needs
-
-sized-requires-3 : tie.Need-sized-requires-3
-sized-requires-3 c κs = search needs
-
 returns-2 : tie.Need-returns-2
 returns-2 c =
     let s = c .before .before .before .before .before .before .before in
@@ -54,13 +39,4 @@ returns-2 c =
 pub priced-size-spec : {M : Type 1} → statement M
 priced-size-spec =
     tie.close
-    (tie.spec
-    sized-requires
-    marks-size-requires
-    add-sized
-    sized-requires-2
-    returns
-    association-size-requires
-    add-sized-2
-    sized-requires-3
-    returns-2)
+    (tie.spec (search needs) marks-size-requires (search needs) (search needs) returns association-size-requires (search needs) (search needs) returns-2)

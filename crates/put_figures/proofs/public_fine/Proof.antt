@@ -16,12 +16,9 @@ returns-3 c = search (tests, public-is)
 returns-4 : tie.Need-returns-4
 returns-4 c = search (tests, public-is)
 
-digits-fine-requires : tie.Need-digits-fine-requires
-digits-fine-requires c κs = search needs
-
 returns-5 : tie.Need-returns-5
 returns-5 c = search (tests, public-is)
 
 pub public-fine-spec : {M : Type 1} → statement M
 public-fine-spec =
-    tie.close (tie.spec returns returns-2 returns-3 returns-4 digits-fine-requires returns-5)
+    tie.close (tie.spec returns returns-2 returns-3 returns-4 (search needs) returns-5)

@@ -15,9 +15,6 @@ put-marks-requires c κs =
     let z = fine-small o f (s .pre .0) in
     omega (arith, ap length (after-during o f (omega arith)), s .pre .1)
 
-same-length : tie.Need-same-length
-same-length c = search needs
-
 returns : tie.Need-returns
 returns c =
     let s = c .before .before .before .before .before .before .before in
@@ -38,9 +35,6 @@ put-association-requires c κs =
     let f = s .args .f in
     (fine-association o f (s .pre .0), omega (arith, after-ending-length o f (omega arith), s .pre .1, c .before .before .before .put-marks2 .ensures))
 
-same-length-2 : tie.Need-same-length-2
-same-length-2 c = search needs
-
 returns-2 : tie.Need-returns-2
 returns-2 c =
     let s = c .before .before .before .before .before .before .before .before .before .before .before in
@@ -49,11 +43,4 @@ returns-2 c =
 pub put-after-spec : {M : Type 1} → statement M
 put-after-spec =
     tie.close
-    (tie.spec
-    put-marks-requires
-    same-length
-    returns
-    put-marks-requires-2
-    put-association-requires
-    same-length-2
-    returns-2)
+    (tie.spec put-marks-requires (search needs) returns put-marks-requires-2 put-association-requires (search needs) returns-2)

@@ -11,17 +11,11 @@ use Rattle.put_figures.proofs.Frames.{fine-small, fine-association, aft
 use Rattle.put_figures.proofs.put_before.Statement.{statement}
 use Rattle.put_figures.proofs.put_before.Tie as tie
 
-sized-requires : tie.Need-sized-requires
-sized-requires c κs = search needs
-
 marks-size-requires : tie.Need-marks-size-requires
 marks-size-requires c κs =
     let s = c .before .before .before in
     let z = fine-small (s .args .operation) (s .args .f) (s .pre .0 .0) in
     omega arith
-
-add-inner : tie.Need-add-inner
-add-inner c = search needs
 
 put-leads-requires : tie.Need-put-leads-requires
 put-leads-requires c κs =
@@ -40,9 +34,6 @@ put-leads-requires c κs =
       s .pre,
     )
 
-same-length : tie.Need-same-length
-same-length c = search needs
-
 returns : tie.Need-returns
 returns c =
     let s = c .before .before .before .before .before .before .before .before .before in
@@ -53,16 +44,10 @@ returns c =
     let g : k ≡ length (lead 0xa1 n) + n + length (marks o f) = omega (arith, c .before .before .before .before .before .before .sized .ensures .0 0xa1, c .before .before .before .before .before .marks-size .ensures) in
     wrote-as (sym (before-during o f n k g (omega arith))) (c .before .before .put-leads .ensures)
 
-sized-requires-2 : tie.Need-sized-requires-2
-sized-requires-2 c κs = search needs
-
 association-size-requires : tie.Need-association-size-requires
 association-size-requires c κs =
     let s = c .before .before .before .before .before .before .before in
     fine-association (s .args .operation) (s .args .f) (s .pre .0 .0)
-
-add-put-lead : tie.Need-add-put-lead
-add-put-lead c = search needs
 
 put-lead-requires : tie.Need-put-lead-requires
 put-lead-requires c κs =
@@ -99,9 +84,6 @@ put-leads-requires-2 c κs =
       c .before .before .before .put-lead .ensures,
     )
 
-same-length-2 : tie.Need-same-length-2
-same-length-2 c = search needs
-
 returns-2 : tie.Need-returns-2
 returns-2 c =
     let s = c .before .before .before .before .before .before .before .before .before .before .before .before .before .before .before in
@@ -118,17 +100,4 @@ returns-2 c =
 pub put-before-spec : {M : Type 1} → statement M
 put-before-spec =
     tie.close
-    (tie.spec
-    sized-requires
-    marks-size-requires
-    add-inner
-    put-leads-requires
-    same-length
-    returns
-    sized-requires-2
-    association-size-requires
-    add-put-lead
-    put-lead-requires
-    put-leads-requires-2
-    same-length-2
-    returns-2)
+    (tie.spec (search needs) marks-size-requires (search needs) put-leads-requires (search needs) returns (search needs) association-size-requires (search needs) put-lead-requires put-leads-requires-2 (search needs) returns-2)

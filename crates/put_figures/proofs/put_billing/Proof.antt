@@ -13,9 +13,6 @@ put-small-requires c κs =
     let e : a .billed ≡ 1 = omega arith in
     omega (arith, ap length (billing-some (a .tag) (a .billed) (a .billing) e))
 
-same-length : tie.Need-same-length
-same-length c = search needs
-
 returns : tie.Need-returns
 returns c =
     let a = c .before .before .before .before .before .before .args in
@@ -28,4 +25,4 @@ returns-2 c =
     wrote-as (sym (billing-none (a .tag) (a .billed) (a .billing) (λ z. omega arith))) (wrote-next (omega arith) (wrote-none (a .buf .now) (a .at)))
 
 pub put-billing-spec : {M : Type 1} → statement M
-put-billing-spec = tie.close (tie.spec put-small-requires same-length returns returns-2)
+put-billing-spec = tie.close (tie.spec put-small-requires (search needs) returns returns-2)

@@ -20,9 +20,6 @@ put-null-requires c κs =
     let p = s .pre in
     omega (arith, ap length (figure-none o f (p .0) (p .1 .0) (p .1 .1 .0) (omega arith)), p .1 .1 .1)
 
-same-length : tie.Need-same-length
-same-length c = search needs
-
 returns : tie.Need-returns
 returns c =
     let s = c .before .before .before .before .before .before .before .before in
@@ -40,9 +37,6 @@ put-small-requires c κs =
     let z = fine-small o f (figure-fine o f (p .0) (p .1 .0) (p .1 .1 .0)) in
     omega (arith, z .arrangement, ap length (figure-arranged o f (p .0) (p .1 .0) (p .1 .1 .0) (omega arith)), p .1 .1 .1)
 
-same-length-2 : tie.Need-same-length-2
-same-length-2 c = search needs
-
 returns-2 : tie.Need-returns-2
 returns-2 c =
     let s = c .before .before .before .before .before .before .before .before .before .before in
@@ -58,9 +52,6 @@ put-free-requires c κs =
     let f = s .args .f in
     let p = s .pre in
     (figure-fine o f (p .0) (p .1 .0) (p .1 .1 .0), omega (arith, ap length (figure-free o f (p .0) (p .1 .0) (p .1 .1 .0) (omega arith)), p .1 .1 .1))
-
-same-length-3 : tie.Need-same-length-3
-same-length-3 c = search needs
 
 returns-3 : tie.Need-returns-3
 returns-3 c =
@@ -117,9 +108,6 @@ put-after-requires c κs =
     parts-length o f n (money .write (f .money)) e (figure-parts o f (p .0) (p .1 .0) (p .1 .1 .0) (c .before .before .before .before .before .before .before .before .before .before .before .before .before .before .if1 .left) (c .before .before .before .before .before .before .before .before .before .before .if3 .left) (c .before .before .before .before .before .before .before .before .before .before .before .before .if2 .left)) in
     (figure-fine o f (p .0) (p .1 .0) (p .1 .1 .0), omega (arith, q, e, p .1 .1 .1, c .before .before .before .before .before .before .before .put-before .ensures, c .before .before .before .put-money .ensures))
 
-same-length-4 : tie.Need-same-length-4
-same-length-4 c = search needs
-
 returns-4 : tie.Need-returns-4
 returns-4 c =
     let s = c .before .before .before .before .before .before .before .before .before .before .before .before .before .before .before .before .before .before .before .before .before in
@@ -131,19 +119,4 @@ returns-4 c =
 pub put-figure-spec : {M : Type 1} → statement M
 put-figure-spec =
     tie.close
-    (tie.spec
-    put-null-requires
-    same-length
-    returns
-    put-small-requires
-    same-length-2
-    returns-2
-    put-free-requires
-    same-length-3
-    returns-3
-    money-size-requires
-    put-before-requires
-    put-money-requires
-    put-after-requires
-    same-length-4
-    returns-4)
+    (tie.spec put-null-requires (search needs) returns put-small-requires (search needs) returns-2 put-free-requires (search needs) returns-3 money-size-requires put-before-requires put-money-requires put-after-requires (search needs) returns-4)

@@ -16,9 +16,6 @@ put-null-requires c κs =
     let s = c .before .before .before .before in
     omega (arith, ap length (ended-during (s .args .operation) (s .args .f) (lead 0x81 0) (omega arith)), s .pre .1)
 
-same-length : tie.Need-same-length
-same-length c = search needs
-
 returns : tie.Need-returns
 returns c =
     let s = c .before .before .before .before .before .before .before in
@@ -28,9 +25,6 @@ association-size-requires : tie.Need-association-size-requires
 association-size-requires c κs =
     let s = c .before .before .before .before in
     fine-association (s .args .operation) (s .args .f) (s .pre .0)
-
-add-put-lead : tie.Need-add-put-lead
-add-put-lead c = search needs
 
 put-lead-requires : tie.Need-put-lead-requires
 put-lead-requires c κs =
@@ -65,9 +59,6 @@ put-association-requires c κs =
     let l = free-ending-length o f k h q in
     (fine-association o f (s .pre .0), omega (arith, l, q, s .pre .1, null-length 0x81, c .before .before .before .before .before .before .before .put-lead .ensures, c .before .before .before .put-null2 .ensures))
 
-same-length-2 : tie.Need-same-length-2
-same-length-2 c = search needs
-
 returns-2 : tie.Need-returns-2
 returns-2 c =
     let s = c .before .before .before .before .before .before .before .before .before .before .before .before .before .before .before .before in
@@ -78,14 +69,4 @@ returns-2 c =
 pub put-free-spec : {M : Type 1} → statement M
 put-free-spec =
     tie.close
-    (tie.spec
-    put-null-requires
-    same-length
-    returns
-    association-size-requires
-    add-put-lead
-    put-lead-requires
-    put-null-requires-2
-    put-association-requires
-    same-length-2
-    returns-2)
+    (tie.spec put-null-requires (search needs) returns association-size-requires (search needs) put-lead-requires put-null-requires-2 put-association-requires (search needs) returns-2)

@@ -13,9 +13,6 @@ put-billing-requires c κs =
     let a = c .before .before .before .args in
     omega (arith, marks-ending-length (a .operation) (a .f) (omega arith))
 
-same-length : tie.Need-same-length
-same-length c = search needs
-
 returns : tie.Need-returns
 returns c =
     let a = c .before .before .before .before .before .before .args in
@@ -33,9 +30,6 @@ put-billing-requires-2 c κs =
     let t : a .f .total ≤ 1 = omega arith in
     omega (arith, marks-during-length (a .operation) (a .f) (omega arith) t, small-length 0x82 (a .f .total) (omega arith), (c .before .before .before .put-small) .ensures)
 
-same-length-2 : tie.Need-same-length-2
-same-length-2 c = search needs
-
 returns-2 : tie.Need-returns-2
 returns-2 c =
     let a = c .before .before .before .before .before .before .before .before .before .before .args in
@@ -44,11 +38,4 @@ returns-2 c =
 pub put-marks-spec : {M : Type 1} → statement M
 put-marks-spec =
     tie.close
-    (tie.spec
-    put-billing-requires
-    same-length
-    returns
-    put-small-requires
-    put-billing-requires-2
-    same-length-2
-    returns-2)
+    (tie.spec put-billing-requires (search needs) returns put-small-requires put-billing-requires-2 (search needs) returns-2)

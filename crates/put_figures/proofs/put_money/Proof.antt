@@ -8,12 +8,6 @@ use Rattle.put_figures.proofs.Sizes.{money-room, money-length, scaled-l
 use Rattle.put_figures.proofs.put_money.Statement.{statement}
 use Rattle.put_figures.proofs.put_money.Tie as tie
 
-cast-n : tie.Need-cast-n
-cast-n c = search needs
-
-slice-aggregate-put-string : tie.Need-slice-aggregate-put-string
-slice-aggregate-put-string c = search needs
-
 put-string-requires : tie.Need-put-string-requires
 put-string-requires c κs =
     let s = c .before .before .before .before .before .before in
@@ -41,9 +35,6 @@ put-scaled-requires c κs =
       c .before .before .before .put-string .ensures,
     )
 
-same-length : tie.Need-same-length
-same-length c = search needs
-
 returns : tie.Need-returns
 returns c =
     let s = c .before .before .before .before .before .before .before .before .before .before .before .before .before in
@@ -51,13 +42,10 @@ returns c =
     let r = money-room m (s .pre .0) in
     wrote-as (sym (money-write m)) (wrote-both (wrote-as (sym (currency-write 0x81 (m .currency) (omega (arith, r)))) (c .before .before .before .before .before .before .put-string .ensures)) (c .before .before .put-scaled .ensures))
 
+slice-aggregate-put-string : tie.Need-slice-aggregate-put-string
+slice-aggregate-put-string c = search needs
+
 pub put-money-spec : {M : Type 1} → statement M
 put-money-spec =
     tie.close
-    (tie.spec
-    cast-n
-    slice-aggregate-put-string
-    put-string-requires
-    put-scaled-requires
-    same-length
-    returns)
+    (tie.spec (search needs) slice-aggregate-put-string put-string-requires put-scaled-requires (search needs) returns)

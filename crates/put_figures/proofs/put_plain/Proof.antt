@@ -7,12 +7,6 @@ use Rattle.put_figures.proofs.Sizes.{plain-room, association-plain-leng
 use Rattle.put_figures.proofs.put_plain.Statement.{statement}
 use Rattle.put_figures.proofs.put_plain.Tie as tie
 
-cast-n : tie.Need-cast-n
-cast-n c = search needs
-
-add-put-lead : tie.Need-add-put-lead
-add-put-lead c = search needs
-
 put-lead-requires : tie.Need-put-lead-requires
 put-lead-requires c κs =
     let s = c .before .before .before .before in
@@ -22,9 +16,6 @@ put-lead-requires c κs =
     let n = a .count in
     let q = association-plain-length a (r .0) (r .1) (k .0) (k .1) (k .2) in
     omega (arith, r, q, lead-length-short 0xa0 (2 + n) (omega (arith, r)), s .pre .0)
-
-slice-aggregate-put-string : tie.Need-slice-aggregate-put-string
-slice-aggregate-put-string c = search needs
 
 put-string-requires : tie.Need-put-string-requires
 put-string-requires c κs =
@@ -36,9 +27,6 @@ put-string-requires c κs =
     let q = association-plain-length a (r .0) (r .1) (k .0) (k .1) (k .2) in
     omega (arith, r, q, lead-length-short 0xa0 (2 + n) (omega (arith, r)), string-length 0x80 n (a .digits) (r .1), lead-length-short 0x80 n (omega (arith, r)), s .pre .0, (c .before .before .before .before .put-lead) .ensures)
 
-same-length : tie.Need-same-length
-same-length c = search needs
-
 returns : tie.Need-returns
 returns c =
     let s = c .before .before .before .before .before .before .before .before .before .before .before .before in
@@ -47,14 +35,10 @@ returns c =
     let r = plain-room a (s .pre .0 .0) (k .0) (k .1) (k .2) in
     wrote-plain a (r .0) (r .1) (k .0) (k .1) (k .2) (c .before .before .before .before .before .before .before .put-lead .ensures) (c .before .before .put-string .ensures)
 
+slice-aggregate-put-string : tie.Need-slice-aggregate-put-string
+slice-aggregate-put-string c = search needs
+
 pub put-plain-spec : {M : Type 1} → statement M
 put-plain-spec =
     tie.close
-    (tie.spec
-    cast-n
-    add-put-lead
-    put-lead-requires
-    slice-aggregate-put-string
-    put-string-requires
-    same-length
-    returns)
+    (tie.spec (search needs) (search needs) put-lead-requires slice-aggregate-put-string put-string-requires (search needs) returns)

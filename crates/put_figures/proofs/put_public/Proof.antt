@@ -7,12 +7,6 @@ use Rattle.put_figures.proofs.Sizes.{public-room, association-public-le
 use Rattle.put_figures.proofs.put_public.Statement.{statement}
 use Rattle.put_figures.proofs.put_public.Tie as tie
 
-cast-n : tie.Need-cast-n
-cast-n c = search needs
-
-add-put-lead : tie.Need-add-put-lead
-add-put-lead c = search needs
-
 put-lead-requires : tie.Need-put-lead-requires
 put-lead-requires c κs =
     let s = c .before .before .before .before in
@@ -21,9 +15,6 @@ put-lead-requires c κs =
     let n = a .count in
     let q = association-public-length a (r .1 .0) (r .1 .1) (r .0) (s .pre .1) in
     omega (arith, r, q, lead-length-short 0xa0 (7 + n) (omega (arith, r)), s .pre .2)
-
-add-put-lead-2 : tie.Need-add-put-lead-2
-add-put-lead-2 c = search needs
 
 put-lead-requires-2 : tie.Need-put-lead-requires-2
 put-lead-requires-2 c κs =
@@ -43,9 +34,6 @@ put-small-requires c κs =
     let q = association-public-length a (r .1 .0) (r .1 .1) (r .0) (s .pre .1) in
     omega (arith, r, q, lead-length-short 0xa0 (7 + n) (omega (arith, r)), lead-length-short 0xa1 (5 + n) (omega (arith, r)), small-length 0x0a (a .plan) (omega (arith, r)), s .pre .2, (c .before .before .before .before .before .before .before .put-lead) .ensures, (c .before .before .before .put-lead2) .ensures)
 
-slice-aggregate-put-string : tie.Need-slice-aggregate-put-string
-slice-aggregate-put-string c = search needs
-
 put-string-requires : tie.Need-put-string-requires
 put-string-requires c κs =
     let s = c .before .before .before .before .before .before .before .before .before .before .before .before .before .before .before .before .before in
@@ -56,9 +44,6 @@ put-string-requires c κs =
     let w = string-length 0x12 n (a .digits) (r .1 .1) in
     omega (arith, r, q, lead-length-short 0xa0 (7 + n) (omega (arith, r)), lead-length-short 0xa1 (5 + n) (omega (arith, r)), small-length 0x0a (a .plan) (omega (arith, r)), w, lead-length-short 0x12 n (omega (arith, r)), s .pre .2, (c .before .before .before .before .before .before .before .before .before .before .before .before .put-lead) .ensures, (c .before .before .before .before .before .before .before .before .put-lead2) .ensures, (c .before .before .before .before .put-small) .ensures)
 
-same-length : tie.Need-same-length
-same-length c = search needs
-
 returns : tie.Need-returns
 returns c =
     let s = c .before .before .before .before .before .before .before .before .before .before .before .before .before .before .before .before .before .before .before .before in
@@ -66,17 +51,10 @@ returns c =
     let r = public-room a (s .pre .0) (s .pre .1) in
     wrote-public a (r .1 .0) (r .1 .1) (r .0) (s .pre .1) (c .before .before .before .before .before .before .before .before .before .before .before .before .before .before .before .put-lead .ensures) (c .before .before .before .before .before .before .before .before .before .before .before .put-lead2 .ensures) (c .before .before .before .before .before .before .before .put-small .ensures) (c .before .before .put-string .ensures)
 
+slice-aggregate-put-string : tie.Need-slice-aggregate-put-string
+slice-aggregate-put-string c = search needs
+
 pub put-public-spec : {M : Type 1} → statement M
 put-public-spec =
     tie.close
-    (tie.spec
-    cast-n
-    add-put-lead
-    put-lead-requires
-    add-put-lead-2
-    put-lead-requires-2
-    put-small-requires
-    slice-aggregate-put-string
-    put-string-requires
-    same-length
-    returns)
+    (tie.spec (search needs) (search needs) put-lead-requires (search needs) put-lead-requires-2 put-small-requires slice-aggregate-put-string put-string-requires (search needs) returns)

@@ -7,9 +7,6 @@ use Rattle.put_figures.proofs.Sizes.{scaled-length, wrote-scaled}
 use Rattle.put_figures.proofs.put_scaled.Statement.{statement}
 use Rattle.put_figures.proofs.put_scaled.Tie as tie
 
-width-of-requires : tie.Need-width-of-requires
-width-of-requires c κs = search needs
-
 add-put-lead : tie.Need-add-put-lead
 add-put-lead c = omega (arith, c .before .width-of .ensures, width-range (c .before .before .before .args .s .number))
 
@@ -50,9 +47,6 @@ put-small-requires c κs =
       s .pre,
     )
 
-same-length : tie.Need-same-length
-same-length c = search needs
-
 returns : tie.Need-returns
 returns c =
     let s = c .before .before .before .before .before .before .before .before .before .before .before .before .before .before in
@@ -61,11 +55,4 @@ returns c =
 pub put-scaled-spec : {M : Type 1} → statement M
 put-scaled-spec =
     tie.close
-    (tie.spec
-    width-of-requires
-    add-put-lead
-    put-lead-requires
-    put-number-requires
-    put-small-requires
-    same-length
-    returns)
+    (tie.spec (search needs) add-put-lead put-lead-requires put-number-requires put-small-requires (search needs) returns)

@@ -5,9 +5,6 @@ use Rattle.put_figures.proofs.Sizes.{scaled-length}
 use Rattle.put_figures.proofs.scaled_size.Statement.{statement}
 use Rattle.put_figures.proofs.scaled_size.Tie as tie
 
-width-of-requires : tie.Need-width-of-requires
-width-of-requires c κs = search needs
-
 add-result : tie.Need-add-result
 add-result c =
     let s = c .before .args .s in
@@ -19,4 +16,4 @@ returns c =
     (λ tag. omega (arith, c .width-of .ensures, scaled-length tag s (omega arith)), omega (arith, c .width-of .ensures, width-range (s .number)))
 
 pub scaled-size-spec : {M : Type 1} → statement M
-scaled-size-spec = tie.close (tie.spec width-of-requires add-result returns)
+scaled-size-spec = tie.close (tie.spec (search needs) add-result returns)

@@ -4,17 +4,11 @@ use Rattle.put_figures.proofs.Sizes.{lead-two}
 use Rattle.put_figures.proofs.sized.Statement.{statement}
 use Rattle.put_figures.proofs.sized.Tie as tie
 
-element-size-requires : tie.Need-element-size-requires
-element-size-requires c κs = search needs
+returns-2 : tie.Need-returns-2
+returns-2 c = (λ tag. omega (arith, lead-two tag (c .before .args .n) (c .if1 .left)), omega arith)
 
 returns : tie.Need-returns
 returns c = search needs
 
-add-result : tie.Need-add-result
-add-result c = search needs
-
-returns-2 : tie.Need-returns-2
-returns-2 c = (λ tag. omega (arith, lead-two tag (c .before .args .n) (c .if1 .left)), omega arith)
-
 pub sized-spec : {M : Type 1} → statement M
-sized-spec = tie.close (tie.spec element-size-requires returns add-result returns-2)
+sized-spec = tie.close (tie.spec (search needs) returns (search needs) returns-2)

@@ -8,23 +8,11 @@ use Rattle.types.specs.Rates.{flatRate}
 use Rattle.rates.proofs.flat_at.Statement.{statement}
 use Rattle.rates.proofs.flat_at.Tie as tie
 
-open-at-requires : tie.Need-open-at-requires
-open-at-requires c κs = search needs
-
-no-rate-requires : tie.Need-no-rate-requires
-no-rate-requires c κs = search needs
-
 returns : tie.Need-returns
 unfolding flatRate cons canonical over constructed
 returns c =
     simp flat
     (c .no-rate .ensures ∙ stay _ _ _ _ (c .before .before .before .open-at .ensures .0) (c .before .if1 .taken))
-
-money-at-requires : tie.Need-money-at-requires
-money-at-requires c κs = search needs
-
-no-rate-requires-2 : tie.Need-no-rate-requires-2
-no-rate-requires-2 c κs = search needs
 
 returns-2 : tie.Need-returns-2
 unfolding flatRate cons canonical over constructed
@@ -33,9 +21,6 @@ returns-2 c =
     (c .no-rate2 .ensures ∙ step _ _ _ _ (c .before .before .before .before .before .before .open-at .ensures .0) (c .before .before .before .before .if1 .left)
     (stay _ _ _ _ (c .before .before .before .money-at .ensures) (c .before .if2 .taken)))
 
-no-rate-requires-3 : tie.Need-no-rate-requires-3
-no-rate-requires-3 c κs = search needs
-
 returns-3 : tie.Need-returns-3
 unfolding flatRate cons canonical over constructed
 returns-3 c =
@@ -43,9 +28,6 @@ returns-3 c =
     (c .no-rate3 .ensures ∙ step _ _ _ _ (c .before .before .before .before .before .before .before .before .before .open-at .ensures .0) (c .before .before .before .before .before .before .before .if1 .left)
     (step _ _ _ _ (c .before .before .before .before .before .before .money-at .ensures) (c .before .before .before .before .if2 .left)
     (remains _ _ _ _ _ (c .before .if3 .taken))))
-
-rate-read-requires : tie.Need-rate-read-requires
-rate-read-requires c κs = search needs
 
 returns-4 : tie.Need-returns-4
 unfolding flatRate cons canonical over constructed
@@ -58,14 +40,4 @@ returns-4 c =
 pub flat-at-spec : {M : Type 1} → statement M
 flat-at-spec =
     tie.close
-    (tie.spec
-    open-at-requires
-    no-rate-requires
-    returns
-    money-at-requires
-    no-rate-requires-2
-    returns-2
-    no-rate-requires-3
-    returns-3
-    rate-read-requires
-    returns-4)
+    (tie.spec (search needs) (search needs) returns (search needs) (search needs) returns-2 (search needs) returns-3 (search needs) returns-4)

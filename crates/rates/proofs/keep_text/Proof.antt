@@ -9,12 +9,6 @@ use Rattle.coding.specs.Codec.{pad}
 use Rattle.rates.proofs.keep_text.Statement.{statement}
 use Rattle.rates.proofs.keep_text.Tie as tie
 
-slice-aggregate-put-octets : tie.Need-slice-aggregate-put-octets
-slice-aggregate-put-octets c = search needs
-
-put-octets-requires : tie.Need-put-octets-requires
-put-octets-requires c κs = search needs
-
 returns : tie.Need-returns
 unfolding pad
 returns c =
@@ -23,4 +17,4 @@ returns c =
     c .put-octets .ensures .stored ∙ ap (sets (a .octets .now) (a .at)) (sym (take-append-le 10 (a .t3) _ h))
 
 pub keep-text-spec : {M : Type 1} → statement M
-keep-text-spec = tie.close (tie.spec slice-aggregate-put-octets put-octets-requires returns)
+keep-text-spec = tie.close (tie.spec (search needs) (search needs) returns)

@@ -6,23 +6,11 @@ use Rattle.types.specs.Rates.{price}
 use Rattle.rates.proofs.price_at.Statement.{statement}
 use Rattle.rates.proofs.price_at.Tie as tie
 
-is-tag-requires : tie.Need-is-tag-requires
-is-tag-requires c κs = search needs
-
-duration-at-requires : tie.Need-duration-at-requires
-duration-at-requires c κs = search needs
-
 returns : tie.Need-returns
 unfolding price sort
 returns c =
     picks _ _ _ _ _ _ _ (c .before .before .is-tag .ensures) (c .before .if1 .taken)
     (c .duration-at .ensures)
-
-is-tag-requires-2 : tie.Need-is-tag-requires-2
-is-tag-requires-2 c κs = search needs
-
-flat-at-requires : tie.Need-flat-at-requires
-flat-at-requires c κs = search needs
 
 returns-2 : tie.Need-returns-2
 unfolding price sort
@@ -31,12 +19,6 @@ returns-2 c =
     (picks _ _ _ _ _ _ _ (c .before .before .is-tag2 .ensures) (c .before .if2 .taken)
     (c .flat-at .ensures))
 
-is-tag-requires-3 : tie.Need-is-tag-requires-3
-is-tag-requires-3 c κs = search needs
-
-volume-at-requires : tie.Need-volume-at-requires
-volume-at-requires c κs = search needs
-
 returns-3 : tie.Need-returns-3
 unfolding price sort
 returns-3 c =
@@ -44,12 +26,6 @@ returns-3 c =
     (skips _ _ _ _ _ _ _ (c .before .before .before .before .is-tag2 .ensures) (c .before .before .before .if2 .left)
     (picks _ _ _ _ _ _ _ (c .before .before .is-tag3 .ensures) (c .before .if3 .taken)
     (c .volume-at .ensures)))
-
-is-tag-requires-4 : tie.Need-is-tag-requires-4
-is-tag-requires-4 c κs = search needs
-
-coded-at-requires : tie.Need-coded-at-requires
-coded-at-requires c κs = search needs
 
 returns-4 : tie.Need-returns-4
 unfolding price sort
@@ -60,12 +36,6 @@ returns-4 c =
     (picks _ _ _ _ _ _ _ (c .before .before .is-tag4 .ensures) (c .before .if4 .taken)
     (c .coded-at .ensures))))
 
-is-tag-requires-5 : tie.Need-is-tag-requires-5
-is-tag-requires-5 c κs = search needs
-
-plain-rate-at-requires : tie.Need-plain-rate-at-requires
-plain-rate-at-requires c κs = search needs
-
 returns-5 : tie.Need-returns-5
 unfolding price sort
 returns-5 c =
@@ -75,9 +45,6 @@ returns-5 c =
     (skips _ _ _ _ _ _ _ (c .before .before .before .before .is-tag4 .ensures) (c .before .before .before .if4 .left)
     (picks _ _ _ _ _ _ _ (c .before .before .is-tag5 .ensures) (c .before .if5 .taken)
     (c .plain-rate-at .ensures)))))
-
-plain-rate-at-requires-2 : tie.Need-plain-rate-at-requires-2
-plain-rate-at-requires-2 c κs = search needs
 
 returns-6 : tie.Need-returns-6
 unfolding price sort
@@ -92,21 +59,4 @@ returns-6 c =
 pub price-at-spec : {M : Type 1} → statement M
 price-at-spec =
     tie.close
-    (tie.spec
-    is-tag-requires
-    duration-at-requires
-    returns
-    is-tag-requires-2
-    flat-at-requires
-    returns-2
-    is-tag-requires-3
-    volume-at-requires
-    returns-3
-    is-tag-requires-4
-    coded-at-requires
-    returns-4
-    is-tag-requires-5
-    plain-rate-at-requires
-    returns-5
-    plain-rate-at-requires-2
-    returns-6)
+    (tie.spec (search needs) (search needs) returns (search needs) (search needs) returns-2 (search needs) (search needs) returns-3 (search needs) (search needs) returns-4 (search needs) (search needs) returns-5 (search needs) returns-6)

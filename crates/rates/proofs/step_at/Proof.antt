@@ -5,12 +5,6 @@ use Rattle.rates.specs.Readers.{stepTime}
 use Rattle.rates.proofs.step_at.Statement.{statement}
 use Rattle.rates.proofs.step_at.Tie as tie
 
-is-tag-requires : tie.Need-is-tag-requires
-is-tag-requires c κs = search needs
-
-scaled-at-requires : tie.Need-scaled-at-requires
-scaled-at-requires c κs = search needs
-
 returns : tie.Need-returns
 unfolding stepTime
 returns c =
@@ -33,9 +27,4 @@ returns-3 c =
 pub step-at-spec : {M : Type 1} → statement M
 step-at-spec =
     tie.close
-    (tie.spec
-    is-tag-requires
-    scaled-at-requires
-    returns
-    returns-2
-    returns-3)
+    (tie.spec (search needs) (search needs) returns returns-2 returns-3)

@@ -8,23 +8,11 @@ use Rattle.types.specs.Rates.{volume}
 use Rattle.rates.proofs.volume_at.Statement.{statement}
 use Rattle.rates.proofs.volume_at.Tie as tie
 
-open-at-requires : tie.Need-open-at-requires
-open-at-requires c κs = search needs
-
-no-rate-requires : tie.Need-no-rate-requires
-no-rate-requires c κs = search needs
-
 returns : tie.Need-returns
 unfolding volume cons canonical over pair constructed
 returns c =
     simp flat
     (c .no-rate .ensures ∙ stay _ _ _ _ (c .before .before .before .open-at .ensures .0) (c .before .if1 .taken))
-
-money-at-requires : tie.Need-money-at-requires
-money-at-requires c κs = search needs
-
-no-rate-requires-2 : tie.Need-no-rate-requires-2
-no-rate-requires-2 c κs = search needs
 
 returns-2 : tie.Need-returns-2
 unfolding volume cons canonical over pair constructed
@@ -32,12 +20,6 @@ returns-2 c =
     simp flat
     (c .no-rate2 .ensures ∙ step _ _ _ _ (c .before .before .before .before .before .before .open-at .ensures .0) (c .before .before .before .before .if1 .left)
     (stay _ _ _ _ (c .before .before .before .money-at .ensures) (c .before .if2 .taken)))
-
-natural-at-requires : tie.Need-natural-at-requires
-natural-at-requires c κs = search needs
-
-no-rate-requires-3 : tie.Need-no-rate-requires-3
-no-rate-requires-3 c κs = search needs
 
 returns-3 : tie.Need-returns-3
 unfolding volume cons canonical over pair constructed
@@ -47,9 +29,6 @@ returns-3 c =
     (step _ _ _ _ (c .before .before .before .before .before .before .money-at .ensures) (c .before .before .before .before .if2 .left)
     (stay _ _ _ _ (c .before .before .before .natural-at .ensures .0) (c .before .if3 .taken))))
 
-no-rate-requires-4 : tie.Need-no-rate-requires-4
-no-rate-requires-4 c κs = search needs
-
 returns-4 : tie.Need-returns-4
 unfolding volume cons canonical over pair constructed
 returns-4 c =
@@ -58,12 +37,6 @@ returns-4 c =
     (step _ _ _ _ (c .before .before .before .before .before .before .before .before .before .money-at .ensures) (c .before .before .before .before .before .before .before .if2 .left)
     (step _ _ _ _ (c .before .before .before .before .before .before .natural-at .ensures .0) (c .before .before .before .before .if3 .left)
     (remains _ _ _ _ _ (c .before .if4 .taken)))))
-
-cast-rate-read : tie.Need-cast-rate-read
-cast-rate-read c = search needs
-
-rate-read-requires : tie.Need-rate-read-requires
-rate-read-requires c κs = search needs
 
 returns-5 : tie.Need-returns-5
 unfolding volume cons canonical over pair constructed
@@ -77,18 +50,4 @@ returns-5 c =
 pub volume-at-spec : {M : Type 1} → statement M
 volume-at-spec =
     tie.close
-    (tie.spec
-    open-at-requires
-    no-rate-requires
-    returns
-    money-at-requires
-    no-rate-requires-2
-    returns-2
-    natural-at-requires
-    no-rate-requires-3
-    returns-3
-    no-rate-requires-4
-    returns-4
-    cast-rate-read
-    rate-read-requires
-    returns-5)
+    (tie.spec (search needs) (search needs) returns (search needs) (search needs) returns-2 (search needs) (search needs) returns-3 (search needs) returns-4 (search needs) (search needs) returns-5)

@@ -12,9 +12,6 @@ returns-2 : tie.Need-returns-2
 unfolding sameOf
 returns-2 c = simp (eq-eqb _ _ (c .before .before .if1 .left), eq-eqb _ _ (c .if2 .taken))
 
-same-money-requires : tie.Need-same-money-requires
-same-money-requires c κs = search needs
-
 returns-3 : tie.Need-returns-3
 unfolding sameOf
 returns-3 c = simp (eq-eqb _ _ (c .before .before .before .before .before .before .before .if1 .left), ne-eqb _ _ (c .before .before .before .before .before .if2 .left), eq-eqb _ _ (c .before .before .before .if3 .taken)) (c .same-money .ensures)
@@ -22,9 +19,6 @@ returns-3 c = simp (eq-eqb _ _ (c .before .before .before .before .before .befor
 returns-4 : tie.Need-returns-4
 unfolding sameOf
 returns-4 c = simp (eq-eqb _ _ (c .before .before .before .before .before .before .before .before .before .if1 .left), ne-eqb _ _ (c .before .before .before .before .before .before .before .if2 .left), ne-eqb _ _ (c .before .before .before .before .before .if3 .left), eq-eqb _ _ (c .before .before .before .if4 .taken), ne-eqb _ _ (c .if5 .taken))
-
-same-entries-requires : tie.Need-same-entries-requires
-same-entries-requires c κs = search needs
 
 returns-5 : tie.Need-returns-5
 unfolding sameOf
@@ -37,12 +31,4 @@ returns-6 c = simp (eq-eqb _ _ (c .before .before .before .before .before .befor
 pub same-spec : {M : Type 1} → statement M
 same-spec =
     tie.close
-    (tie.spec
-    returns
-    returns-2
-    same-money-requires
-    returns-3
-    returns-4
-    same-entries-requires
-    returns-5
-    returns-6)
+    (tie.spec returns returns-2 (search needs) returns-3 returns-4 (search needs) returns-5 returns-6)

@@ -5,18 +5,9 @@ use borrow.Author.Needs.{needs}
 use Rattle.same.proofs.same_money.Statement.{statement}
 use Rattle.same.proofs.same_money.Tie as tie
 
-thousandths-requires : tie.Need-thousandths-requires
-thousandths-requires c κs = search needs
-
-thousandths-requires-2 : tie.Need-thousandths-requires-2
-thousandths-requires-2 c κs = search needs
-
 returns : tie.Need-returns
 unfolding sameMoney
 returns c = simp (ne-eqb _ _ (λ z. c .if1 .taken (c .before .before .thousandths .ensures .0 ∙ z ∙ sym (c .before .thousandths2 .ensures .0))))
-
-same-currency-requires : tie.Need-same-currency-requires
-same-currency-requires c κs = search needs
 
 returns-2 : tie.Need-returns-2
 unfolding sameMoney
@@ -25,4 +16,4 @@ returns-2 c = simp (eq-eqb _ _ (sym (c .before .before .before .before .before .
 pub same-money-spec : {M : Type 1} → statement M
 same-money-spec =
     tie.close
-    (tie.spec thousandths-requires thousandths-requires-2 returns same-currency-requires returns-2)
+    (tie.spec (search needs) (search needs) returns (search needs) returns-2)

@@ -4,11 +4,8 @@ use borrow.Author.Needs.{needs}
 use Rattle.values.proofs.next_identifier.Statement.{statement}
 use Rattle.values.proofs.next_identifier.Tie as tie
 
-wrapping-add-u16-requires : tie.Need-wrapping-add-u16-requires
-wrapping-add-u16-requires c κs = search needs
-
 returns : tie.Need-returns
 returns c = (c .wrapping-add-u16 .ensures, rw (c .wrapping-add-u16 .ensures) (signed-next (c .before .args .id) (omega arith)))
 
 pub next-identifier-spec : {M : Type 1} → statement M
-next-identifier-spec = tie.close (tie.spec wrapping-add-u16-requires returns)
+next-identifier-spec = tie.close (tie.spec (search needs) returns)

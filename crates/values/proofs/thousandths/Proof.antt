@@ -8,12 +8,6 @@ use borrow.Author.Needs.{needs}
 use Rattle.values.proofs.thousandths.Statement.{statement}
 use Rattle.values.proofs.thousandths.Tie as tie
 
-mul-result : tie.Need-mul-result
-mul-result c = search needs
-
-array-read-result : tie.Need-array-read-result
-array-read-result c = search needs
-
 mul-result-2 : tie.Need-mul-result-2
 mul-result-2 c = omega (arith, product (c .before .args .number) (c .before .args .multiplier))
 
@@ -24,4 +18,4 @@ returns-2 : tie.Need-returns-2
 returns-2 c = (rw (List·getD-eq-default powers 0 (c .if1 .left), mul-zero), λ h. omega arith)
 
 pub thousandths-spec : {M : Type 1} → statement M
-thousandths-spec = tie.close (tie.spec mul-result array-read-result mul-result-2 returns returns-2)
+thousandths-spec = tie.close (tie.spec (search needs) (search needs) mul-result-2 returns returns-2)

@@ -4,20 +4,11 @@ use borrow.Author.Needs.{needs}
 use Rattle.values.proofs.Services.with.Statement.{statement}
 use Rattle.values.proofs.Services.with.Tie as tie
 
-with-s-requires : tie.Need-with-s-requires
-with-s-requires c κs = search needs
-
 returns : tie.Need-returns
 returns c = grown (c .before .before .args .self) _ (c .before .before .args .service) (rw (c .before .if1 .taken) (c .with-s .ensures))
 
-with-d-requires : tie.Need-with-d-requires
-with-d-requires c κs = search needs
-
 returns-2 : tie.Need-returns-2
 returns-2 c = grown (c .before .before .before .args .self) _ (c .before .before .before .args .service) (rw (c .before .if2 .taken) (c .with-d .ensures))
-
-with-e-requires : tie.Need-with-e-requires
-with-e-requires c κs = search needs
 
 returns-3 : tie.Need-returns-3
 returns-3 c = grown (c .before .before .before .before .args .self) _ (c .before .before .before .before .args .service) (rw (c .before .if3 .taken) (c .with-e .ensures))
@@ -28,11 +19,4 @@ returns-4 c = grown (c .before .before .before .args .self) _ (c .before .before
 pub with-spec : {M : Type 1} → statement M
 with-spec =
     tie.close
-    (tie.spec
-    with-s-requires
-    returns
-    with-d-requires
-    returns-2
-    with-e-requires
-    returns-3
-    returns-4)
+    (tie.spec (search needs) returns (search needs) returns-2 (search needs) returns-3 returns-4)
