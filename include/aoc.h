@@ -29,7 +29,7 @@ extern "C" {
 enum {
     AOC_ACCEPTED = 0,
     AOC_CUT = 1,                /* the octets end too early */
-    AOC_LENGTH_FORM = 2,        /* a length octet of 80 or 83 to FF */
+    AOC_LENGTH_FORM = 2,        /* a length octet of 83 to FF, or of 80 on a primitive element */
     AOC_TOO_LONG = 3,           /* over 254 octets given */
     AOC_UNKNOWN_COMPONENT = 4,  /* the first octet is not A1 to A4 */
     AOC_TRAILING = 5,           /* octets after the component */

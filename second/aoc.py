@@ -1,7 +1,7 @@
 """Advice of Charge: components, Facility element, reject in reply, one call's account.
 
-Written from document 01 (and its readings, docs/DECISIONS.md part 1, where it can be read two ways) and from
-nothing else, so that its answers can be compared with those of the proved library.
+Written from documents 01 and 02 (and their readings, docs/DECISIONS.md parts 1 and 4, where they can be read two
+ways) and from nothing else, so that its answers can be compared with those of the proved library.
 """
 
 import struct
@@ -22,6 +22,8 @@ ERRORS = (0, 3, 4, 7, 26)
 PROBLEMS = {0x80: 2, 0x81: 7, 0x82: 2, 0x83: 4}  # problem's tag: its highest value
 PLANS = (0, 1, 2, 3, 4, 6)
 DIGITS = frozenset(b"0123456789 ")
+CONSTRUCTED = 0x20  # the bit of a tag that tells elements made of elements
+END_MARKER = b"\0\0"
 
 INVOKE, RESULT, ERROR, REJECT = 1, 2, 3, 4
 NOTHING, FREE, AMOUNT, UNITS, RATES, ARRANGEMENT = 0, 1, 2, 3, 4, 5
@@ -137,29 +139,64 @@ def peek(octets, place, end):
     return octets[place] if place < end else None
 
 
-def contents(octets, place, end, part):
-    """Extent of the contents of the element whose tag stands, already judged, at place.
+def length(octets, place, end, part):
+    """The length octets at place: the contents' start, and how many they are; None for 80.
 
     Only the enclosing element's octets are looked at: a form beyond its end is not seen.
     """
-    place += 1
     if place >= end:
         raise Refused(part)
     first = octets[place]
     place += 1
-    if first < 0x80:
-        size = first
-    elif first == 0x81 or first == 0x82:
-        wide = first - 0x80
-        if place + wide > end:
-            raise Refused(part)
-        size = int.from_bytes(octets[place:place + wide], "big")
-        place += wide
-    else:
+    if first <= 0x80:
+        return place, None if first == 0x80 else first
+    if first > 0x82:
         raise Refused(LENGTH_FORM)
-    if place + size > end:
+    wide = first - 0x80
+    if place + wide > end:
         raise Refused(part)
-    return place, place + size
+    return place + wide, int.from_bytes(octets[place:place + wide], "big")
+
+
+def contents(octets, place, end, part):
+    """The element whose tag stands, already judged, at place: its contents' start and end, and where it ends."""
+    start, size = length(octets, place + 1, end, part)
+    if size is None:
+        if not octets[place] & CONSTRUCTED:
+            raise Refused(LENGTH_FORM)
+        stop = end_marker(octets, start, end, part)
+        return start, stop, stop + len(END_MARKER)
+    if start + size > end:
+        raise Refused(part)
+    return start, start + size, start + size
+
+
+def end_marker(octets, place, end, part):
+    """Where the end marker stands of contents without a number that begin at place.
+
+    Elements are gone over one by one: a numbered one whole, another up to the end of its own marker. How many
+    elements without a number are open is counted, since each of their markers ends the innermost one.
+    """
+    depth = 0
+    while True:
+        if octets[place:min(place + 2, end)] == END_MARKER:
+            if depth == 0:
+                return place
+            depth -= 1
+            place += len(END_MARKER)
+            continue
+        if place >= end:
+            raise Refused(part)
+        tag = octets[place]
+        place, size = length(octets, place + 1, end, part)
+        if size is not None:
+            place += size
+            if place > end:
+                raise Refused(part)
+        elif tag & CONSTRUCTED:
+            depth += 1
+        else:
+            raise Refused(LENGTH_FORM)
 
 
 def expect(octets, place, end, tag, part):
@@ -182,19 +219,19 @@ def whole(octets, start, stop, part):
 
 
 def integer(octets, place, end, tag, low, high, part=BAD_ARGUMENT):
-    start, stop = expect(octets, place, end, tag, part)
+    start, stop, after = expect(octets, place, end, tag, part)
     value = whole(octets, start, stop, part)
     if not low <= value <= high:
         raise Refused(part)
-    return value, stop
+    return value, after
 
 
 def empty(octets, place, end, tag, part=BAD_ARGUMENT):
     """NULL and its like: no contents, in any length form."""
-    start, stop = expect(octets, place, end, tag, part)
+    start, stop, after = expect(octets, place, end, tag, part)
     if start != stop:
         raise Refused(part)
-    return stop
+    return after
 
 
 def finish(place, end, part=BAD_ARGUMENT):
@@ -209,8 +246,8 @@ def component(octets):
         raise Refused(CUT)
     if not 0xA1 <= octets[0] <= 0xA4:
         raise Refused(UNKNOWN_COMPONENT)
-    start, stop = contents(octets, 0, len(octets), CUT)
-    finish(stop, len(octets), TRAILING)
+    start, stop, after = contents(octets, 0, len(octets), CUT)
+    finish(after, len(octets), TRAILING)
     return FRAMES[octets[0]](octets, start, stop)
 
 
@@ -223,13 +260,13 @@ def code(octets, place, end, known, unknown):
     """An operation or error value. Unknown is said at once, before what follows."""
     if peek(octets, place, end) == 0x06:
         raise Refused(unknown)
-    start, stop = expect(octets, place, end, 0x02, BAD_FRAME)
+    start, stop, after = expect(octets, place, end, 0x02, BAD_FRAME)
     if stop - start > 4:
         raise Refused(BAD_FRAME)
     value = whole(octets, start, stop, BAD_FRAME)
     if value not in known:
         raise Refused(unknown)
-    return value, stop
+    return value, after
 
 
 def invoke(octets, place, end):
@@ -249,7 +286,7 @@ def invoke(octets, place, end):
 def return_result(octets, place, end):
     record = Record(frame=RESULT)
     record.id, place = identifier(octets, place, end)
-    inner, stop = expect(octets, place, end, 0x30, BAD_FRAME)
+    inner, stop, after = expect(octets, place, end, 0x30, BAD_FRAME)
     record.operation, inner = code(octets, inner, stop, (30,), UNKNOWN_OPERATION)
     tag = peek(octets, inner, stop)
     if tag == 0x30:
@@ -259,7 +296,7 @@ def return_result(octets, place, end):
     else:
         inner = empty(octets, inner, stop, 0x05)
     finish(inner, stop, BAD_FRAME)
-    finish(stop, end, BAD_FRAME)
+    finish(after, end, BAD_FRAME)
     return record
 
 
@@ -292,27 +329,27 @@ FRAMES = {0xA1: invoke, 0xA2: return_result, 0xA3: return_error, 0xA4: reject}
 
 def scaled(octets, place, end, tag):
     """An amount or a time: 81 number, 82 multiplier or scale."""
-    inner, stop = expect(octets, place, end, tag, BAD_ARGUMENT)
+    inner, stop, after = expect(octets, place, end, tag, BAD_ARGUMENT)
     number, inner = integer(octets, inner, stop, 0x81, 0, NUMBER_MAX)
     scale, inner = integer(octets, inner, stop, 0x82, 0, 6)
     finish(inner, stop)
-    return number, scale, stop
+    return number, scale, after
 
 
 def currency(octets, place, end):
-    start, stop = expect(octets, place, end, 0x81, BAD_ARGUMENT)
+    start, stop, after = expect(octets, place, end, 0x81, BAD_ARGUMENT)
     text = octets[start:stop]
     if not 1 <= len(text) <= CURRENCY_MAX or max(text) >= 0x80:
         raise Refused(BAD_ARGUMENT)
-    return text, stop
+    return text, after
 
 
 def rate_list(octets, place, end, charge):
     """31's list: 30 with 1 to 10 entries."""
-    place, stop = expect(octets, place, end, 0x30, BAD_ARGUMENT)
+    place, stop, after = expect(octets, place, end, 0x30, BAD_ARGUMENT)
     charge.figure.kind = RATES
-    charge.figure.count, place = entries(octets, place, stop, RATES_MAX, rate, charge.list)
-    return place
+    charge.figure.count = entries(octets, place, stop, RATES_MAX, rate, charge.list)
+    return after
 
 
 def entries(octets, place, end, limit, entry, into):
@@ -320,13 +357,13 @@ def entries(octets, place, end, limit, entry, into):
     count = 0
     while True:
         if place == end and count > 0:
-            return count, place
+            return count
         # Covers both the empty list (a missing entry) and the entry past the limit.
         if count == limit:
             raise Refused(BAD_ARGUMENT)
-        start, stop = expect(octets, place, end, 0x30, BAD_ARGUMENT)
+        start, stop, after = expect(octets, place, end, 0x30, BAD_ARGUMENT)
         finish(entry(octets, start, stop, into, count), stop)
-        place, count = stop, count + 1
+        place, count = after, count + 1
 
 
 def rate(octets, place, end, into, i):
@@ -337,7 +374,7 @@ def rate(octets, place, end, into, i):
     tag = peek(octets, place, end)
     if tag in (0xA1, 0xA2, 0xA3):
         kind = tag - 0xA0
-        inner, stop = contents(octets, place, end, BAD_ARGUMENT)
+        inner, stop, place = contents(octets, place, end, BAD_ARGUMENT)
         text, inner = currency(octets, inner, stop)
         number, multiplier, inner = scaled(octets, inner, stop, 0xA2)
         if kind == DURATION:
@@ -349,7 +386,6 @@ def rate(octets, place, end, into, i):
         elif kind == VOLUME:
             detail, inner = integer(octets, inner, stop, 0x83, 0, 2)
         finish(inner, stop)
-        place = stop
     elif tag == 0x02:
         kind = CODE
         detail, place = integer(octets, place, end, 0x02, 1, 10)
@@ -373,7 +409,7 @@ def special_arrangement(octets, place, end, charge):
 
 def amount_figure(octets, place, end, charge):
     """The A1 of 33 and 35."""
-    inner, stop = expect(octets, place, end, 0xA1, BAD_ARGUMENT)
+    inner, stop, after = expect(octets, place, end, 0xA1, BAD_ARGUMENT)
     charge.figure.kind = AMOUNT
     money = charge.figure.money
     text, inner = currency(octets, inner, stop)
@@ -381,15 +417,15 @@ def amount_figure(octets, place, end, charge):
     money.currency.octets[:len(text)] = text
     money.number, money.multiplier, inner = scaled(octets, inner, stop, 0xA2)
     finish(inner, stop)
-    return stop
+    return after
 
 
 def units_figure(octets, place, end, charge):
     """The A1 of 34 and 36."""
-    place, stop = expect(octets, place, end, 0xA1, BAD_ARGUMENT)
+    place, stop, after = expect(octets, place, end, 0xA1, BAD_ARGUMENT)
     charge.figure.kind = UNITS
-    charge.figure.count, place = entries(octets, place, stop, UNITS_MAX, unit, charge.list)
-    return place
+    charge.figure.count = entries(octets, place, stop, UNITS_MAX, unit, charge.list)
+    return after
 
 
 def unit(octets, place, end, into, i):
@@ -417,31 +453,31 @@ def during_call(figure_of):
         if peek(octets, place, end) == 0x81:
             charge.figure.kind = FREE
             return empty(octets, place, end, 0x81)
-        inner, stop = expect(octets, place, end, 0x30, BAD_ARGUMENT)
+        inner, stop, after = expect(octets, place, end, 0x30, BAD_ARGUMENT)
         inner = figure_of(octets, inner, stop, charge)
         charge.figure.total, inner = integer(octets, inner, stop, 0x82, 0, 1)
         inner = billing(octets, inner, stop, 0x83, 2, charge.figure)
         finish(inner, stop)
-        return stop
+        return after
     return read_it
 
 
 def end_of_call(figure_of):
     """35 and 36: one level deeper than 33 and 34, and an association may follow."""
     def read_it(octets, place, end, charge):
-        place, stop = expect(octets, place, end, 0x30, BAD_ARGUMENT)
+        place, stop, after = expect(octets, place, end, 0x30, BAD_ARGUMENT)
         if peek(octets, place, stop) == 0x81:
             charge.figure.kind = FREE
             place = empty(octets, place, stop, 0x81)
         else:
-            inner, place = expect(octets, place, stop, 0x30, BAD_ARGUMENT)
-            inner = figure_of(octets, inner, place, charge)
-            inner = billing(octets, inner, place, 0x82, 7, charge.figure)
-            finish(inner, place)
+            inner, inner_stop, place = expect(octets, place, stop, 0x30, BAD_ARGUMENT)
+            inner = figure_of(octets, inner, inner_stop, charge)
+            inner = billing(octets, inner, inner_stop, 0x82, 7, charge.figure)
+            finish(inner, inner_stop)
         if peek(octets, place, stop) in (0x02, 0xA0):
             place = association(octets, place, stop, charge.figure.association)
         finish(place, stop)
-        return stop
+        return after
     return read_it
 
 
@@ -451,30 +487,29 @@ def association(octets, place, end, into):
         value, place = integer(octets, place, end, 0x02, -32768, 32767)
         into.id = value & 0xFFFF
         return place
-    inner, stop = expect(octets, place, end, 0xA0, BAD_ARGUMENT)
+    inner, stop, after = expect(octets, place, end, 0xA0, BAD_ARGUMENT)
     if peek(octets, inner, stop) == 0x80:
         into.kind = BY_NUMBER
         inner = digits(octets, inner, stop, 0x80, into)
     else:
         into.kind = BY_PUBLIC_NUMBER
-        start, inner_stop = expect(octets, inner, stop, 0xA1, BAD_ARGUMENT)
+        start, inner_stop, inner = expect(octets, inner, stop, 0xA1, BAD_ARGUMENT)
         into.plan, start = integer(octets, start, inner_stop, 0x0A, 0, 6)
         if into.plan not in PLANS:
             raise Refused(BAD_ARGUMENT)
         finish(digits(octets, start, inner_stop, 0x12, into), inner_stop)
-        inner = inner_stop
     finish(inner, stop)
-    return stop
+    return after
 
 
 def digits(octets, place, end, tag, into):
-    start, stop = expect(octets, place, end, tag, BAD_ARGUMENT)
+    start, stop, after = expect(octets, place, end, tag, BAD_ARGUMENT)
     text = octets[start:stop]
     if not 1 <= len(text) <= DIGITS_MAX or not DIGITS.issuperset(text):
         raise Refused(BAD_ARGUMENT)
     into.count = len(text)
     into.digits[:len(text)] = text
-    return stop
+    return after
 
 
 ARGUMENTS = {
@@ -741,7 +776,7 @@ def element(octets):
         starts.append(place)
         try:
             # A tile's tag may be any; its length has the component's forms.
-            place = contents(octets, place, end, BAD_ELEMENT)[1]
+            _, _, place = contents(octets, place, end, BAD_ELEMENT)
         except Refused:
             return BAD_ELEMENT, []
     return 0, starts
@@ -757,7 +792,7 @@ def reply(octets, room):
     answer = Record(frame=REJECT)
     if number in (UNKNOWN_OPERATION, UNKNOWN_ERROR, BAD_ARGUMENT):
         # These three come after the identifier, so it was read without failure.
-        start, stop = contents(octets, 0, len(octets), CUT)
+        start, stop, _ = contents(octets, 0, len(octets), CUT)
         answer.id, _ = identifier(octets, start, stop)
         if number == UNKNOWN_ERROR:
             answer.problem, answer.detail = 0x83, 2

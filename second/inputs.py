@@ -19,7 +19,7 @@ import aoc
 class Node:
     """An element. `low` and `high` bound an integer; `limit` a list's entries, a string's octets."""
 
-    __slots__ = ("tag", "parts", "body", "low", "high", "limit", "lengths", "tail", "keep")
+    __slots__ = ("tag", "parts", "body", "low", "high", "limit", "lengths", "tail", "keep", "marker")
 
     def __init__(self, tag, parts=None, body=b"", low=None, high=None, limit=None):
         self.tag, self.parts, self.body = tag, parts, body
@@ -27,10 +27,11 @@ class Node:
         self.lengths = None  # damage: from a size to length octets
         self.tail = b""      # damage: octets after the contents, inside the element
         self.keep = None     # damage: how many octets of the laid element are left
+        self.marker = None   # 80 for the length, and these octets after the contents; damaged where they are not 00 00
 
     def copy(self):
         twin = Node(self.tag, None, self.body, self.low, self.high, self.limit)
-        twin.lengths, twin.tail, twin.keep = self.lengths, self.tail, self.keep
+        twin.lengths, twin.tail, twin.keep, twin.marker = self.lengths, self.tail, self.keep, self.marker
         if self.parts is not None:
             twin.parts = [part.copy() for part in self.parts]
         return twin
@@ -51,20 +52,33 @@ def any_length(rng, size):
     return b"\x82" + size.to_bytes(2, "big")
 
 
-def lay(node, rng=None, loose=0.0):
-    """The tree's octets; `loose` is the chance that a length is not bound to be shortest."""
+def lay(node, rng=None, loose=0.0, unnumbered=0.0):
+    """The tree's octets.
+
+    `loose` is the chance that a length is not bound to be shortest, `unnumbered` the one that an element made of
+    elements has no number: 80, and an end marker after its contents.
+    """
     body = node.body
     if node.parts is not None:
-        body = b"".join([lay(part, rng, loose) for part in node.parts])
+        body = b"".join([lay(part, rng, loose, unnumbered) for part in node.parts])
     body += node.tail
     if node.lengths is not None:
         head = node.lengths(len(body))
+    elif node.marker is not None:
+        head, body = b"\x80", body + node.marker
+    elif unnumbered and node.parts is not None and rng.random() < unnumbered:
+        head, body = b"\x80", body + b"\0\0"
     elif loose and rng.random() < loose:
         head = any_length(rng, len(body))
     else:
         head = shortest_length(len(body))
     laid = bytes((node.tag,)) + head + body
     return laid if node.keep is None else laid[:node.keep]
+
+
+def lay_some(rng, root, loose):
+    """The tree's octets with one of the chances for loose lengths; in more than half of them some have no number."""
+    return lay(root, rng, rng.choice(loose), rng.choice((0.0, 0.0, 0.4, 0.7, 1.0)))
 
 
 def walk(node, parent=None):
@@ -336,7 +350,7 @@ def variants(rng):
 
 def loosely(rng, root):
     """Octets with random length forms, if that leaves at most 254; else the shortest."""
-    laid = lay(root, rng, rng.choice((0.0, 0.15, 0.6, 1.0)))
+    laid = lay_some(rng, root, (0.0, 0.15, 0.6, 1.0))
     return laid if len(laid) <= 254 else lay(root)
 
 
@@ -493,9 +507,37 @@ def length_huge(rng, node, parent):
 
 
 def form_80(rng, node, parent):
-    node.lengths = lambda size: b"\x80"
-    if rng.random() < 0.5:
-        node.tail = b"\0\0"
+    """80 on any element. Only on one made of elements is that no damage by itself, where a marker follows."""
+    node.marker = rng.choice((b"\0\0", b""))
+
+
+def marker_spoilt(rng, node, parent):
+    """Half an end marker, two of them, or what is nearly one."""
+    node.marker = bytes.fromhex(rng.choice((
+        "00", "00 00 00", "00 00 00 00", "00 80", "00 81 00", "00 81 00 00 00", "00 82 00 00", "00 01 55", "00 01 55 00 00",
+        "00 02 00 00", "20 80 00 00", "20 80 00 00 00 00", "80 00 00 00")))
+
+
+def marker_early(rng, node, parent):
+    """An end marker before the last part, or alone; the one after the contents is one too many, or is not there."""
+    node.marker = rng.choice((b"\0\0", b""))
+    if node.parts:
+        node.parts.insert(rng.randrange(len(node.parts)), Node(0x00))
+
+
+def marker_far(rng, node, parent):
+    """No marker of its own: the nearest ones are those of the elements around it, or stand past a numbered one."""
+    node.marker = b""
+    if parent:
+        parent.marker = rng.choice((b"\0\0", b"\0\0", b"\0\0\0\0", None))
+
+
+def met_by_search(rng, node, parent):
+    """Something that a search for this element's end marker meets: bad lengths, and such as lead past the end."""
+    node.marker = b"\0\0"
+    node.tail = bytes.fromhex(rng.choice((
+        "0A83", "3083", "02FF00", "0280", "8080", "0080", "30800283", "30FE", "307F", "0281FF", "0282FFFF", "0282", "81", "30",
+        "3080", "308030800000", "3004308300000000", "A10200000000", "300200803080", "1F80", "3F80", "FF800000")))
 
 
 def form_83(rng, node, parent):
@@ -536,8 +578,8 @@ def foreign_code(rng, node, parent):
 TREE_DAMAGE = (
     change_tag, nudge_tag, flip_constructed, tag_06, drop, double, swap, stray_after, stray_inside,
     octet_more, hollow, not_shortest, sign_wrong, one_over, one_under, wrapped, in_range, contents_cut,
-    bad_octet, too_wide, many, length_more, length_less, length_huge, form_80, form_83, form_other,
-    form_loose, ends_early, foreign_code)
+    bad_octet, too_wide, many, length_more, length_less, length_huge, form_80, marker_spoilt, marker_early,
+    marker_far, met_by_search, form_83, form_other, form_loose, ends_early, foreign_code)
 
 # Operations and errors that are not known are asked for more often than chance gives them.
 CODE_PLACES = {0xA1: (1,), 0xA2: (1, 0), 0xA3: (1,)}
@@ -598,7 +640,7 @@ def sweep(rng):
                 for damage in TREE_DAMAGE:
                     spoilt = root.copy()
                     damage(rng, *list(walk(spoilt))[i])
-                    yield lay(spoilt, rng, rng.choice((0.0, 0.0, 0.3)))
+                    yield lay_some(rng, spoilt, (0.0, 0.0, 0.3))
 
 
 def spoil(rng):
@@ -609,7 +651,7 @@ def spoil(rng):
         for _ in range(rng.choice((1, 1, 1, 2))):
             damage = rng.choice(TREE_DAMAGE)
             damage(rng, *rng.choice(list(walk(root))))
-    octets = lay(root, rng, rng.choice((0.0, 0.0, 0.3)))
+    octets = lay_some(rng, root, (0.0, 0.0, 0.3))
     if kind >= 0.55:
         for _ in range(rng.choice((1, 1, 1, 2, 4))):
             octets = rng.choice(OCTET_DAMAGE)(rng, octets)
@@ -623,13 +665,22 @@ def strange_code(rng):
     for i in CODE_PLACES[root.tag]:
         node, parent = node.parts[i], node
     rng.choice((foreign_code, foreign_code, foreign_code, tag_06, not_shortest, hollow))(rng, node, parent)
-    octets = lay(root, rng, rng.choice((0.0, 0.3)))
+    octets = lay_some(rng, root, (0.0, 0.3))
     return change(rng, octets) if rng.random() < 0.2 else octets
 
 
 def long_component(rng):
     """A well-formed component around and over 254 octets."""
-    return lay(tree(long_record(rng)), rng, rng.choice((0.0, 0.5, 1.0)))
+    return lay_some(rng, tree(long_record(rng)), (0.0, 0.5, 1.0))
+
+
+def nested(rng):
+    """Elements without a number in one another, up to 254 octets and over, their end markers there, too few or too many."""
+    depth = rng.choice((1, 2, 3, 10, 62, 63, 64, 125, 126, rng.randint(1, 126)))
+    inner = rng.choice((b"", b"", b"\x05\0", b"\0\x80", b"\x83", b"\0", b"\x02\x83", b"\x02\x03\0\0\0"))
+    markers = rng.choice((depth + 1, depth + 1, depth, depth + 2, rng.randint(0, depth + 2)))
+    start = rng.choice((b"\xA1\x80", b"\xA2\x80\x02\x01\x05", b"\xA1\x80\x02\x01\x05\x02\x01\x23"))
+    return start + rng.choice((b"\x30\x80", b"\xA1\x80", b"\xFF\x80", b"\x20\x80")) * depth + inner + b"\0\0" * markers
 
 
 def noise(rng):
@@ -637,7 +688,7 @@ def noise(rng):
     if octets and rng.random() < 0.8:
         octets[0] = rng.randrange(0xA0, 0xA6)
         if len(octets) > 1 and rng.random() < 0.8:
-            octets[1] = (len(octets) - 2) & 0x7F
+            octets[1] = 0x80 if rng.random() < 0.5 else (len(octets) - 2) & 0x7F
     return bytes(octets)
 
 
@@ -740,6 +791,17 @@ def writer_input(rng, orderly):
 
 # ---------------------------------------------------------------- Facility elements
 
+def any_tile(rng):
+    """A tile of any tag, with a number or without, and then of elements that may be such tiles."""
+    tag = rng.randrange(256)
+    if rng.random() < 0.5:
+        # Mostly the tags that may have no number.
+        tag |= 0x20 if rng.random() < 0.9 else 0
+        return bytes((tag, 0x80)) + b"".join(any_tile(rng) for _ in range(rng.choice((0, 0, 1, 1, 2)))) + b"\0\0"
+    body = rng.randbytes(rng.choice((0, 1, 2, 5)))
+    return bytes((tag,)) + any_length(rng, len(body)) + body
+
+
 def facility(rng):
     tiles = b""
     style = rng.random()
@@ -749,8 +811,7 @@ def facility(rng):
         elif style < 0.6:
             tile = bytes((rng.randrange(256), 0))
         else:
-            body = rng.randbytes(rng.choice((0, 1, 2, 5)))
-            tile = bytes((rng.randrange(256),)) + any_length(rng, len(body)) + body
+            tile = any_tile(rng)
         if len(tiles) + len(tile) > 254 and rng.random() < 0.95:
             break
         tiles += tile
@@ -906,9 +967,9 @@ def account_input(rng, length):
 def component_source(rng):
     """Octets for the reader without end: valid, damaged in order, damaged at random, noise."""
     orderly = sweep(rng)
-    makers = (valid_component, lambda rng: next(orderly), spoil, strange_code, long_component, noise)
+    makers = (valid_component, lambda rng: next(orderly), spoil, strange_code, long_component, nested, noise)
     while True:
-        yield rng.choices(makers, (25, 35, 26, 7, 2, 5))[0](rng)
+        yield rng.choices(makers, (25, 35, 24, 7, 2, 2, 5))[0](rng)
 
 
 def lines(seed, count):

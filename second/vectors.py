@@ -1,9 +1,10 @@
-"""Runs the vectors of document 01 and self-checks against aoc.py.
+"""Runs the vectors of documents 01 and 02 and self-checks against aoc.py.
 
 python3 vectors.py [COUNT]: COUNT generated components for the self-checks.
 """
 
 import random
+import re
 import sys
 
 import aoc
@@ -100,6 +101,96 @@ def components():
     check("element without component", aoc.element(octets("1C 01 91")), (15, []))
 
 
+# Lengths without a number (request 3 of document 02): a component, and its shortest form or its refusal with the place of the
+# octet that shows it, where one is told. Octets in round brackets are repeated.
+UNNUMBERED = (
+    ("A1 80 02 01 05 02 01 1E 0A 01 01 00 00", "A1 09 02 01 05 02 01 1E 0A 01 01"),
+    ("A1 80 02 01 04 02 01 23 30 80 81 00 00 00 00 00", "A1 0A 02 01 04 02 01 23 30 02 81 00"),
+    ("A1 0C 02 01 04 02 01 23 30 80 81 00 00 00", "A1 0A 02 01 04 02 01 23 30 02 81 00"),
+    ("A1 80 02 01 04 02 01 23 30 02 81 00 00 00", "A1 0A 02 01 04 02 01 23 30 02 81 00"),
+    ("A1 80 02 01 04 02 01 23 30 82 00 04 30 80 00 00 00 00", "40@14"),
+    ("A1 80 02 01 01 02 01 21 30 80 A1 80 81 03 45 55 52 A2 80 81 01 32 82 01 01 00 00 00 00 82 01 00 00 00 00 00",
+     "A1 1A 02 01 01 02 01 21 30 12 A1 0D 81 03 45 55 52 A2 06 81 01 32 82 01 01 82 01 00"),
+    ("A2 80 02 01 05 30 80 02 01 1E 05 00 00 00 00 00", "A2 0A 02 01 05 30 05 02 01 1E 05 00"),
+    ("A3 80 02 01 05 02 01 1A 00 00", "A3 06 02 01 05 02 01 1A"),
+    ("A4 80 05 00 80 01 02 00 00", "A4 05 05 00 80 01 02"),
+    ("A1 80 02 01 04 02 01 23 30 80 81 00 A0 80 A1 80 0A 01 00 12 01 37 00 00 00 00 00 00 00 00",
+     "A1 14 02 01 04 02 01 23 30 0C 81 00 A0 08 A1 06 0A 01 00 12 01 37"),
+    ("A1 80 02 01 01 02 01 21 30 80 A1 80 81 02 00 00 A2 06 81 01 00 82 01 00 00 00 82 01 00 00 00 00 00",
+     "A1 19 02 01 01 02 01 21 30 11 A1 0C 81 02 00 00 A2 06 81 01 00 82 01 00 82 01 00"),
+    ("A1 80", "1"),
+    ("A1 80 00 00", "6"),
+    ("A1 80 02 01 05 02 01 1E 0A 01 01", "1"),
+    ("A1 80 02 01 05 02 01 1E 0A 01 01 00", "1"),
+    ("A1 80 02 01 05 02 01 1E 0A 01 01 00 00 00 00", "5"),
+    ("A1 80 02 01 04 02 01 23 30 80 81 00 00 00", "1"),
+    ("A1 80 02 01 05 02 01 1E 0A 7F 01 00 00", "1"),
+    ("A1 80 02 01 05 02 82 00", "1"),
+    ("A1 80 02 01 05 02 01 1E 0A 80 01 00 00", "2"),
+    ("A1 80 0A 01 05 02 01 1E 0A 83 00 00", "2"),
+    ("A1 09 0A 01 05 02 01 1E 0A 83 00", "6"),
+    ("A1 80 02 01 05 02 01 1E 0A 01 01 00 80 00 00", "2"),
+    ("A1 80 02 01 04 02 01 23 30 02 83 FF 00 00", "41@10"),
+    ("A1 80 02 01 07 06 00 00", "1"),
+    ("A1 80 02 01 07 06 00 00 00", "7"),
+    ("A1 80 02 01 05 02 01 1E 0A 01 01 00 01 55 00 00", "6"),
+    ("A1 80 02 01 05 02 01 1E 0A 01 01 00 81 00", "1"),
+    ("A1 80 02 01 05 02 01 1E 0A 01 01 00 81 00 00 00", "6"),
+    ("A1 0B 02 01 05 02 01 1E 0A 01 01 00 00", "6"),
+    ("A1 0C 02 01 04 02 01 23 30 04 81 00 00 00", "41@12"),
+    ("A1 0A 02 01 05 02 80 1E 0A 01 01 00", "2"),
+    ("A1 0B 02 01 04 02 01 23 30 80 81 00 00", "42@8"),
+    ("A1 80 02 01 04 02 01 23 30 04 30 80 A1 00 00 00", "42@10"),
+    ("A1 0E 02 01 04 02 01 23 30 80 30 83 00 00 00 00", "2"),
+    ("A1 0D 02 01 01 02 01 21 30 80 A1 80 81 00 00", "42@8"),
+    ("A2 0A 02 01 05 30 80 02 01 1E 05 00", "6"),
+    ("A1 80 02 01 01 02 01 1F 30 80 00 00 00 00", "40@10"),
+    ("A1 0E 02 01 01 02 01 1F 30 80 A1 02 00 00 00 00", "41@10"),
+    ("A1 15 02 01 01 02 01 1F 30 80 30 80 0A 01 00 A5 80 00 00 00 00 00 00", "41@15"),
+    ("24 80 00 00", "4"),
+    ("A1 80 (30 80) × 126", "1"),
+    ("A1 80 (30 80) × 62 (00 00) × 63", "6"),
+    ("A1 80 02 01 05 (30 80) × 62 (00 00) × 63", "3"),
+)
+# Facility elements, and their starts or the refusal.
+TILINGS = (
+    ("1C 0E 91 A1 80 02 01 05 02 01 1E 0A 01 01 00 00", (0, [3])),
+    ("1C 14 91 A1 80 02 01 05 02 01 1E 0A 01 01 00 00 A1 04 02 01 07 06", (0, [3, 16])),
+    ("1C 07 91 30 80 30 80 00 00", (15, [])),
+    ("1C 05 91 A1 80 05 83", (15, [])),
+    ("1C 05 91 81 80 00 00", (15, [])),
+    ("1C 05 91 00 00 00 00", (0, [3, 5])),
+    ("1C 07 91 FF 80 00 00 00 00", (0, [3, 7])),
+)
+
+
+def repeated(text):
+    """The octets of a text in which some stand in round brackets before how often they come."""
+    return octets(re.sub(r"\(([^)]*)\) × (\d+)", lambda m: (m[1] + " ") * int(m[2]), text))
+
+
+def refusal(text):
+    """The number of a refusal. 40 to 45 tell finer why an argument or result is refused 9."""
+    number = int(text.partition("@")[0])
+    return 9 if 40 <= number <= 45 else number
+
+
+def unnumbered():
+    for i, (given, wanted) in enumerate(UNNUMBERED, 1):
+        number, record = aoc.read(repeated(given))
+        if " " in wanted:
+            check(f"L{i}", (number, aoc.write(record, 254)), (0, (0, octets(wanted))))
+            check(f"L{i}, the same with numbers", record, aoc.read(octets(wanted))[1])
+        else:
+            check(f"L{i}", (number, record), (refusal(wanted), None))
+    for given, wanted in TILINGS:
+        check(given, aoc.element(octets(given)), wanted)
+        # A component of an element that was cut rightly is whole: it has its end, and nothing after it.
+        starts = wanted[1] + [len(octets(given))]
+        for i, j in zip(starts, starts[1:]):
+            check("a tile", aoc.read(octets(given)[i:j])[0] in (1, 3, 5), False)
+
+
 def account(setup, *events):
     """An account after its Setup and events, and the outcomes of the events."""
     made = aoc.Account()
@@ -156,7 +247,7 @@ def line_program():
     given = (C3_LOOSE.hex(" ").upper() + "\nA1 80 02 01 05 02 01 1E 0A 01 01 00 00\n"
              + C7.hex(" ").lower() + "\n")
     wanted = ("A1 09 02 01 05 02 01 1E 0A 01 01\n"
-              "refused 2\n"
+              "A1 09 02 01 05 02 01 1E 0A 01 01\n"
               "A1 0A 02 01 04 02 01 23 30 02 81 00\n")
     check("three lines", aoc.line_program(given.encode()), wanted)
     check("no line", aoc.line_program(b""), "")
@@ -186,11 +277,17 @@ def generated(count):
         written_number, written = aoc.write(found, 254)
         check("written", (written_number, len(written) <= len(given)), (0, True))
         check("read back", aoc.read(written), (0, found))
+    for _ in range(count):
+        given = inputs.facility(rng)
+        number, starts = aoc.element(given)
+        for i, j in zip(starts, starts[1:] + [len(given)]):
+            check("a tile", aoc.read(given[i:j])[0] in (1, 3, 5), False)
 
 
 def main():
     count = int(sys.argv[1]) if len(sys.argv) > 1 else 3000
     components()
+    unnumbered()
     lists()
     line_program()
     generated(count)

@@ -180,7 +180,7 @@ static void test_refusals(void)
     static const uint8_t allowed[6] = {0, 1 << AOC_IDLE, 1 << AOC_ESTABLISHMENT, 1 << AOC_ESTABLISHMENT | 1 << AOC_ACTIVE,
                                        1 << AOC_CLEARING, 1 << AOC_ESTABLISHMENT | 1 << AOC_ACTIVE | 1 << AOC_CLEARING};
     static const char *const bad[] = {
-        "", "A1 80", "", "A5", "A1 00 00", "A1 00", "A1 09 02 01 07 02 01 25 0A 01 01", "A3 06 02 01 05 02 01 01",
+        "", "A1 83", "", "A5", "A1 00 00", "A1 00", "A1 09 02 01 07 02 01 25 0A 01 01", "A3 06 02 01 05 02 01 01",
         "A1 08 02 01 03 02 01 23 81 00",
     };
     static const aoc_services all_three = {1, 1, 1};

@@ -88,6 +88,15 @@ second("every octet value alone", b"".join(b"%02X\n%02x\n" % (x, x) for x in ran
 second("each refusal", b"\n".join(text_of(bytes.fromhex(x)) for x in (
     "A1", "A180", "A5", "A1090201050201 1E0A01 0100", "A1030201", "A109020105020125050000", "A3060201050201FF", "A109020106020120 02010B")))
 
+fixed("lengths without a number", b"""\
+A1 80 02 01 01 02 01 21 30 80 A1 80 81 03 45 55 52 A2 80 81 01 32 82 01 01 00 00 00 00 82 01 00 00 00 00 00
+A1 0C 02 01 04 02 01 23 30 80 81 00 00 00
+A1 80 02 01 04 02 01 23 30 02 81 00 00 00
+A1 80 02 01 05 02 01 1E 0A 01 01
+A1 80 02 01 05 02 01 1E 0A 80 01 00 00
+""", C1 + b"\n" + C7 + b"\n" + C7 + b"\nrefused 1\nrefused 2\n")
+fixed("127 elements in one another", b"A1 80" + b" 30 80" * 126 + b"\nA1 80" + b" 30 80" * 62 + b" 00 00" * 63 + b"\n", b"refused 1\nrefused 6\n")
+
 # ---- long lines
 
 fixed("254 octets that are read", FULL + b"\n", aoc.line_program(FULL).encode())
@@ -106,7 +115,8 @@ fixed("many lines", EXAMPLE * 40_000, EXPECTED * 40_000)
 # ---- random damage, as characters
 
 rng = random.Random(1)
-GOOD = [C1, C3, C7, FULL, b"A1 11 02 01 02 02 01 24 30 09 30 07 A1 05 30 03 02 01 0C", b"A3 06 02 01 05 02 01 1A", b""]
+GOOD = [C1, C3, C7, FULL, b"A1 11 02 01 02 02 01 24 30 09 30 07 A1 05 30 03 02 01 0C", b"A3 06 02 01 05 02 01 1A",
+        b"A1 80 02 01 05 02 01 1E 0A 01 01 00 00", b"A1 80 02 01 02 02 01 24 30 80 30 80 A1 80 30 80 02 01 0C 00 00 00 00 00 00 00 00 00 00", b""]
 
 
 def damaged():

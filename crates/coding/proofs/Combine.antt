@@ -11,11 +11,12 @@ use lib.ListN.{length, getD, take, drop, length-append, length-take, List·getD-
 use lib.Seq.{getD-take, getD-drop}
 use lib.Dec.{ltb, leb, eqb}
 use borrow.Author.Tests.{ltb-true, ltb-false, leb-true, leb-false, eqb-true, lt-ltb, le-leb, lt-leb, eq-eqb}
-use Rattle.coding.specs.Reader.{got, tagged, choice, opened, closed, constructed, Judged, judged, part, primitive, optional, entries, listOf}
-use Rattle.coding.specs.Codec.{lengthOctets, Opens, Holds, has, apart, Leaf, Run, prim, cons, nothing, pair, eitherMeans, alt, over, writeAll, all, MeansAll, some·more, maybe, MeansMaybe}
-use Rattle.coding.proofs.Basic.{never, passing, failing, either-way, chain, same-got, picked, unpicked, followed, and-left, and-right, and-both, or-left, or-right, or-no, or-false, has-left, has-right, apart-has, holds-left, holds-right, holds-part}
+use Rattle.coding.specs.Reader.{got, tagged, choice, opened, closed, constructed, Judged, judged, part, primitive, optional, entries, listOf, composite}
+use Rattle.coding.specs.Codec.{lengthOctets, Opens, Spans, definite, Walk, here, Holds, simple, has, apart, Leaf, Run, prim, cons, nothing, pair, eitherMeans, alt, over, writeAll, all, MeansAll, some·more, maybe, MeansMaybe}
+use Rattle.coding.proofs.Basic.{never, passing, failing, either-way, chain, same-got, picked, unpicked, followed, and-left, and-right, and-both, or-left, or-right, or-no, or-false, not-yes, has-left, has-right, apart-has, holds-left, holds-right, holds-part}
 use Rattle.coding.specs.declared.Extent.{Extent}
-use Rattle.coding.proofs.Header.{tagged-yes, tagged-is, opened-sound, opened-complete, opened-forward, opened-written, opened-shortest}
+use Rattle.coding.proofs.Header.{tagged-yes, tagged-is, opened-sound, opened-complete, opened-forward, opened-written, opened-shortest, spans-simple, spans-complete, spans-tag, spans-range, spans-forward, spans-shortest, opened-walk, spans-walk}
+use Rattle.coding.proofs.Search.{walk-join}
 use Rattle.coding.proofs.Laws.{Octets, clear, LeafLaws, RunLaws}
 
 pub forward : {A : Type 0} {f : Run A} (F : RunLaws f) (s : List ℕ) (a n : ℕ) (x : A) → f .Means x s a n → a ≤ n
@@ -38,6 +39,7 @@ nothingLaws = record {
   fine = λ s a n x m. refl;
   shortest = λ s a n x os m. omega arith;
   heads = λ s a n x m. inr (m, refl);
+  walked = λ s a n x m. subst (Walk s a) m here;
 }
 
 -- ---- one run after another
@@ -108,6 +110,7 @@ module _ {A B : Type 0} (f : Run A) (g : Run B) (F : RunLaws f) (G : RunLaws g) 
     fine = λ s a n x (m, u, v). and-both (f .valid (x .0)) (g .valid (x .1)) (F .fine s a m (x .0) u) (G .fine s m n (x .1) v);
     shortest = λ s a n x os (m, u, v). omega (arith, length-append (f .write (x .0)) (g .write (x .1)), F .shortest s a m (x .0) os u, G .shortest s m n (x .1) os v);
     heads = pair-heads;
+    walked = λ s a n x (m, u, v). walk-join (F .walked s a m (x .0) u) (G .walked s m n (x .1) v);
   }
 
 -- ---- elements
@@ -136,17 +139,18 @@ pub has-one : (tag o : ℕ) → o ≡ tag → has (tag ∷ []) o ≡ true
 unfolding has
 has-one tag o q = ap (λ b. b || false) (eq-eqb o tag q)
 
-pub primLaws : {A : Type 0} (tag : ℕ) (l : Leaf A) → LeafLaws l → RunLaws (prim tag l)
+pub primLaws : {A : Type 0} (tag : ℕ) (l : Leaf A) → LeafLaws l → simple tag ≡ true → RunLaws (prim tag l)
 unfolding prim primitive judged part
-primLaws tag l L = record {
+primLaws tag l L plain = record {
   sound = λ s a e n x os ae es r.
       let c = chain (opened tag s a e) _ r in
       let ex : Extent = c .0 in
       let j = judged-is (l .judge (take (ex .stop - ex .start) (drop (ex .start) s))) a (c .1) (c .3) in
-      let o = opened-sound tag s a e ex (c .1) (c .2) in
+      let p = opened-sound tag s a e ex (c .1) (c .2) in
+      let o = spans-simple low (p .0) in
       let v = L .sound _ x (octets-part s (ex .stop - ex .start) (ex .start) os) (j .0) in
       let q : ex .stop ≡ n = o .1 ∙ j .1 in (
-        omega (arith, o .2, j .1),
+        omega (arith, p .1, j .1),
         (
           ex .start,
           subst (λ (k : ℕ). Opens tag s a (ex .start) k) (j .1) (o .0),
@@ -168,32 +172,46 @@ primLaws tag l L = record {
       opened-shortest tag s a c n (l .write x) os op
       (subst (λ (xs : List ℕ). c + length xs ≤ n) w (omega (arith, length-take (n - c) (drop c s), op .2)));
   heads = λ s a n x (c, op, w, v). inl (opened-forward op, has-one tag (getD s a 0) (op .0));
+  walked = λ s a n x (c, op, w, v). opened-walk tag s a c n real op;
 }
+  where
+    real : ltb 0 tag ≡ true
+    real = and-left (ltb 0 tag) (not (composite tag)) plain
 
-pub consLaws : {A : Type 0} (tag : ℕ) (f : Run A) → RunLaws f → RunLaws (cons tag f)
+    low : composite tag ≡ false
+    low = not-yes (composite tag) (and-right (ltb 0 tag) (not (composite tag)) plain)
+
+pub consLaws : {A : Type 0} (tag : ℕ) (f : Run A) → RunLaws f → ltb 0 tag ≡ true → RunLaws (cons tag f)
 unfolding cons constructed closed
-consLaws tag f F = record {
+consLaws tag f F real = record {
   sound = λ s a e n x os ae es r.
       let c = chain (opened tag s a e) _ r in
       let ex : Extent = c .0 in
       let o = opened-sound tag s a e ex (c .1) (c .2) in
+      let g = spans-range (o .0) in
       let d = chain (f .read s (ex .start) (ex .stop)) _ (c .3) in
-      let i = F .sound s (ex .start) (ex .stop) (d .1) (d .0) os (omega (arith, o .0 .2, o .1)) (omega (arith, o .1, o .2)) (d .2) in
+      let i = F .sound s (ex .start) (ex .stop) (d .1) (d .0) os (g .1) (omega (arith, g .2, o .1)) (d .2) in
       let z = passing (eqb (d .1) (ex .stop)) _ _ _ (d .3) in
-      let q : d .1 ≡ c .1 = eqb-true (d .1) (ex .stop) (z .0) ∙ o .1 in
-      same-got (λ y k. (k ≤ e) × ((j : ℕ) × Opens tag s a j k × f .Means y s j k)) (z .1)
-      (o .2, (ex .start, o .0, subst (λ (k : ℕ). f .Means (d .0) s (ex .start) k) q (i .1)));
-  complete = λ s a n e x ne es cl (c, op, m).
-      followed _ (opened-complete tag s a c n e ne op)
-      ∙ followed _ (F .complete s c n n x (omega arith) (omega arith) (ap (λ b. b || not (f .avoid (getD s n 0))) (le-leb n n (omega arith))) m)
-      ∙ picked _ _ (eq-eqb n n refl);
+      let q : d .1 ≡ ex .stop = eqb-true (d .1) (ex .stop) (z .0) in
+      same-got (λ y k. (k ≤ e) × ((j m : ℕ) × Spans tag s a j m k × f .Means y s j m)) (z .1)
+      (o .1, (ex .start, ex .stop, o .0, subst (λ (k : ℕ). f .Means (d .0) s (ex .start) k) q (i .1)));
+  complete = λ s a n e x ne es cl (c, m, op, k).
+      let g = spans-range op in
+      followed _ (spans-complete tag s a c m n e ne op (F .walked s c m x k))
+      ∙ followed _ (F .complete s c m m x (omega arith) (omega (arith, g .2)) (ap (λ b. b || not (f .avoid (getD s m 0))) (le-leb m m (omega arith))) k)
+      ∙ picked _ _ (eq-eqb m m refl);
   written = λ s a x v b h.
       let w : List ℕ = f .write x in
-      let o = opened-written tag s a w (omega (arith, length-append (lengthOctets (length w)) w)) h in
-      (o .0, o .1, subst (λ (k : ℕ). f .Means x s (o .0) k) (o .3) (F .written s (o .0) x v (omega (arith, length-append (lengthOctets (length w)) w)) (o .2)));
-  fine = λ s a n x (c, op, m). F .fine s c n x m;
-  shortest = λ s a n x os (c, op, m). opened-shortest tag s a c n (f .write x) os op (F .shortest s c n x os m);
-  heads = λ s a n x (c, op, m). inl (opened-forward op, has-one tag (getD s a 0) (op .0));
+      let o = opened-written tag s a w (omega (arith, length-append (lengthOctets (length w)) w)) h in (
+        o .0,
+        a + length (tag ∷ lengthOctets (length w) ++ w),
+        definite (o .1) refl,
+        subst (λ (k : ℕ). f .Means x s (o .0) k) (o .3) (F .written s (o .0) x v (omega (arith, length-append (lengthOctets (length w)) w)) (o .2)),
+      );
+  fine = λ s a n x (c, m, op, k). F .fine s c m x k;
+  shortest = λ s a n x os (c, m, op, k). spans-shortest tag s a c m n (f .write x) os op (F .shortest s c m x os k);
+  heads = λ s a n x (c, m, op, k). inl (spans-forward op, has-one tag (getD s a 0) (spans-tag op));
+  walked = λ s a n x (c, m, op, k). spans-walk tag s a c m n real op (F .walked s c m x k);
 }
 
 -- ---- the same octets for another type
@@ -217,6 +235,7 @@ overLaws to from ok f back forth F = record {
   fine = λ s a n y (o, m). and-both (ok y) (f .valid (from y)) o (F .fine s a n (from y) m);
   shortest = λ s a n y os (o, m). F .shortest s a n (from y) os m;
   heads = λ s a n y (o, m). F .heads s a n (from y) m;
+  walked = λ s a n y (o, m). F .walked s a n (from y) m;
 }
 
 -- ---- one of two
@@ -297,6 +316,7 @@ module _ {A B : Type 0} (tag : ℕ) (f : Run A) (g : Run B) (F : RunLaws f) (G :
     fine = λ s a n. elim [ inl x ↦ F .fine s a n x | inr y ↦ G .fine s a n y ];
     shortest = λ s a n. elim [ inl x ↦ F .shortest s a n x | inr y ↦ G .shortest s a n y ];
     heads = alt-heads one-tag full;
+    walked = λ s a n. elim [ inl x ↦ F .walked s a n x | inr y ↦ G .walked s a n y ];
   }
 
 -- ---- entries to the end
@@ -390,6 +410,10 @@ module _ {A : Type 0} (tag : ℕ) (f : Run A) (F : RunLaws f) (full : f .empty �
   rows-shortest s a n (x ∷ xs) os (k, u, v) =
       omega (arith, length-append (f .write x) (writeAll (f .write) xs), F .shortest s a k x os u, rows-shortest s k n xs os v)
 
+  rows-walked : (s : List ℕ) (a n : ℕ) (xs : List A) → Rows xs s a n → Walk s a n
+  rows-walked s a n [] m = subst (Walk s a) m here
+  rows-walked s a n (x ∷ xs) (k, u, v) = walk-join (F .walked s a k x u) (rows-walked s k n xs v)
+
   at-end : (n e o : ℕ) → leb e n || not true ≡ true → e ≤ n
   at-end n e o q = leb-true e n (or-false (leb e n) q)
 
@@ -422,6 +446,7 @@ module _ {A : Type 0} (tag : ℕ) (f : Run A) (F : RunLaws f) (full : f .empty �
         and-both (ltb 0 (length xs)) _ (lt-ltb 0 (length xs) o) (and-both (leb (length xs) most) (all (f .valid) xs) (le-leb (length xs) most (lm .0)) (rows-fine s a n xs (lm .1)));
     shortest = λ s a n xs os (o, lm). rows-shortest s a n xs os (lm .1);
     heads = λ s a n xs (o, lm). inl (grows s a n xs o (lm .1));
+    walked = λ s a n xs (o, lm). rows-walked s a n xs (lm .1);
   }
 
 -- ---- an element or none
@@ -472,4 +497,5 @@ module _ {A : Type 0} (tag : ℕ) (f : Run A) (F : RunLaws f) where
         | inr h ↦ absurd (true≢false (sym (h .1) ∙ full))
       ]
     ];
+    walked = λ s a n. elim [ none ↦ λ m. subst (Walk s a) m here | some x ↦ F .walked s a n x ];
   }

@@ -3,20 +3,20 @@
 use Prim.Native.Nat.{ℕ, _+_, _≤_, _<_}
 use mathlib.Core.Path.{_≡_, refl, sym, ap, _∙_, subst}
 use mathlib.Core.List.{List}
-use mathlib.Core.Bool.{true, false, not, _||_, cond}
+use mathlib.Core.Bool.{Bool, true, false, not, _||_, cond}
 use mathlib.Core.Logic.{inl}
 use native.Mathlib.Omega.{arith}
 use lib.ListN.{getD}
-use lib.Dec.{leb, eqb}
+use lib.Dec.{ltb, leb, eqb}
 use borrow.Author.Tests.{leb-true, leb-false, lt-leb, le-leb, eqb-true, eq-eqb, ne-eqb}
 use Rattle.coding.specs.declared.Extent.{Extent}
 use Rattle.coding.specs.Reader.{Ans, Fault, got, halt, code, after, choice, blamed, lengthAt, opened, enteredAny, closed, constructed, has}
 use Rattle.coding.specs.Reader.Fault.{missing, unexpected}
-use Rattle.coding.specs.Codec.{Run, Opens, cons, frames}
+use Rattle.coding.specs.Codec.{Run, Spans, apart, cons, frames}
 use Rattle.coding.specs.Shown.{shown}
-use Rattle.coding.proofs.Basic.{passing, failing, chain, same-got, picked, unpicked, followed, and-left, and-right, and-both, or-false}
+use Rattle.coding.proofs.Basic.{passing, failing, chain, same-got, picked, unpicked, followed, and-left, and-right, and-both, or-false, apart-has}
 use Rattle.coding.proofs.Laws.{RunLaws}
-use Rattle.coding.proofs.Header.{tagged-yes, opened-complete, opened-forward}
+use Rattle.coding.proofs.Header.{tagged-yes, spans-complete, spans-tag, spans-range, spans-forward}
 use Rattle.coding.proofs.Combine.{consLaws}
 use Rattle.coding.proofs.More.{blamed-got}
 use Rattle.coding.proofs.Reading.{some-code}
@@ -49,6 +49,10 @@ module _ (tags : List ℕ) (m : Fault → Fault) (w : Fault) (s : List ℕ) (a e
         same-got (λ y k. k ≡ e) (t .1) (eqb-true (b .1) e (t .0)),
       )
 
+not-no : (b : Bool) → not b ≡ false → b ≡ true
+not-no true e = refl
+not-no false e = sym e
+
 module _ {A : Type 0} (tags : List ℕ) (tagOf : A → ℕ) (m : Fault → Fault) (w : Fault) (f : ℕ → Run A) where
   -- what is read ends where the octets end
   pub frames-ends : (s : List ℕ) (a e n : ℕ) (x : A) → (frames tags tagOf m w f) .read s a e ≡ got x n → n ≡ e
@@ -60,31 +64,41 @@ module _ {A : Type 0} (tags : List ℕ) (tagOf : A → ℕ) (m : Fault → Fault
       same-got (λ y k. k ≡ e) (z .1) (any-got tags m w s a e (c .2) .2)
 
   -- an element of one of the tags is one of that tag, whose laws `cons` has
-  pub framesLaws : ((t : ℕ) → RunLaws (f t)) → ((t : ℕ) (x : A) → has tags t ≡ true → (f t) .valid x ≡ true → tagOf x ≡ t) → RunLaws (frames tags tagOf m w f)
+  pub framesLaws : ((t : ℕ) → RunLaws (f t)) → ((t : ℕ) (x : A) → has tags t ≡ true → (f t) .valid x ≡ true → tagOf x ≡ t) → apart tags (λ t. not (ltb 0 t)) ≡ true
+      → RunLaws (frames tags tagOf m w f)
   unfolding frames cons constructed closed after blamed
-  framesLaws F own = record {
+  framesLaws F own some = record {
     sound = λ s a e n x os ae es r.
         let t : ℕ = getD s a 0 in
         let c = chain (enteredAny tags m w s a e) _ r in
         let g = any-got tags m w s a e (c .2) in
-        let p = consLaws t (f t) (F t) .sound s a e n x os ae es (followed _ (g .1) ∙ c .3) in
-        let q : t ≡ tagOf x = sym (own t x (g .0) (consLaws t (f t) (F t) .fine s a n x (p .1))) in
-        (p .0, subst (λ (u : ℕ). (has tags u ≡ true) × ((c : ℕ) × Opens u s a c n × (f u) .Means x s c n)) q (g .0, p .1));
-    complete = λ s a n e x ne es cl (h, (c, op, k)).
+        let C = consLaws t (f t) (F t) (named t (g .0)) in
+        let p = C .sound s a e n x os ae es (followed _ (g .1) ∙ c .3) in
+        let q : t ≡ tagOf x = sym (own t x (g .0) (C .fine s a n x (p .1))) in
+        (p .0, subst (λ (u : ℕ). (has tags u ≡ true) × ((c k : ℕ) × Spans u s a c k n × (f u) .Means x s c k)) q (g .0, p .1));
+    complete = λ s a n e x ne es cl (h, (c, l, op, k)).
         let t : ℕ = getD s a 0 in
         let en = leb-true e n (or-false (leb e n) cl) in
-        let ae : a < e = omega (arith, opened-forward op) in
-        let k' : (f t) .Means x s c n = subst (λ (u : ℕ). (f u) .Means x s c n) (sym (op .0)) k in
-        followed _ (any-opens tags m w s a e ae (ap (has tags) (op .0) ∙ h) _ (sym (opens-one tags m w s a e ae) ∙ opened-complete t s a c n e ne (refl, op .1, op .2)) ∙ picked _ _ (eq-eqb n e (omega arith)))
-        ∙ followed _ (F t .complete s c n n x (omega arith) (omega arith) (ap (λ b. b || not ((f t) .avoid (getD s n 0))) (le-leb n n (omega arith))) k')
-        ∙ picked _ _ (eq-eqb n n refl);
+        let g = spans-range op in
+        let ae : a < e = omega (arith, spans-forward op) in
+        let k' : (f t) .Means x s c l = subst (λ (u : ℕ). (f u) .Means x s c l) (sym (spans-tag op)) k in
+        let op' : Spans t s a c l n = subst (λ (u : ℕ). Spans u s a c l n) (sym (spans-tag op)) op in
+        let walk = F t .walked s c l x k' in
+        followed _ (any-opens tags m w s a e ae (ap (has tags) (spans-tag op) ∙ h) _ (sym (opens-one tags m w s a e ae) ∙ spans-complete t s a c l n e ne op' walk) ∙ picked _ _ (eq-eqb n e (omega arith)))
+        ∙ followed _ (F t .complete s c l l x (omega arith) (omega (arith, g .2)) (ap (λ b. b || not ((f t) .avoid (getD s l 0))) (le-leb l l (omega arith))) k')
+        ∙ picked _ _ (eq-eqb l l refl);
     written = λ s a x v b h.
         let t : ℕ = tagOf x in
-        (and-left (has tags t) _ v, consLaws t (f t) (F t) .written s a x (and-right (has tags t) _ v) b h);
-    fine = λ s a n x (h, k). let t : ℕ = tagOf x in and-both (has tags t) _ h (consLaws t (f t) (F t) .fine s a n x k);
-    shortest = λ s a n x os (h, k). let t : ℕ = tagOf x in consLaws t (f t) (F t) .shortest s a n x os k;
-    heads = λ s a n x (h, (c, op, k)). inl (opened-forward op, ap (has tags) (op .0) ∙ h);
+        let o = and-left (has tags t) _ v in
+        (o, consLaws t (f t) (F t) (named t o) .written s a x (and-right (has tags t) _ v) b h);
+    fine = λ s a n x (h, k). let t : ℕ = tagOf x in and-both (has tags t) _ h (consLaws t (f t) (F t) (named t h) .fine s a n x k);
+    shortest = λ s a n x os (h, k). let t : ℕ = tagOf x in consLaws t (f t) (F t) (named t h) .shortest s a n x os k;
+    heads = λ s a n x (h, (c, l, op, k)). inl (spans-forward op, ap (has tags) (spans-tag op) ∙ h);
+    walked = λ s a n x (h, k). let t : ℕ = tagOf x in consLaws t (f t) (F t) (named t h) .walked s a n x k;
   }
+    where
+      named : (t : ℕ) → has tags t ≡ true → ltb 0 t ≡ true
+      named t h = not-no (ltb 0 t) (apart-has tags (λ o. not (ltb 0 o)) t some h)
 
 -- ---- the code's steps: nothing there, another tag, a fault of the length octets, something after it, or its contents
 

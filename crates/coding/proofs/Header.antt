@@ -1,19 +1,22 @@
--- Tag and length octets: any form of a length is read, the shortest is written, and none is shorter.
+-- Tag and length octets: any form of a length is read, with a number and without, the shortest is written, and none is shorter.
 -- Assumes nothing.
-use Prim.Native.Nat.{ℕ, suc, _+_, _-_, _*_, _/_, _%_, _≤_, _<_}
-use mathlib.Core.Path.{_≡_, refl, sym, ap, _∙_, subst, subst₂}
-use mathlib.Core.List.{List, [], _∷_, _++_}
+use Prim.Native.Nat.{ℕ, suc, _+_, _-_, _≤_, _<_}
+use mathlib.Core.Path.{_≡_, refl, sym, ap, _∙_, subst}
+use mathlib.Core.List.{List, _∷_, _++_}
 use mathlib.Core.Bool.{Bool, true, false, true≢false, cond}
 use mathlib.Core.Logic.{inl, inr}
 use native.Mathlib.Omega.{arith}
 use lib.ListN.{length, getD, length-append}
-use lib.Dec.{ltb, leb, eqb}
-use borrow.Author.Tests.{ltb-true, ltb-false, leb-true, eqb-true, lt-ltb, le-ltb, le-leb, lt-leb, eq-eqb, ne-eqb}
+use lib.Dec.{ltb, eqb}
+use borrow.Author.Tests.{ltb-true, eqb-true, lt-ltb, eq-eqb}
 use Rattle.coding.specs.declared.Extent.{Extent}
-use Rattle.coding.specs.Reader.{Ans, got, tagged, neither, choice, extent, lengthAt, opened}
-use Rattle.coding.specs.Codec.{LengthForm, short, one, two, lengthOctets, Opens, Holds}
-use Rattle.coding.proofs.Basic.{never, passing, failing, either-way, same-got, picked, unpicked, holds-left, holds-right}
+use Rattle.coding.specs.Reader.{Ans, got, halt, tagged, neither, choice, composite, endless, findEnd, spanned, lengthAt, opened}
+use Rattle.coding.specs.Codec.{LengthForm, lengthOctets, Opens, Spans, definite, indefinite, Walk, here, past, nest, Element, counted, ended, Holds}
+use Rattle.coding.proofs.Basic.{never, failing, either-way, same-got, picked, unpicked, holds-left, holds-right}
 use Rattle.coding.proofs.Laws.{Octets}
+use Rattle.coding.proofs.Length.{number-sound, number-complete, length-written, length-most, length-shortest}
+use Rattle.coding.proofs.Search.{Inside, inside, endless-is, endless-yes, endless-octet, form-octet, walk-forward, walk-finds, search-walks}
+pub use Rattle.coding.proofs.Length.{length-forward}
 
 -- ---- tags
 
@@ -33,120 +36,111 @@ pub neither-never : {A : Type 0} (s : List ℕ) (a e : ℕ) {x : A} {n : ℕ} �
 unfolding neither
 neither-never s a e r = never (failing (ltb a e) _ _ _ r .1)
 
--- ---- reading a length
-
--- what is found where a length is read
-abbrev Found : List ℕ → ℕ → ℕ → Extent → ℕ → Type 0
-Found s p e x n = LengthForm s p (n - x .start) (x .start) × (x .start ≤ n) × (x .stop ≡ n) × (n ≤ e)
-
-placed : (s : List ℕ) (p tag c k e : ℕ) {x : Extent} {n : ℕ} → LengthForm s p k c → extent tag c k e ≡ got x n → Found s p e x n
-unfolding extent
-placed s p tag c k e f r =
-    let q = passing (leb (c + k) e) _ _ _ r in
-    let back : k ≡ c + k - c = omega arith in
-    same-got (Found s p e) (q .1) (subst (λ (j : ℕ). LengthForm s p j c) back f, omega arith, refl, leb-true (c + k) e (q .0))
-
-length-sound : (tag : ℕ) (s : List ℕ) (p e : ℕ) (x : Extent) (n : ℕ) → lengthAt tag s p e ≡ got x n → Found s p e x n
-unfolding lengthAt
-length-sound tag s p e x n r =
-    let o : ℕ = getD s p 0 in
-    let hi : ℕ = getD s (p + 1) 0 in
-    let lo : ℕ = getD s (p + 2) 0 in
-    elim (either-way (ltb o 128) _ _ (failing (leb e p) _ _ _ r .1)) [
-      | inl h ↦ placed s p tag (p + 1) o e (short (ltb-true o 128 (h .0)) refl refl) (h .1)
-      | inr h ↦ elim (either-way (eqb o 0x81) _ _ (h .1)) [
-        | inl k ↦ placed s p tag (p + 2) hi e (one (eqb-true o 0x81 (k .0)) refl refl) (failing (ltb e (p + 2)) _ _ _ (k .1) .1)
-        | inr k ↦
-            let q = passing (eqb o 0x82) _ _ _ (k .1) in
-            placed s p tag (p + 3) (hi * 256 + lo) e (two (eqb-true o 0x82 (q .0)) refl refl) (failing (ltb e (p + 3)) _ _ _ (q .1) .1)
-      ]
-    ]
-
--- ---- any form is read
-
-abbrev spanned : ℕ → ℕ → Ans Extent
-spanned c k = got (record { start = c; stop = c + k }) (c + k)
-
-length-complete : (tag : ℕ) (s : List ℕ) (p e k c : ℕ) → c + k ≤ e → LengthForm s p k c → lengthAt tag s p e ≡ spanned c k
-unfolding lengthAt extent
-length-complete tag s p e k c h (short l q r) =
-    let o : ℕ = getD s p 0 in
-    subst₂ (λ (j d : ℕ). lengthAt tag s p e ≡ spanned d j) q r
-    (unpicked _ _ (lt-leb e p (omega arith)) ∙ picked _ _ (lt-ltb o 128 l) ∙ picked _ _ (le-leb (p + 1 + o) e (omega arith)))
-length-complete tag s p e k c h (one l q r) =
-    let o : ℕ = getD s p 0 in
-    let hi : ℕ = getD s (p + 1) 0 in
-    subst₂ (λ (j d : ℕ). lengthAt tag s p e ≡ spanned d j) q r
-    (unpicked _ _ (lt-leb e p (omega arith)) ∙ unpicked _ _ (le-ltb o 128 (omega arith)) ∙ picked _ _ (eq-eqb o 0x81 l)
-    ∙ unpicked _ _ (le-ltb e (p + 2) (omega arith)) ∙ picked _ _ (le-leb (p + 2 + hi) e (omega arith)))
-length-complete tag s p e k c h (two l q r) =
-    let o : ℕ = getD s p 0 in
-    let n : ℕ = getD s (p + 1) 0 * 256 + getD s (p + 2) 0 in
-    let ne : o ≡ 0x81 → ⊥ = λ z. omega (arith, z) in
-    subst₂ (λ (j d : ℕ). lengthAt tag s p e ≡ spanned d j) q r
-    (unpicked _ _ (lt-leb e p (omega arith)) ∙ unpicked _ _ (le-ltb o 128 (omega arith)) ∙ unpicked _ _ (ne-eqb o 0x81 ne)
-    ∙ picked _ _ (eq-eqb o 0x82 l) ∙ unpicked _ _ (le-ltb e (p + 3) (omega arith)) ∙ picked _ _ (le-leb (p + 3 + n) e (omega arith)))
-
--- ---- the shortest is written, and none is shorter
-
-pub length-forward : {s : List ℕ} {p k c : ℕ} → LengthForm s p k c → p < c
-length-forward (short l q r) = omega arith
-length-forward (one l q r) = omega arith
-length-forward (two l q r) = omega arith
-
-length-written : (s : List ℕ) (p k : ℕ) → k ≤ 65535 → Holds s p (lengthOctets k) → LengthForm s p k (p + length (lengthOctets k))
-unfolding lengthOctets
-length-written s p k b h = go (ltb k 128) refl (ltb k 256) refl h
-  where
-    go : (t : Bool) → ltb k 128 ≡ t → (u : Bool) → ltb k 256 ≡ u
-        → Holds s p (cond t (k ∷ []) (cond u (129 ∷ k ∷ []) (130 ∷ k / 256 ∷ k % 256 ∷ [])))
-        → LengthForm s p k (p + length (cond t (k ∷ []) (cond u (129 ∷ k ∷ []) (130 ∷ k / 256 ∷ k % 256 ∷ []))))
-    go true q u r h = short (omega (arith, ltb-true k 128 q, h .1)) (h .1) refl
-    go false q true r h = one (h .1) (h .2 .1) refl
-    go false q false r h =
-        let e : p + 1 + 1 ≡ p + 2 = omega arith in
-        let hi : getD s (p + 1) 0 ≡ k / 256 = h .2 .1 in
-        let lo : getD s (p + 2) 0 ≡ k % 256 = subst (λ (j : ℕ). getD s j 0 ≡ k % 256) e (h .2 .2 .1) in
-        two (h .1) (omega (arith, hi, lo)) refl
-
--- the number of length octets of a smaller number is no more than any form of a larger takes
-length-shortest : (s : List ℕ) (p n c m : ℕ) → Octets s → m ≤ n → LengthForm s p n c → p + length (lengthOctets m) ≤ c
-unfolding lengthOctets
-length-shortest s p n c m os le f = go (ltb m 128) refl (ltb m 256) refl f
-  where
-    go : (t : Bool) → ltb m 128 ≡ t → (u : Bool) → ltb m 256 ≡ u → LengthForm s p n c
-        → p + length (cond t (m ∷ []) (cond u (129 ∷ m ∷ []) (130 ∷ m / 256 ∷ m % 256 ∷ []))) ≤ c
-    go true q u r f = omega (arith, length-forward f)
-    go false q true r (short l x y) = absurd (omega (arith, ltb-false m 128 q))
-    go false q true r (one l x y) = omega arith
-    go false q true r (two l x y) = omega arith
-    go false q false r (short l x y) = absurd (omega (arith, ltb-false m 128 q))
-    go false q false r (one l x y) = absurd (omega (arith, ltb-false m 256 r, os (p + 1)))
-    go false q false r (two l x y) = omega arith
-
 -- ---- an element's tag and length octets
-
-pub opened-sound : (tag : ℕ) (s : List ℕ) (a e : ℕ) (x : Extent) (n : ℕ) → opened tag s a e ≡ got x n
-    → Opens tag s a (x .start) n × (x .stop ≡ n) × (n ≤ e)
-unfolding opened choice
-opened-sound tag s a e x n r =
-    elim (either-way (tagged s a e tag) _ _ r) [
-      | inl h ↦
-          let f = length-sound a s (a + 1) e x n (h .1) in
-          ((tagged-is s a e tag (h .0) .1, f .0, f .1), f .2, f .3)
-      | inr h ↦ absurd (neither-never s a e (h .1))
-    ]
-
-pub opened-complete : (tag : ℕ) (s : List ℕ) (a c n e : ℕ) → n ≤ e → Opens tag s a c n → opened tag s a e ≡ got (record { start = c; stop = n }) n
-unfolding opened choice
-opened-complete tag s a c n e h (t, f, le) =
-    let sum : c + (n - c) ≡ n = omega arith in
-    picked _ _ (tagged-yes s a e tag (omega (arith, length-forward f)) t)
-    ∙ length-complete a s (a + 1) e (n - c) c (omega arith) f
-    ∙ ap (λ (j : ℕ). got (record { start = c; stop = j }) j) sum
 
 pub opened-forward : {tag : ℕ} {s : List ℕ} {a c n : ℕ} → Opens tag s a c n → a < n
 opened-forward (t, f, le) = omega (arith, length-forward f)
+
+pub spans-tag : {tag : ℕ} {s : List ℕ} {a c m n : ℕ} → Spans tag s a c m n → getD s a 0 ≡ tag
+spans-tag (definite o q) = o .0
+spans-tag (indefinite t b l c le z z' q) = t
+
+-- the contents stand inside, after tag and length octets
+pub spans-range : {tag : ℕ} {s : List ℕ} {a c m n : ℕ} → Spans tag s a c m n → (a + 2 ≤ c) × (c ≤ m) × (m ≤ n)
+spans-range (definite o q) = (omega (arith, length-forward (o .1)), omega (arith, o .2, q), omega (arith, q))
+spans-range (indefinite t b l c le z z' q) = (omega (arith, c), le, omega (arith, q))
+
+pub spans-forward : {tag : ℕ} {s : List ℕ} {a c m n : ℕ} → Spans tag s a c m n → a < n
+spans-forward o = let r = spans-range o in omega (arith, r .0, r .1, r .2)
+
+-- ---- length octets are read exactly where an element stands
+
+searched-sound : (s : List ℕ) (a e : ℕ) (x : Extent) (n : ℕ) (r : Ans ℕ) → findEnd s (a + 1 + 1) e ≡ r → composite (getD s a 0) ≡ true → getD s (a + 1) 0 ≡ 128
+    → spanned a (a + 1 + 1) r ≡ got x n → Element s a (x .start) (x .stop) n × (n ≤ e)
+unfolding spanned
+searched-sound s a e x n (got stop next) q b l h =
+    let w = search-walks s (a + 1 + 1) e stop next q in
+    let i : Inside s (a + 1 + 1) e (got stop next) = subst (Inside s (a + 1 + 1) e) q (inside s (a + 1 + 1) e) in
+    same-got (λ (y : Extent) j. Element s a (y .start) (y .stop) j × (j ≤ e)) h (ended b l (omega arith) (w .0) (w .2) (w .3) (w .1), i .2)
+searched-sound s a e x n (halt w p) q b l h = absurd (never h)
+
+pub read-element : (s : List ℕ) (a e : ℕ) (x : Extent) (n : ℕ) → lengthAt a s (a + 1) e ≡ got x n → Element s a (x .start) (x .stop) n × (n ≤ e)
+unfolding lengthAt
+read-element s a e x n r =
+    elim (either-way (endless s a (a + 1) e) _ _ r) [
+      | inl h ↦ let k = endless-is s a (a + 1) e (h .0) in searched-sound s a e x n (findEnd s (a + 1 + 1) e) refl (k .2) (k .1) (h .1)
+      | inr h ↦ let f = number-sound a s (a + 1) e x n (h .1) in (counted (f .0) (f .1) (f .2), f .3)
+    ]
+
+pub element-read : (s : List ℕ) (a c m n e : ℕ) → n ≤ e → Element s a c m n → lengthAt a s (a + 1) e ≡ got (record { start = c; stop = m }) n
+unfolding lengthAt spanned
+element-read s a c m n e h (counted f le q) =
+    let sum : c + (n - c) ≡ n = omega arith in
+    unpicked _ _ (endless-octet s a (a + 1) e (form-octet f))
+    ∙ number-complete a s (a + 1) e (n - c) c (omega arith) f
+    ∙ ap (λ (j : ℕ). got (record { start = c; stop = j }) j) sum
+    ∙ ap (λ (j : ℕ). got (record { start = c; stop = j }) n) (sym q)
+element-read s a c m n e h (ended b l k w z z' q) =
+    let at : a + 1 + 1 ≡ c = omega (arith, k) in
+    let cm = walk-forward w in
+    let ends : findEnd s (a + 1 + 1) e ≡ got m (m + 2) = ap (λ (j : ℕ). findEnd s j e) at ∙ walk-finds e (omega (arith, q)) w z z' in
+    picked _ _ (endless-yes s a (a + 1) e (omega (arith, k, q, cm)) l b)
+    ∙ ap (spanned a (a + 1 + 1)) ends
+    ∙ ap (λ (i : ℕ). got (record { start = i; stop = m }) (m + 2)) at ∙ ap (λ (j : ℕ). got (record { start = c; stop = m }) j) q
+
+-- the contents stand inside, after tag and length octets
+pub element-range : {s : List ℕ} {a c m n : ℕ} → Element s a c m n → (a + 2 ≤ c) × (c ≤ m) × (m ≤ n)
+element-range (counted f le q) = (omega (arith, length-forward f), omega (arith, le, q), omega (arith, q))
+element-range (ended b l k w z z' q) = (omega (arith, k), walk-forward w, omega (arith, q))
+
+element-spans : {s : List ℕ} {a c m n : ℕ} → Element s a c m n → Spans (getD s a 0) s a c m n
+element-spans (counted f le q) = definite (refl, f, le) q
+element-spans (ended b l k w z z' q) = indefinite refl b l k (walk-forward w) z z' q
+
+spans-element : {tag : ℕ} {s : List ℕ} {a c m n : ℕ} → Spans tag s a c m n → Walk s c m → Element s a c m n
+spans-element (definite o q) w = counted (o .1) (o .2) q
+spans-element (indefinite t b l k le z z' q) w = ended (ap composite t ∙ b) l k w z z' q
+
+-- ---- and its tag before them
+
+pub opened-sound : (tag : ℕ) (s : List ℕ) (a e : ℕ) (x : Extent) (n : ℕ) → opened tag s a e ≡ got x n
+    → Spans tag s a (x .start) (x .stop) n × (n ≤ e)
+unfolding opened choice
+opened-sound tag s a e x n r =
+    elim (either-way (tagged s a e tag) _ _ r) [
+      | inl h ↦ subst (λ (t : ℕ). Spans t s a (x .start) (x .stop) n × (n ≤ e)) (tagged-is s a e tag (h .0) .1) (let r = read-element s a e x n (h .1) in (element-spans (r .0), r .1))
+      | inr h ↦ absurd (neither-never s a e (h .1))
+    ]
+
+-- a primitive element has a number
+pub spans-simple : {tag : ℕ} {s : List ℕ} {a c m n : ℕ} → composite tag ≡ false → Spans tag s a c m n → Opens tag s a c n × (m ≡ n)
+spans-simple low (definite o q) = (o, q)
+spans-simple low (indefinite t b l c le z z' q) = absurd (true≢false (sym b ∙ low))
+
+opened-element : (tag : ℕ) (s : List ℕ) (a c m n e : ℕ) → n ≤ e → getD s a 0 ≡ tag → Element s a c m n → opened tag s a e ≡ got (record { start = c; stop = m }) n
+unfolding opened choice
+opened-element tag s a c m n e h t o =
+    let g = element-range o in
+    picked _ _ (tagged-yes s a e tag (omega (arith, g .0, g .1, g .2)) t) ∙ element-read s a c m n e h o
+
+-- any length with a number is read
+pub opened-complete : (tag : ℕ) (s : List ℕ) (a c n e : ℕ) → n ≤ e → Opens tag s a c n → opened tag s a e ≡ got (record { start = c; stop = n }) n
+opened-complete tag s a c n e h o = opened-element tag s a c n n e h (o .0) (counted (o .1) (o .2) refl)
+
+-- and any without, where the contents are elements laid end to end
+pub spans-complete : (tag : ℕ) (s : List ℕ) (a c m n e : ℕ) → n ≤ e → Spans tag s a c m n → Walk s c m → opened tag s a e ≡ got (record { start = c; stop = m }) n
+spans-complete tag s a c m n e h o w = opened-element tag s a c m n e h (spans-tag o) (spans-element o w)
+
+-- such an element is one of those that are laid end to end
+pub opened-walk : (tag : ℕ) (s : List ℕ) (a c n : ℕ) → ltb 0 tag ≡ true → Opens tag s a c n → Walk s a n
+opened-walk tag s a c n real o =
+    let other : getD s a 0 ≡ 0 → getD s (a + 1) 0 ≡ 0 → ⊥ = λ z z'. omega (arith, ltb-true 0 tag real, z, o .0) in
+    past other (o .1) (o .2) here
+
+pub spans-walk : (tag : ℕ) (s : List ℕ) (a c m n : ℕ) → ltb 0 tag ≡ true → Spans tag s a c m n → Walk s c m → Walk s a n
+spans-walk tag s a c m n real (definite o q) w = opened-walk tag s a c n real o
+spans-walk tag s a c m n real (indefinite t b l k le z z' q) w =
+    subst (Walk s a) q (nest (ap composite t ∙ b) l (subst (λ (j : ℕ). Walk s j m) (sym k) w) z z' here)
 
 -- what stands where an element is written: tag, shortest length octets, contents
 pub opened-written : (tag : ℕ) (s : List ℕ) (a : ℕ) (w : List ℕ) → length w ≤ 65535 → Holds s a (tag ∷ lengthOctets (length w) ++ w)
@@ -164,3 +158,9 @@ pub opened-shortest : (tag : ℕ) (s : List ℕ) (a c n : ℕ) (w : List ℕ) �
     → a + length (tag ∷ lengthOctets (length w) ++ w) ≤ n
 opened-shortest tag s a c n w os (t, f, le) h =
     omega (arith, length-append (lengthOctets (length w)) w, length-shortest s (a + 1) (n - c) c (length w) os (omega arith) f)
+
+pub spans-shortest : (tag : ℕ) (s : List ℕ) (a c m n : ℕ) (w : List ℕ) → Octets s → Spans tag s a c m n → c + length w ≤ m
+    → a + length (tag ∷ lengthOctets (length w) ++ w) ≤ n
+spans-shortest tag s a c m n w os (definite o q) h = opened-shortest tag s a c n w os o (omega (arith, h, q))
+spans-shortest tag s a c m n w os (indefinite t b l k le z z' q) h =
+    omega (arith, length-append (lengthOctets (length w)) w, length-most (length w), k, q, h)

@@ -1,7 +1,11 @@
 -- The laws of the coding: what the proofs of this crate and of those above cite.
 pub mod Basic
 pub mod Laws
+pub mod Length
+pub mod Search
 pub mod Header
+pub mod Moved
+pub mod Bounds
 pub mod Combine
 pub mod Number
 pub mod Bits
@@ -10,6 +14,7 @@ pub mod Whole
 pub mod Padded
 pub mod Frame
 pub mod Reading
+pub mod Sought
 pub mod Parts
 pub mod Arrays
 pub mod Lists
@@ -22,3 +27,4 @@ pub mod Own
 pub mod Rows
 pub mod Shortcut
 pub mod Small
+pub mod Faults

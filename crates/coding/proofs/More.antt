@@ -13,12 +13,13 @@ use lib.Dec.{ltb, leb, eqb}
 use borrow.Author.Tests.{ltb-true, leb-true, le-leb, le-ltb, eqb-true}
 use Rattle.coding.specs.Reader.{Ans, Fault, got, halt, tagged, choice, blamed, Judged, mapped}
 use Rattle.coding.specs.Contents.{natural, shortest, negative, numberFrom}
-use Rattle.coding.specs.Codec.{Leaf, Run, Holds, has, apart, all, prim, leafOver, marked, sort, leads}
+use Rattle.coding.specs.Codec.{Leaf, Run, Holds, simple, has, apart, all, prim, leafOver, marked, sort, leads}
 use Rattle.coding.specs.Leaves.{digits, width, number, listing, listed, isSome, or0, given}
 use Rattle.coding.specs.declared.Chosen.{Chosen}
 use Rattle.coding.proofs.Basic.{never, either-way, chain, picked, unpicked, followed, and-left, and-right, and-both, or-left, or-right, or-no, or-false, has-left, has-right, holds-left, holds-right}
 use Rattle.coding.proofs.Laws.{LeafLaws, RunLaws}
 use Rattle.coding.proofs.Header.{tagged-yes}
+use Rattle.coding.proofs.Search.{walk-join}
 use Rattle.coding.proofs.Combine.{forward, untagged, first-is, primLaws, maybeLaws, overLaws}
 use Rattle.coding.proofs.Number.{unfit, judged-pass, judged-fail, numberLaws, length-digits}
 
@@ -64,6 +65,7 @@ markedLaws m f F = record {
   fine = F .fine;
   shortest = F .shortest;
   heads = F .heads;
+  walked = F .walked;
 }
 
 -- ---- runs of one type by tag
@@ -120,6 +122,7 @@ module _ {A : Type 0} (tag : ℕ) (test : A → Bool) (f g : Run A) (F : RunLaws
                 | inr h ↦ inr h
               ]
         ];
+    walked = λ s a n x m. elim m [ inl k ↦ F .walked s a n x (k .1) | inr k ↦ G .walked s a n x (k .1) ];
   }
 
 -- ---- a run that leads another
@@ -158,6 +161,7 @@ module _ {A B : Type 0} (f : Run A) (head : B → A) (g : A → Run B) (F : RunL
     heads = λ s a n y (m, u, v).
         let mn = forward (G (head y)) s m n y v in
         elim (F .heads s a m (head y) u) [ inl h ↦ inl (omega (arith, h .0, mn), h .1) | inr h ↦ absurd (true≢false (sym (h .1) ∙ full)) ];
+    walked = λ s a n y (m, u, v). walk-join (F .walked s a m (head y) u) (G (head y) .walked s m n y v);
   }
 
 -- ---- numbers of a list
@@ -210,12 +214,12 @@ listedLaws unknown known small = record {
 
 -- ---- a number that may be absent
 
-pub givenLaws : (tag low high : ℕ) → high < 0x80000000 → RunLaws (given tag low high)
+pub givenLaws : (tag low high : ℕ) → high < 0x80000000 → simple tag ≡ true → RunLaws (given tag low high)
 unfolding given prim apart has
-givenLaws tag low high h =
+givenLaws tag low high h plain =
     overLaws _ _ (λ c. c .given || eqb (c .value) 0) _
     (λ o v. (fine o, back o)) (λ c o v. forth (c .given) (c .value) o)
-    (maybeLaws tag _ (primLaws tag (number low high) (numberLaws low high h)) refl refl)
+    (maybeLaws tag _ (primLaws tag (number low high) (numberLaws low high h) plain) refl refl)
   where
     fine : (o : Option ℕ) → isSome o || eqb (or0 o) 0 ≡ true
     fine none = refl

@@ -1,5 +1,6 @@
 -- What a type of the tables is: how it is read, how it is written, which values are valid, and which octets mean which value.
--- The reading is that of Reader.antt; the meaning is the declarative one, where each length has any of its three forms.
+-- The reading is that of Reader.antt; the meaning is the declarative one, where each length has any of its three forms with a number, and a
+-- constructed element may have none and end with 00 00.
 use Prim.Native.Nat.{ℕ, _+_, _-_, _*_, _/_, _%_, _≤_, _<_}
 use mathlib.Core.Path.{_≡_}
 use mathlib.Core.List.{List, [], _∷_, _++_}
@@ -8,7 +9,7 @@ use mathlib.Core.Logic.{_⊎_, inl, inr}
 use mathlib.Core.Option.{Option, none, some}
 use lib.ListN.{length, getD, take, drop, replicate}
 use lib.Dec.{ltb, leb, eqb}
-use Rattle.coding.specs.Reader.{Reader, Fault, got, halt, after, choice, pure, primitive, constructed, Judged, mapped, blamed, enteredAny, closed, optional, listOf}
+use Rattle.coding.specs.Reader.{Reader, Fault, composite, got, halt, after, choice, pure, primitive, constructed, Judged, mapped, blamed, enteredAny, closed, optional, listOf}
 unfoldable pub use Rattle.coding.specs.Reader.{has}
 
 -- ---- lengths
@@ -28,7 +29,32 @@ lengthOctets n =
 abbrev pub Opens : ℕ → List ℕ → ℕ → ℕ → ℕ → Type 0
 Opens tag s a c n = (getD s a 0 ≡ tag) × LengthForm s (a + 1) (n - c) c × (c ≤ n)
 
+-- the same where the length may be without a number, the contents from c up to m: m is n, or the tag is constructed, 80 stands for the length, and 00 00 from
+-- m up to n
+pub data Spans (tag : ℕ) (s : List ℕ) (a c m n : ℕ) : Type 0 where
+  definite : Opens tag s a c n → m ≡ n → Spans tag s a c m n
+  indefinite : getD s a 0 ≡ tag → composite tag ≡ true → getD s (a + 1) 0 ≡ 128 → a + 2 ≡ c → c ≤ m
+      → getD s m 0 ≡ 0 → getD s (m + 1) 0 ≡ 0 → m + 2 ≡ n → Spans tag s a c m n
+
+-- elements laid end to end from a up to n, whatever their tags: each has a number, and is not 00 00; or is constructed, has none, and ends with its own 00 00
+pub data Walk (s : List ℕ) : ℕ → ℕ → Type 0 where
+  here : {a : ℕ} → Walk s a a
+  past : {a c b n : ℕ} → (getD s a 0 ≡ 0 → getD s (a + 1) 0 ≡ 0 → ⊥) → LengthForm s (a + 1) (b - c) c → c ≤ b → Walk s b n → Walk s a n
+  nest : {a m n : ℕ} → composite (getD s a 0) ≡ true → getD s (a + 1) 0 ≡ 128 → Walk s (a + 2) m → getD s m 0 ≡ 0 → getD s (m + 1) 0 ≡ 0 → Walk s (m + 2) n
+      → Walk s a n
+
+-- an element of any tag from a up to n, its contents from c up to m not yet read: its length has a number; or it is constructed, has none, and its elements, laid
+-- end to end, lead to 00 00 at m
+pub data Element (s : List ℕ) (a c m n : ℕ) : Type 0 where
+  counted : LengthForm s (a + 1) (n - c) c → c ≤ n → m ≡ n → Element s a c m n
+  ended : composite (getD s a 0) ≡ true → getD s (a + 1) 0 ≡ 128 → a + 2 ≡ c → Walk s c m → getD s m 0 ≡ 0 → getD s (m + 1) 0 ≡ 0 → m + 2 ≡ n
+      → Element s a c m n
+
 -- ---- tags
+
+-- a primitive element's tag; 00 is none
+abbrev pub simple : ℕ → Bool
+simple tag = ltb 0 tag && not (composite tag)
 
 -- no tag of the list is in the set
 unfoldable pub apart : List ℕ → (ℕ → Bool) → Bool
@@ -71,7 +97,7 @@ module _ {A : Type 0} where
     read = constructed tag (f .read);
     write = λ x. tag ∷ lengthOctets (length (f .write x)) ++ f .write x;
     valid = f .valid;
-    Means = λ x s a n. (c : ℕ) × Opens tag s a c n × f .Means x s c n;
+    Means = λ x s a n. (c m : ℕ) × Spans tag s a c m n × f .Means x s c m;
     first = tag ∷ [];
     empty = false;
     avoid = λ o. false;
@@ -252,7 +278,7 @@ module _ {A : Type 0} where
         after ((f (getD s a 0)) .read s (x .start) (x .stop)) (λ v last. closed v last (x .stop) next));
     write = λ x. tagOf x ∷ lengthOctets (length ((f (tagOf x)) .write x)) ++ (f (tagOf x)) .write x;
     valid = λ x. has tags (tagOf x) && (f (tagOf x)) .valid x;
-    Means = λ x s a n. (has tags (tagOf x) ≡ true) × ((c : ℕ) × Opens (tagOf x) s a c n × (f (tagOf x)) .Means x s c n);
+    Means = λ x s a n. (has tags (tagOf x) ≡ true) × ((c m : ℕ) × Spans (tagOf x) s a c m n × (f (tagOf x)) .Means x s c m);
     first = tags;
     empty = false;
     avoid = λ o. true;

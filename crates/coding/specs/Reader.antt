@@ -1,8 +1,8 @@
 -- How elements are read: a reader is given all the octets, a place, and the end of the enclosing element, and answers a value with the place
 -- after it, or the first fault with its place. Places count from the octets' start, so a fault names its octet whatever the depth.
-use Prim.Native.Nat.{ℕ, zero, suc, _+_, _-_, _*_}
+use Prim.Native.Nat.{ℕ, zero, suc, _+_, _-_, _*_, _/_, _%_}
 use mathlib.Core.List.{List, [], _∷_}
-use mathlib.Core.Bool.{Bool, true, false, _||_, cond}
+use mathlib.Core.Bool.{Bool, true, false, _&&_, _||_, cond}
 use mathlib.Core.Option.{Option, none, some}
 use lib.ListN.{getD, take, drop}
 use lib.Dec.{ltb, leb, eqb}
@@ -12,8 +12,8 @@ infixl 20 _>>=_
 -- Why a reading stops.
 --   missing     no element where one must be           (placed at the enclosing end)
 --   unexpected  another tag, or something left over    (placed at that tag, as all below)
---   cut         length octets or contents run past the enclosing element
---   form        a length octet of 80 or of 83 to FF
+--   cut         length octets, contents or the end marker run past the enclosing element
+--   form        a length octet of 80 on a primitive element, or of 83 to FF
 --   shortest    an INTEGER's contents empty or not shortest
 --   contents    any other bad contents
 --   limit       an entry past its list's limit
@@ -68,13 +68,13 @@ neither s at end = cond (ltb at end) (halt unexpected at) (halt missing end)
 unfoldable pub choice : {A : Type 0} → ℕ → Reader A → Reader A → Reader A
 choice tag this that s at end = cond (tagged s at end tag) (this s at end) (that s at end)
 
--- Length octets at a place, of the element whose tag is at `tag`: the contents' extent and the place after the element.
+-- Length octets with a number, at a place, of the element whose tag is at `tag`: the contents' extent and the place after the element.
 unfoldable pub extent : ℕ → ℕ → ℕ → ℕ → Ans Extent
 extent tag start n end =
     cond (leb (start + n) end) (got (record { start = start; stop = start + n }) (start + n)) (halt cut tag)
 
-unfoldable pub lengthAt : ℕ → Reader Extent
-lengthAt tag s at end =
+unfoldable pub numberedAt : ℕ → Reader Extent
+numberedAt tag s at end =
     cond (leb end at) (halt cut tag)
     (cond (ltb (getD s at 0) 0x80) (extent tag (at + 1) (getD s at 0) end)
     (cond (eqb (getD s at 0) 0x81)
@@ -83,6 +83,46 @@ lengthAt tag s at end =
     (cond (ltb end (at + 3)) (halt cut tag)
     (extent tag (at + 3) (getD s (at + 1) 0 * 256 + getD s (at + 2) 0) end))
     (halt form tag))))
+
+-- Lengths without a number. A constructed tag has the bit 20. Its length octet may be 80, and then its contents end where their end marker, 00 00, begins.
+abbrev pub composite : ℕ → Bool
+composite o = eqb (o / 32 % 2) 1
+
+-- at a place, inside the enclosing element, 80 stands for the length of the element whose tag is at `tag`
+unfoldable pub endless : List ℕ → ℕ → ℕ → ℕ → Bool
+endless s tag at end = ltb at end && (eqb (getD s at 0) 0x80 && composite (getD s tag 0))
+
+-- an end marker stands at a place, both its octets inside the enclosing element
+unfoldable pub marker : List ℕ → ℕ → ℕ → Bool
+marker s at end = leb (at + 2) end && (eqb (getD s at 0) 0 && eqb (getD s (at + 1) 0) 0)
+
+-- One turn of the search for the end marker of contents that go on at a place. It is here; or it comes after an element without a number, whose own marker is
+-- searched first; or after one with a number, which is stepped over whole, whatever is in it. Where nothing is left there are no length octets: the search has run
+-- out. A length that is bad stops it by its form. The search from another place is given as `rest`.
+unfoldable pub turn : List ℕ → ℕ → ℕ → (ℕ → Ans ℕ) → Ans ℕ
+turn s at end rest =
+    cond (marker s at end) (got at (at + 2))
+    (cond (endless s at (at + 1) end) (after (rest (at + 2)) (λ stop next. rest next))
+    (after (numberedAt at s (at + 1) end) (λ x next. rest next)))
+
+-- each turn goes on two octets or more, so as many turns as there are octets left are enough
+unfoldable pub searched : ℕ → Reader ℕ
+searched zero s at end = halt cut at
+searched (suc turns) s at end = turn s at end (λ p. searched turns s p end)
+
+-- the marker's place, and the place after it
+unfoldable pub findEnd : Reader ℕ
+findEnd s at end = searched (end - at) s at end
+
+-- contents from start up to their end marker; a search that fails is a fault of the element whose marker is sought, placed at its tag
+unfoldable pub spanned : ℕ → ℕ → Ans ℕ → Ans Extent
+spanned tag start (got stop next) = got (record { start = start; stop = stop }) next
+spanned tag start (halt w p) = halt w tag
+
+-- Length octets of any form, with a number or without.
+unfoldable pub lengthAt : ℕ → Reader Extent
+lengthAt tag s at end =
+    cond (endless s tag at end) (spanned tag (at + 1) (findEnd s (at + 1) end)) (numberedAt tag s at end)
 
 -- An element's tag and length octets.
 unfoldable pub opened : ℕ → Reader Extent

@@ -10,7 +10,7 @@ ghost use mathlib.Core.Bool.{true, false};
 ghost use mathlib.Core.List.{[], _∷_, _++_};
 ghost use lib.ListN.{length, take};
 ghost use lib.Dec.{ltb};
-ghost use Rattle.coding.specs.Reader.{tagged, extent, lengthAt, opened, part};
+ghost use Rattle.coding.specs.Reader.{tagged, extent, numberedAt, endless, marker, findEnd, spanned, lengthAt, opened, part};
 ghost use Rattle.coding.specs.Contents.{natural, shortest, negative, numberFrom, every};
 ghost use Rattle.coding.specs.Codec.{prim, lengthOctets};
 ghost use Rattle.coding.specs.Leaves.{number, nullLeaf, given, signed16, identifier, width, digits};
@@ -93,10 +93,10 @@ fn within(tag: usize, start: usize, n: usize, end: usize) -> Opened
     }
 }
 
-// The length octets at a place, of the element whose tag is at tag.
-pub fn length_at(s: &[u8], tag: usize, at: usize, end: usize) -> Opened
+// Length octets with a number at a place, of the element whose tag is at tag.
+fn numbered_at(s: &[u8], tag: usize, at: usize, end: usize) -> Opened
     requires { ⌜ end ≤ length (now s) ⌝ }
-    ensures { λ r. ⌜ (r .fault, r .place, r .value, r .next) ≡ shown (record { start = 0; stop = 0 }) (lengthAt tag (now (s .entry)) at end) ⌝ }
+    ensures { λ r. ⌜ (r .fault, r .place, r .value, r .next) ≡ shown (record { start = 0; stop = 0 }) (numberedAt tag (now (s .entry)) at end) ⌝ }
     ensures inside { λ r. ⌜ (r .value .start ≤ r .value .stop) × (r .value .stop ≤ end) ⌝ }
 {
     if end <= at {
@@ -121,6 +121,120 @@ pub fn length_at(s: &[u8], tag: usize, at: usize, end: usize) -> Opened
         return within(tag, at + 3, n, end);
     }
     halted(2, tag)
+}
+
+// Whether the length octet at a place is 80, of the constructed element whose tag is at tag.
+fn is_endless(s: &[u8], tag: usize, at: usize, end: usize) -> bool
+    requires { ⌜ (end ≤ length (now s)) × (tag < at) ⌝ }
+    ensures { λ r. ⌜ r ≡ endless (now (s .entry)) tag at end ⌝ }
+{
+    if end <= at {
+        return false;
+    }
+    if s[at] != 0x80 {
+        return false;
+    }
+    s[tag] / 32 % 2 == 1
+}
+
+// Whether the end marker stands at a place.
+fn is_marker(s: &[u8], at: usize, end: usize) -> bool
+    requires { ⌜ end ≤ length (now s) ⌝ }
+    ensures { λ r. ⌜ r ≡ marker (now (s .entry)) at end ⌝ }
+{
+    if end <= at {
+        return false;
+    }
+    if end - at < 2 {
+        return false;
+    }
+    if s[at] != 0 {
+        return false;
+    }
+    s[at + 1] == 0
+}
+
+// An end marker that is searched: its place, and the place after it.
+pub struct Ended {
+    pub fault: u8,
+    pub place: usize,
+    pub value: usize,
+    pub next: usize,
+}
+
+// The end marker that belongs to contents which go on at a place.
+fn find_end(s: &[u8], at: usize, end: usize) -> Ended
+    requires { ⌜ end ≤ length (now s) ⌝ }
+    ensures { λ r. ⌜ (r .fault, r .place, r .value, r .next) ≡ shown 0 (findEnd (now (s .entry)) at end) ⌝ }
+{
+    if end <= at {
+        return Ended {
+            fault: 42,
+            place: at,
+            value: 0,
+            next: 0,
+        };
+    }
+    if is_marker(s, at, end) {
+        return Ended {
+            fault: 0,
+            place: 0,
+            value: at,
+            next: at + 2,
+        };
+    }
+    if is_endless(s, at, at + 1, end) {
+        let inner = find_end(s, at + 2, end);
+        if inner.fault != 0 {
+            return inner;
+        }
+        let next = inner.next;
+        return find_end(s, next, end);
+    }
+    let o = numbered_at(s, at, at + 1, end);
+    if o.fault != 0 {
+        return Ended {
+            fault: o.fault,
+            place: o.place,
+            value: 0,
+            next: 0,
+        };
+    }
+    let n = o.next;
+    find_end(s, n, end)
+}
+
+// Contents from start up to their end marker.
+fn span_at(s: &[u8], tag: usize, start: usize, end: usize) -> Opened
+    requires { ⌜ end ≤ length (now s) ⌝ }
+    ensures { λ r. ⌜ (r .fault, r .place, r .value, r .next) ≡ shown (record { start = 0; stop = 0 }) (spanned tag start (findEnd (now (s .entry)) start end)) ⌝ }
+    ensures inside { λ r. ⌜ (r .value .start ≤ r .value .stop) × (r .value .stop ≤ end) ⌝ }
+{
+    let m = find_end(s, start, end);
+    if m.fault != 0 {
+        return halted(m.fault, tag);
+    }
+    Opened {
+        fault: 0,
+        place: 0,
+        value: Extent {
+            start,
+            stop: m.value,
+        },
+        next: m.next,
+    }
+}
+
+// The length octets at a place, of the element whose tag is at tag.
+pub fn length_at(s: &[u8], tag: usize, at: usize, end: usize) -> Opened
+    requires { ⌜ (end ≤ length (now s)) × (tag < at) ⌝ }
+    ensures { λ r. ⌜ (r .fault, r .place, r .value, r .next) ≡ shown (record { start = 0; stop = 0 }) (lengthAt tag (now (s .entry)) at end) ⌝ }
+    ensures inside { λ r. ⌜ (r .value .start ≤ r .value .stop) × (r .value .stop ≤ end) ⌝ }
+{
+    if is_endless(s, tag, at, end) {
+        return span_at(s, tag, at + 1, end);
+    }
+    numbered_at(s, tag, at, end)
 }
 
 // The length of contents where the element at a place has the tag, a length of one octet, and lies inside; 256 otherwise.

@@ -5,7 +5,6 @@ use native.Mathlib.Omega.{arith}
 use mathlib.Core.Path.{_≡_, refl, ap, sym, _∙_}
 use mathlib.Core.Bool.{Bool, true, false, not, _&&_, _||_, true≢false, cond}
 use mathlib.Core.List.{List}
-use lib.ListN.{length}
 use lib.Dec.{leb, eqb}
 use borrow.Author.Tests.{leb-false, le-leb, lt-leb, eqb-true, eqb-false, ne-eqb}
 use Rattle.coding.specs.Reader.{Ans, choice, tagged}
@@ -38,11 +37,11 @@ module _ {A : Type 0} (to : A → Record) (from : Record → A) (g : Run A) (h :
   unfolding tailOf canonical over marked
   tail-over k0 ne = simp flat (goes-in _ _ z e k0 (over-in _ _ _ _ _ ne))
 
-  pub tail-more : k ≡ 0 → n ≡ h .stop → (h .next ≡ length s → ⊥) → refused 6 ≡ tailOf (canonical to from sameRecord (marked inArgument g)) h s
+  pub tail-more : k ≡ 0 → n ≡ h .stop → (h .next ≡ h .end → ⊥) → refused 6 ≡ tailOf (canonical to from sameRecord (marked inArgument g)) h s
   unfolding tailOf canonical over marked
   tail-more k0 eq ne = simp flat (goes-in _ _ z e k0 (twice _ _ _ _ _ eq (leaves _ _ _ _ ne)))
 
-  pub tail-done : k ≡ 0 → n ≡ h .stop → h .next ≡ length s → accepted (to v) ≡ tailOf (canonical to from sameRecord (marked inArgument g)) h s
+  pub tail-done : k ≡ 0 → n ≡ h .stop → h .next ≡ h .end → accepted (to v) ≡ tailOf (canonical to from sameRecord (marked inArgument g)) h s
   unfolding tailOf canonical over marked
   tail-done k0 eq en = simp flat (goes-in _ _ z e k0 (twice _ _ _ _ _ eq (ends _ _ _ _ en)))
 

@@ -13,27 +13,13 @@ use borrow.Author.Tests.{ltb-true, eqb-true, eqb-false, eq-eqb, ne-eqb, lt-ltb}
 use Rattle.coding.specs.declared.Extent.{Extent}
 use Rattle.coding.specs.Reader.{Ans, after, part, lengthAt}
 use Rattle.coding.specs.Reader.Ans.{got, halt}
-use Rattle.coding.specs.Codec.{LengthForm, short, one, two, pad}
+use Rattle.coding.specs.Codec.{Element, pad}
 use Rattle.coding.proofs.Basic.{never, chain, same-got, picked, unpicked, followed, and-left}
-use Rattle.coding.proofs.Header.{opened-sound, opened-complete, length-forward}
+use Rattle.coding.proofs.Header.{read-element, element-read, element-range}
+use Rattle.coding.proofs.Moved.{Same, element-moved}
 use Rattle.coding.proofs.Parts.{part-length}
 use Rattle.facility.specs.Element.{tiled, led, answered, malformed, elementOf}
 use Rattle.facility.specs.Parts.{startsOf, firstOr, partsOf, joined, Tile, Tiles, placesOf}
-use Rattle.facility.proofs.Tiling.{opened-any}
-
--- ---- length octets that stand elsewhere too
-
-pub moved : {s : List ℕ} {p k c : ℕ} (t : List ℕ) (q d : ℕ) → LengthForm s p k c → ((j : ℕ) → p + j < c → getD s (p + j) 0 ≡ getD t (q + j) 0) → q + c ≡ p + d
-    → LengthForm t q k d
-moved {s} {p} t q d (short l e r) same z =
-    let h : getD s p 0 ≡ getD t q 0 = simp add-zero at (same 0 (omega arith)) in
-    short (omega (arith, h)) (sym h ∙ e) (omega arith)
-moved {s} {p} t q d (one l e r) same z =
-    let h : getD s p 0 ≡ getD t q 0 = simp add-zero at (same 0 (omega arith)) in
-    one (sym h ∙ l) (sym (same 1 (omega arith)) ∙ e) (omega arith)
-moved {s} {p} t q d (two l e r) same z =
-    let h : getD s p 0 ≡ getD t q 0 = simp add-zero at (same 0 (omega arith)) in
-    two (sym h ∙ l) (omega (arith, same 1 (omega arith), same 2 (omega arith))) (omega arith)
 
 -- ---- an accepted element is cut into components
 
@@ -47,16 +33,21 @@ part-at : (s : List ℕ) (i n j : ℕ) → i + j < n → getD s (i + j) 0 ≡ ge
 unfolding part
 part-at s i n j h = let k : j < n - i = omega arith in rw (getD-take (n - i) (drop i s) j 0 k, getD-drop)
 
-part-tile : (s : List ℕ) (i : ℕ) {v : Extent} {n : ℕ} → i < length s → lengthAt i s (i + 1) (length s) ≡ got v n → (i ≤ n) × (n ≤ length s) × Tile (part s i n)
-part-tile s i {v} {n} h e =
-    let o = opened-sound (getD s i 0) s i (length s) v n (opened-any s i (length s) h ∙ e) in
-    let f = length-forward (o .0 .1) in
-    let size : length (part s i n) ≡ n - i = part-length s i n (o .2) in
-    let same : n - v .start ≡ length (part s i n) - (v .start - i) = omega (arith, o .0 .2) in
-    let at : (j : ℕ) → i + 1 + j < v .start → getD s (i + 1 + j) 0 ≡ getD (part s i n) (1 + j) 0 =
-    λ j l. let z : i + 1 + j ≡ i + (1 + j) = omega arith in ap (λ (k : ℕ). getD s k 0) z ∙ part-at s i n (1 + j) (omega (arith, o .0 .2)) in
-    let form = subst (λ (k : ℕ). LengthForm (part s i n) 1 k (v .start - i)) same (moved (part s i n) 1 (v .start - i) (o .0 .1) at (omega arith)) in
-    (omega (arith, o .0 .2), o .2, (v .start - i, form, omega (arith, o .0 .2)))
+part-tile : (s : List ℕ) (i : ℕ) {v : Extent} {n : ℕ} → lengthAt i s (i + 1) (length s) ≡ got v n → (i ≤ n) × (n ≤ length s) × Tile (part s i n)
+part-tile s i {v} {n} e =
+    let o = read-element s i (length s) v n e in
+    let g = element-range (o .0) in
+    let size : length (part s i n) ≡ n - i = part-length s i n (o .1) in
+    let same : Same s (part s i n) 0 i i n =
+    λ k j q l h. let z : k ≡ i + j = omega arith in ap (λ (r : ℕ). getD s r 0) z ∙ part-at s i n j (omega arith) in (
+      omega (arith, g .0, g .1, g .2),
+      o .1,
+      (
+        v .start - i,
+        v .stop - i,
+        element-moved s (part s i n) 0 i 0 (v .start - i) (v .stop - i) (length (part s i n)) (omega arith) (omega (arith, g .0)) (omega (arith, g .0, g .1)) (omega (arith, g .0, g .1, g .2, size)) same (o .0),
+      ),
+    )
 
 -- what is cut from a place on
 record Cut (s : List ℕ) (i : ℕ) (xs : List ℕ) : Type 0 where
@@ -64,9 +55,9 @@ record Cut (s : List ℕ) (i : ℕ) (xs : List ℕ) : Type 0 where
   fine : Tiles (partsOf s xs)
   begins : firstOr (length s) xs ≡ i
 
-cut-here : (s : List ℕ) (i : ℕ) (ys : List ℕ) {v : Extent} {n : ℕ} → i < length s → lengthAt i s (i + 1) (length s) ≡ got v n → Cut s n ys → Cut s i (i ∷ ys)
-cut-here s i ys {v} {n} h e rest =
-    let t = part-tile s i h e in record {
+cut-here : (s : List ℕ) (i : ℕ) (ys : List ℕ) {v : Extent} {n : ℕ} → lengthAt i s (i + 1) (length s) ≡ got v n → Cut s n ys → Cut s i (i ∷ ys)
+cut-here s i ys {v} {n} e rest =
+    let t = part-tile s i e in record {
       whole = rw (rest .begins, rest .whole) (part-rest s i n (t .0));
       fine = (rw (rest .begins) (t .2), rest .fine);
       begins = refl;
@@ -88,8 +79,7 @@ cut (suc turns) s i xs {last} h e = go (eqb i (length s)) refl e (λ n ys m. cut
     go false q r more =
         let a = chain _ _ r in
         let b = chain _ _ (a .3) in
-        let l : i < length s = omega (arith, eqb-false i (length s) q) in
-        same-got (λ ys m. Cut s i ys) (b .3) (cut-here s i (b .0) l (a .2) (more (a .1) (b .0) (b .1) (part-tile s i l (a .2) .1) (b .2)))
+        same-got (λ ys m. Cut s i ys) (b .3) (cut-here s i (b .0) (a .2) (more (a .1) (b .0) (b .1) (part-tile s i (a .2) .1) (b .2)))
 
 -- an answer of 0 is that of starts that were found
 answer-found : (b : Bool) (x : Ans (List ℕ)) → (cond b (answered x) malformed) .number ≡ 0
@@ -103,8 +93,8 @@ led-long : (s : List ℕ) → led s ≡ true → 3 < length s
 unfolding led
 led-long s e = ltb-true 3 (length s) (and-left (ltb 3 (length s)) _ e)
 
--- The parts of an accepted element from each start to the next, the last to the end, join to all that follows the third octet; and each is a
--- tag, length octets, and as many octets as they say.
+-- The parts of an accepted element from each start to the next, the last to the end, join to all that follows the third octet; and each is one element, to its
+-- end.
 pub tiles : (s : List ℕ) → elementOf s .number ≡ 0 → (joined (partsOf s (startsOf (elementOf s))) ≡ drop 3 s) × Tiles (partsOf s (startsOf (elementOf s)))
 unfolding elementOf
 tiles s e =
@@ -116,7 +106,7 @@ tiles s e =
 -- ---- an element made of components is accepted
 
 tile-long : (p : List ℕ) → Tile p → 2 ≤ length p
-tile-long p (c, f, le) = omega (arith, length-forward f)
+tile-long p (c, m, o) = let g = element-range o in omega (arith, g .0, g .1, g .2)
 
 tiles-long : (ps : List (List ℕ)) → Tiles ps → length ps ≤ length (joined ps)
 tiles-long [] t = omega arith
@@ -125,21 +115,17 @@ tiles-long (p ∷ ps) t = omega (arith, tile-long p (t .0), tiles-long ps (t .1)
 -- a component that stands between other octets is opened there
 tile-there : (pre p post : List ℕ) → Tile p
     → (v : Extent) × (lengthAt (length pre) (pre ++ (p ++ post)) (length pre + 1) (length (pre ++ (p ++ post))) ≡ got v (length pre + length p))
-tile-there pre p post (c, f, le) =
+tile-there pre p post (c, m, o) =
     let s : List ℕ = pre ++ (p ++ post) in
     let a : ℕ = length pre in
     let size : length s ≡ a + (length p + length post) = simp length-append in
-    let at : (j : ℕ) → 1 + j < c → getD p (1 + j) 0 ≡ getD s (a + 1 + j) 0 =
-    λ j l.
-    let z : a + 1 + j ≡ a + (1 + j) = omega arith in
-    sym (ap (λ (k : ℕ). getD s k 0) z ∙ getD-append-add pre (p ++ post) (1 + j) 0 ∙ List·getD-append p post 0 (1 + j) (omega arith)) in
-    let g = length-forward f in
-    let same : length p - c ≡ a + length p - (a + c) = omega arith in
-    let form : LengthForm s (a + 1) (a + length p - (a + c)) (a + c) =
-    subst (λ (k : ℕ). LengthForm s (a + 1) k (a + c)) same (moved s (a + 1) (a + c) f at (omega arith)) in (
-      record { start = a + c; stop = a + length p },
-      sym (opened-any s a (length s) (omega arith)) ∙ opened-complete (getD s a 0) s a (a + c) (a + length p) (length s) (omega arith) (refl, form, omega arith),
-    )
+    let same : Same p s a 0 0 (length p) =
+    λ i j q l h.
+    let z : j ≡ a + i = omega arith in
+    sym (ap (λ (k : ℕ). getD s k 0) z ∙ getD-append-add pre (p ++ post) i 0 ∙ List·getD-append p post 0 i h) in
+    let there : Element s a (a + c) (a + m) (a + length p) =
+    element-moved p s a 0 a (a + c) (a + m) (a + length p) (omega arith) (omega arith) (omega arith) (omega arith) same o in
+    (record { start = a + c; stop = a + m }, element-read s a (a + c) (a + m) (a + length p) (length s) (omega arith) there)
 
 laid : (turns : ℕ) (pre : List ℕ) (ps : List (List ℕ)) → length ps < turns → Tiles ps
     → tiled turns (pre ++ joined ps) (length pre) (length (pre ++ joined ps)) ≡ got (placesOf (length pre) ps) (length (pre ++ joined ps))

@@ -1,9 +1,9 @@
 -- What the starts of an element stand for: the components that it is cut into.
-use Prim.Native.Nat.{ℕ, _+_, _-_, _≤_}
+use Prim.Native.Nat.{ℕ, _+_}
 use mathlib.Core.List.{List, [], _∷_, _++_}
 use lib.ListN.{length, take}
 use Rattle.coding.specs.Reader.{part}
-use Rattle.coding.specs.Codec.{LengthForm}
+use Rattle.coding.specs.Codec.{Element}
 use Rattle.facility.specs.declared.Starts.{Starts}
 
 -- the starts that an answer counts
@@ -23,9 +23,10 @@ abbrev pub joined : List (List ℕ) → List ℕ
 joined [] = []
 joined (p ∷ ps) = p ++ joined ps
 
--- a tag, length octets in one of their forms, and after them as many octets as they say
+-- one element, to its end: a tag, length octets with a number, and after them as many octets as they say; or a constructed tag, 80, elements laid end to end, and
+-- 00 00
 abbrev pub Tile : List ℕ → Type 0
-Tile p = (c : ℕ) × LengthForm p 1 (length p - c) c × (c ≤ length p)
+Tile p = (c m : ℕ) × Element p 0 c m (length p)
 
 abbrev pub Tiles : List (List ℕ) → Type 0
 Tiles [] = Unit {0}

@@ -4,7 +4,6 @@ use Prim.Native.Nat.{ℕ}
 use mathlib.Core.Path.{_≡_, refl, ap, _∙_}
 use mathlib.Core.Bool.{Bool, true, false, cond}
 use mathlib.Core.List.{List}
-use lib.ListN.{length}
 use lib.Dec.{eqb}
 use borrow.Author.Tests.{eq-eqb, ne-eqb}
 use Rattle.coding.specs.Reader.{Ans, Fault, after, blamed, closed}
@@ -73,8 +72,22 @@ one-end v at end = go (eqb at end)
     go true = rw (eq-eqb end end refl)
     go false = refl
 
--- an argument that ends where the octets end
-pub tail-one : (f : Run Record) (h : Head) (s : List ℕ) → h .stop ≡ length s → h .next ≡ length s
-    → tailOf f h s ≡ answered (after (f .read s (h .at) (length s)) (λ v last. closed v last (length s) (length s)))
+-- an argument that ends where the contents end
+pub tail-one : (f : Run Record) (h : Head) (s : List ℕ) (n : ℕ) → h .stop ≡ n → h .next ≡ n → h .end ≡ n
+    → tailOf f h s ≡ answered (after (f .read s (h .at) n) (λ v last. closed v last n n))
 unfolding tailOf
-tail-one f h s p q = rw (p, q) (λ i. answered (after (f .read s (h .at) (length s)) (λ v last. one-end v last (length s) i)))
+tail-one f h s n p q r = rw (p, q, r) (λ i. answered (after (f .read s (h .at) n) (λ v last. one-end v last n i)))
+
+-- where it is said to go on makes no difference to an answer
+pub told-alike : (v : Record) (at end next next' : ℕ) → answered (closed v at end next) ≡ answered (closed v at end next')
+unfolding closed
+told-alike v at end next next' = go (eqb at end)
+  where
+    go : (b : Bool) → answered (cond b (got v next) (halt Fault.unexpected at)) ≡ answered (cond b (got v next') (halt Fault.unexpected at))
+    go true = refl
+    go false = refl
+
+pub all-told : (x : Ans Record) (end next next' : ℕ) → answered (after x (λ v last. closed v last end next)) ≡ answered (after x (λ v last. closed v last end next'))
+unfolding after
+all-told (got v n) end next next' = told-alike v n end next next'
+all-told (halt w p) end next next' = refl

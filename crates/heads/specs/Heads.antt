@@ -3,7 +3,6 @@ use mathlib.Core.Bool.{cond}
 use Prim.Native.Nat.{ℕ, _+_, _-_}
 use mathlib.Core.List.{List, [], _∷_}
 use mathlib.Core.Logic.{_⊎_, inl, inr}
-use lib.ListN.{length}
 use lib.Dec.{ltb, leb, eqb}
 use Rattle.coding.specs.Reader.{Reader, after, closed, choice}
 use Rattle.coding.specs.Reader.Ans.{got}
@@ -36,10 +35,10 @@ knownIn k = cond (eqb k 1) operations (cond (eqb k 2) (30 ∷ []) errors)
 abbrev pub unknownIn : ℕ → ℕ
 unknownIn k = cond (eqb k 3) 8 7
 
--- ---- a frame's contents, from a place to the end of the octets
+-- ---- a frame's contents, from a place up to another
 
-unfoldable pub contentsOf : Run Record → List ℕ → ℕ → Answer
-contentsOf f s start = answered (after (f .read s start (length s)) (λ v last. closed v last (length s) (length s)))
+unfoldable pub contentsOf : Run Record → List ℕ → ℕ → ℕ → Answer
+contentsOf f s start stop = answered (after (f .read s start stop) (λ v last. closed v last stop stop))
 
 -- ---- what is left to read
 
@@ -55,10 +54,10 @@ headRecord h = record {
   charge = noCharge;
 }
 
--- the argument or result lies from at to stop, in an element that ends at next, in octets that end there too
+-- the argument or result lies from at to stop, in an element that ends at next, in contents that end at end
 unfoldable pub tailOf : Run Record → Head → List ℕ → Answer
 tailOf f h s =
-    answered (after (f .read s (h .at) (h .stop)) (λ v last. after (closed v last (h .stop) (h .next)) (λ w m. closed w m (length s) (length s))))
+    answered (after (f .read s (h .at) (h .stop)) (λ v last. after (closed v last (h .stop) (h .next)) (λ w m. closed w m (h .end) (h .end))))
 
 unfoldable pub restOf : Head → List ℕ → Answer
 restOf h s =

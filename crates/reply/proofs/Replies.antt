@@ -97,7 +97,7 @@ reply-reads-back n first i s = let r = replies n first i s in reads-back (replyB
 id-of-read : (s : List ℕ) (a e i m : ℕ) → Octets s → a ≤ e → e ≤ length s → (prim 0x02 identifier) .read s a e ≡ got i m → i < 0x10000
 unfolding prim identifier
 id-of-read s a e i m os ae es q =
-    let L = primLaws 0x02 identifier identifierLaws in
+    let L = primLaws 0x02 identifier identifierLaws refl in
     ltb-true i 0x10000 (L .fine s a m i (L .sound s a e m i os ae es q .1))
 
 small-read : (s : List ℕ) (a e : ℕ) → Octets s → a ≤ e → e ≤ length s → (r : Ans ℕ) → (prim 0x02 identifier) .read s a e ≡ r → valueOr0 r < 0x10000
@@ -109,7 +109,7 @@ small-entered : (s : List ℕ) → Octets s → (r : Ans Extent) → enteredAny 
 unfolding after
 small-entered s os (got x n) q =
     let z = entered-ends s x n q in
-    small-read s (x .start) (x .stop) os (omega (arith, z .0, z .2)) (omega (arith, z .0)) ((prim 0x02 identifier) .read s (x .start) (x .stop)) refl
+    small-read s (x .start) (x .stop) os (z .0) (z .1) ((prim 0x02 identifier) .read s (x .start) (x .stop)) refl
 small-entered s os (halt w p) q = omega arith
 
 pub identifier-small : (s : List ℕ) → Octets s → identifierOf s < 0x10000

@@ -4,3 +4,4 @@ pub mod RateLaws
 pub mod ArgumentLaws
 pub mod FrameLaws
 pub mod Theorems
+pub mod Tiles

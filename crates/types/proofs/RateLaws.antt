@@ -12,7 +12,7 @@ use lib.ListN.{length, getD, take, drop, replicate, length-append, length-replic
 use lib.Seq.{take-at, drop-append-add, length-take-le}
 use lib.Dec.{leb, eqb}
 use borrow.Author.Tests.{eqb-true, eq-eqb, ne-eqb}
-use Rattle.coding.specs.Codec.{Run, prim, cons, pair, sort, maybe, some·more, shape, canonical, over, leafOver, pad, padded, all, has, apart}
+use Rattle.coding.specs.Codec.{Run, simple, prim, cons, pair, sort, maybe, some·more, shape, canonical, over, leafOver, pad, padded, all, has, apart}
 use Rattle.coding.specs.Leaves.{number, isSome}
 use Rattle.coding.specs.Rows.{rows}
 use Rattle.coding.proofs.Basic.{and-left, and-right}
@@ -62,24 +62,24 @@ unfolding duration money scaled currency shape over pair maybe prim cons apart h
 durationLaws =
     consLaws _ _ (canonicalLaws _ (λ r. (moneyOf r, (r .detail, (timeOf r, stepOf r)))) sameRate _ rateEqual
     (λ p v. ap (λ (g : Option Scaled). (p .0, (p .1 .0, (p .1 .1 .0, g)))) (step-back (p .1 .1 .1)))
-    (pairLaws _ _ moneyLaws (pairLaws _ _ (numberAt _ _ _ (omega arith)) (pairLaws _ _ (scaledLaws _) (maybeLaws _ _ (scaledLaws _) refl refl) refl) refl) refl))
+    (pairLaws _ _ moneyLaws (pairLaws _ _ (numberAt _ _ _ (omega arith) refl) (pairLaws _ _ (scaledLaws _ refl) (maybeLaws _ _ (scaledLaws _ refl) refl refl) refl) refl) refl)) refl
 
 pub flatRateLaws : RunLaws flatRate
 unfolding flatRate
-flatRateLaws = consLaws _ _ (canonicalLaws _ moneyOf sameRate _ rateEqual (λ m v. refl) moneyLaws)
+flatRateLaws = consLaws _ _ (canonicalLaws _ moneyOf sameRate _ rateEqual (λ m v. refl) moneyLaws) refl
 
 pub volumeLaws : RunLaws volume
 unfolding volume money scaled currency shape over pair prim cons apart has
 volumeLaws =
-    consLaws _ _ (canonicalLaws _ (λ r. (moneyOf r, r .detail)) sameRate _ rateEqual (λ p v. refl) (pairLaws _ _ moneyLaws (numberAt _ _ _ (omega arith)) refl))
+    consLaws _ _ (canonicalLaws _ (λ r. (moneyOf r, r .detail)) sameRate _ rateEqual (λ p v. refl) (pairLaws _ _ moneyLaws (numberAt _ _ _ (omega arith) refl) refl)) refl
 
 pub codedLaws : RunLaws coded
 unfolding coded
-codedLaws = canonicalLaws _ (λ r. r .detail) sameRate _ rateEqual (λ n v. refl) (numberAt _ _ _ (omega arith))
+codedLaws = canonicalLaws _ (λ r. r .detail) sameRate _ rateEqual (λ n v. refl) (numberAt _ _ _ (omega arith) refl)
 
-pub plainRateLaws : (tag kind : ℕ) → RunLaws (plainRate tag kind)
+pub plainRateLaws : (tag kind : ℕ) → simple tag ≡ true → RunLaws (plainRate tag kind)
 unfolding plainRate
-plainRateLaws tag kind = canonicalLaws _ (λ r. tt) sameRate _ rateEqual (λ u v. refl) (primLaws _ _ nullLaws)
+plainRateLaws tag kind plain = canonicalLaws _ (λ r. tt) sameRate _ rateEqual (λ u v. refl) (primLaws _ _ nullLaws plain)
 
 -- ---- what a price is: its kind, that no item is set, and that its currency has ten places
 
@@ -165,7 +165,7 @@ priceLaws =
     (sortLaws 0xa2 (isRate 2) flatRate from3 flatRateLaws
     (sortLaws 0xa3 (isRate 3) volume from4 volumeLaws
     (sortLaws 0x02 (isRate 4) coded from5 codedLaws
-    (sortLaws 0x84 (isRate 5) (plainRate 0x84 5) (plainRate 0x85 6) (plainRateLaws _ _) (plainRateLaws _ _)
+    (sortLaws 0x84 (isRate 5) (plainRate 0x84 5) (plainRate 0x85 6) (plainRateLaws _ _ refl) (plainRateLaws _ _ refl)
     (λ r v. eq-eqb (r .kind) 5 (plain-is 0x84 5 r v .0)) (λ r v. not-it 5 r (here 6 r (plain-is 0x85 6 r v))) refl refl refl)
     (λ r v. eq-eqb (r .kind) 4 (coded-is r v .0)) (λ r v. not-it 4 r (is5 r v)) refl refl refl)
     (λ r v. eq-eqb (r .kind) 3 (volume-is r v .0)) (λ r v. not-it 3 r (is4 r v)) refl refl refl)
@@ -182,7 +182,7 @@ unfolding rate price plainRate sort canonical over prim apart has
 rateLaws =
     consLaws _ _ (canonicalLaws _ (λ r. (r .item, itemised 0 r)) sameRate _ rateEqual
     (λ p v. ap (λ (r : Rate). (p .0, r)) (no-item (p .1) (price-is (p .1) (pair-right _ _ p v) .2 .1)))
-    (pairLaws _ _ (numberAt _ _ _ (omega arith)) priceLaws refl))
+    (pairLaws _ _ (numberAt _ _ _ (omega arith) refl) priceLaws refl)) refl
 
 pub rate-room : (r : Rate) → rate .valid r ≡ true → length (r .currency .octets) ≡ 10
 unfolding rate cons

@@ -43,8 +43,8 @@ pub unitLaws : RunLaws unit
 unfolding unit prim alt maybe number apart has
 unitLaws =
     consLaws _ _ (canonicalLaws unitsTo unitsFrom sameUnits _ unitsEqual (λ p v. units-back (p .0) (p .1) (pair-right _ _ p v))
-    (pairLaws _ _ (altLaws _ _ _ (primLaws _ _ nullLaws) (numberAt _ _ _ (omega arith)) refl refl refl)
-    (maybeLaws _ _ (numberAt _ _ _ (omega arith)) refl refl) refl))
+    (pairLaws _ _ (altLaws _ _ _ (primLaws _ _ nullLaws refl) (numberAt _ _ _ (omega arith) refl) refl refl refl)
+    (maybeLaws _ _ (numberAt _ _ _ (omega arith) refl) refl refl) refl)) refl
 
 pub unitsLaws : RunLaws (some·more 0x30 32 unit)
 unfolding unit cons apart

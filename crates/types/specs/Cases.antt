@@ -5,7 +5,7 @@ use mathlib.Core.Path.{_≡_, refl}
 use mathlib.Core.List.{List, [], _∷_, map}
 use lib.ListN.{replicate}
 use lib.Dec.{eqb}
-use Rattle.coding.specs.Reader.{after, tagged, neither, choice, extent, lengthAt, opened, blamed, closed, constructed, enteredAny, part, mapped, narrowed, judged, primitive, optional, entries, listOf}
+use Rattle.coding.specs.Reader.{after, tagged, neither, choice, extent, numberedAt, endless, marker, turn, searched, findEnd, spanned, lengthAt, opened, blamed, closed, constructed, enteredAny, part, mapped, narrowed, judged, primitive, optional, entries, listOf}
 use Rattle.coding.specs.Contents.{numberFrom, negative, shortest, natural, every, text, null}
 use Rattle.coding.specs.Codec.{lengthOctets, has, prim, cons, nothing, pair, alt, over, maybe, some·more, leafOver, leads, barring, marked, sort, frames, shape, canonical, pad, padded}
 use Rattle.coding.specs.Leaves.{digits, width, number, string, nullLeaf, signed16, identifier, listing, listed, only, given}
@@ -72,6 +72,42 @@ c8 = 0xa1 ∷ 0x09 ∷ 0x02 ∷ 0x01 ∷ 0x06 ∷ 0x02 ∷ 0x01 ∷ 0x20 ∷ 0x0
 unfoldable pub c8-eleven : List ℕ
 c8-eleven = 0xa1 ∷ 0x09 ∷ 0x02 ∷ 0x01 ∷ 0x06 ∷ 0x02 ∷ 0x01 ∷ 0x20 ∷ 0x02 ∷ 0x01 ∷ 0x0b ∷ []
 
+-- C1, four elements without a number inside one another
+unfoldable pub c1-endless : List ℕ
+c1-endless = 0xa1 ∷ 0x80 ∷ 0x02 ∷ 0x01 ∷ 0x01 ∷ 0x02 ∷ 0x01 ∷ 0x21 ∷ 0x30 ∷ 0x80 ∷ 0xa1 ∷ 0x80 ∷ 0x81 ∷ 0x03 ∷ 0x45 ∷ 0x55 ∷ 0x52 ∷ 0xa2 ∷ 0x80 ∷ 0x81 ∷ 0x01 ∷ 0x32 ∷ 0x82 ∷ 0x01 ∷ 0x01 ∷ 0x00 ∷ 0x00 ∷ 0x00 ∷ 0x00 ∷ 0x82 ∷ 0x01 ∷ 0x00 ∷ 0x00 ∷ 0x00 ∷ 0x00 ∷ 0x00 ∷ []
+
+-- C3 without a number
+unfoldable pub c3-endless : List ℕ
+c3-endless = 0xa1 ∷ 0x80 ∷ 0x02 ∷ 0x01 ∷ 0x05 ∷ 0x02 ∷ 0x01 ∷ 0x1e ∷ 0x0a ∷ 0x01 ∷ 0x01 ∷ 0x00 ∷ 0x00 ∷ []
+
+-- C7, both without a number
+unfoldable pub c7-endless : List ℕ
+c7-endless = 0xa1 ∷ 0x80 ∷ 0x02 ∷ 0x01 ∷ 0x04 ∷ 0x02 ∷ 0x01 ∷ 0x23 ∷ 0x30 ∷ 0x80 ∷ 0x81 ∷ 0x00 ∷ 0x00 ∷ 0x00 ∷ 0x00 ∷ 0x00 ∷ []
+
+-- and only the inner one
+unfoldable pub c7-mixed : List ℕ
+c7-mixed = 0xa1 ∷ 0x0c ∷ 0x02 ∷ 0x01 ∷ 0x04 ∷ 0x02 ∷ 0x01 ∷ 0x23 ∷ 0x30 ∷ 0x80 ∷ 0x81 ∷ 0x00 ∷ 0x00 ∷ 0x00 ∷ []
+
+-- no end marker
+unfoldable pub no-marker : List ℕ
+no-marker = 0xa1 ∷ 0x80 ∷ 0x02 ∷ 0x01 ∷ 0x05 ∷ 0x02 ∷ 0x01 ∷ 0x1e ∷ 0x0a ∷ 0x01 ∷ 0x01 ∷ []
+
+-- one end marker for two
+unfoldable pub one-marker : List ℕ
+one-marker = 0xa1 ∷ 0x80 ∷ 0x02 ∷ 0x01 ∷ 0x04 ∷ 0x02 ∷ 0x01 ∷ 0x23 ∷ 0x30 ∷ 0x80 ∷ 0x81 ∷ 0x00 ∷ 0x00 ∷ 0x00 ∷ []
+
+-- octets after the end marker
+unfoldable pub over-marker : List ℕ
+over-marker = 0xa1 ∷ 0x80 ∷ 0x02 ∷ 0x01 ∷ 0x05 ∷ 0x02 ∷ 0x01 ∷ 0x1e ∷ 0x0a ∷ 0x01 ∷ 0x01 ∷ 0x00 ∷ 0x00 ∷ 0x00 ∷ 0x00 ∷ []
+
+-- 80 on a primitive element
+unfoldable pub plain-endless : List ℕ
+plain-endless = 0xa1 ∷ 0x80 ∷ 0x02 ∷ 0x01 ∷ 0x05 ∷ 0x02 ∷ 0x01 ∷ 0x1e ∷ 0x0a ∷ 0x80 ∷ 0x01 ∷ 0x00 ∷ 0x00 ∷ []
+
+-- the inner marker is missing, in a numbered element
+unfoldable pub inner-cut : List ℕ
+inner-cut = 0xa1 ∷ 0x0a ∷ 0x02 ∷ 0x01 ∷ 0x04 ∷ 0x02 ∷ 0x01 ∷ 0x23 ∷ 0x30 ∷ 0x80 ∷ 0x81 ∷ 0x00 ∷ []
+
 -- ---- what they say; frame 1 is an invoke, 2 a return result
 
 -- EUR, 50 times ten
@@ -102,12 +138,21 @@ cases =
     ∷ took c7 (carries 1 4 35 (bare 1)) 0 c7
     ∷ took c8 (carries 1 6 32 (arranged 10)) 0 c8
     ∷ no 9 c8-eleven
+    ∷ took c1-endless (carries 1 1 33 (plain (moneyFigure halfEuro))) 500 c1
+    ∷ took c3-endless (asks 5 1) 0 c3
+    ∷ took c7-endless (carries 1 4 35 (bare 1)) 0 c7
+    ∷ took c7-mixed (carries 1 4 35 (bare 1)) 0 c7
+    ∷ no 1 no-marker
+    ∷ no 1 one-marker
+    ∷ no 5 over-marker
+    ∷ no 2 plain-endless
+    ∷ no 9 inner-cut
     ∷ []
 
 -- ---- the same table by the definitions
 
 unfoldable pub answerOf : List ℕ → Answer
-unfolding after tagged neither choice extent lengthAt opened blamed closed constructed enteredAny part mapped narrowed judged primitive optional entries listOf numberFrom negative shortest natural every text null has prim cons nothing pair alt over maybe some·more leafOver leads barring marked sort frames shape canonical pad padded number string nullLeaf signed16 identifier listing listed only given rows table scaled currencyLeaf currency money digitsLeaf identified publicParty plainParty party unassociated association unit duration flatRate volume coded plainRate price rate sign inMoney inUnits during subtotals ending settled finals rates arrangement available chargeOf value carrying request argument invoke returnResult failed returnError caller problem problems reject frame component readOf
+unfolding after tagged neither choice extent numberedAt endless marker turn searched findEnd spanned lengthAt opened blamed closed constructed enteredAny part mapped narrowed judged primitive optional entries listOf numberFrom negative shortest natural every text null has prim cons nothing pair alt over maybe some·more leafOver leads barring marked sort frames shape canonical pad padded number string nullLeaf signed16 identifier listing listed only given rows table scaled currencyLeaf currency money digitsLeaf identified publicParty plainParty party unassociated association unit duration flatRate volume coded plainRate price rate sign inMoney inUnits during subtotals ending settled finals rates arrangement available chargeOf value carrying request argument invoke returnResult failed returnError caller problem problems reject frame component readOf
 answerOf s = readOf s
 
 unfoldable pub amountOf : Answer → ℕ
@@ -121,5 +166,5 @@ unfoldable pub tried : Case → Case
 tried c = let a : Answer = answerOf (c .octets) in record { octets = c .octets; answer = a; thousandths = amountOf a; written = writtenOf a }
 
 pub cases-right : map tried cases ≡ cases
-unfolding cases tried answerOf amountOf writtenOf c1 c2 c3 c3-long c4 c5 c6 c6-ending c7 c8 c8-eleven
+unfolding cases tried answerOf amountOf writtenOf c1 c2 c3 c3-long c4 c5 c6 c6-ending c7 c8 c8-eleven c1-endless c3-endless c7-endless c7-mixed no-marker one-marker over-marker plain-endless inner-cut
 cases-right = refl

@@ -30,7 +30,7 @@ returns-3 : tie.Need-returns-3
 unfolding restOf contentsOf invoke leads
 returns-3 c = (
   simp flat (goes _ _ _ (c .before .before .before .before .before .before .before .identifier-at .ensures .0) (c .before .before .before .before .before .if1 .left)
-      (goes _ _ _ (c .before .before .before .before .value-at .ensures .0) (c .before .before .if2 .left) (tail-one _ _ _ refl refl))),
+      (goes _ _ _ (c .before .before .before .before .value-at .ensures .0) (c .before .before .if2 .left) (tail-one _ _ _ _ refl refl refl))),
   omega arith,
 )
 

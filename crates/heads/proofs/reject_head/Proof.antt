@@ -11,7 +11,7 @@ use Rattle.heads.proofs.reject_head.Tie as tie
 returns : tie.Need-returns
 unfolding restOf
 returns c = (
-  rw (c .no-head .ensures, c .before .number-of .ensures, reject-by _ _)
+  rw (c .no-head .ensures, c .before .number-of .ensures, reject-by _ _ _)
       (refuses _ _ _ (c .before .before .before .before .caller-at .ensures .0) (c .before .before .if1 .taken)),
   rw (c .no-head .ensures) (omega arith),
 )
@@ -19,7 +19,7 @@ returns c = (
 returns-2 : tie.Need-returns-2
 unfolding restOf
 returns-2 c = (
-  rw (c .no-head2 .ensures, c .before .number-of2 .ensures, reject-by _ _)
+  rw (c .no-head2 .ensures, c .before .number-of2 .ensures, reject-by _ _ _)
       (goes _ _ _ (c .before .before .before .before .before .before .before .caller-at .ensures .0) (c .before .before .before .before .before .if1 .left)
       (refuses _ _ _ (c .before .before .before .before .problems-at .ensures) (c .before .before .if2 .taken))),
   rw (c .no-head2 .ensures) (omega arith),
@@ -28,7 +28,7 @@ returns-2 c = (
 returns-3 : tie.Need-returns-3
 unfolding restOf
 returns-3 c = (
-  rw (c .no-head3 .ensures, reject-by _ _)
+  rw (c .no-head3 .ensures, reject-by _ _ _)
       (goes _ _ _ (c .before .before .before .before .before .before .before .before .caller-at .ensures .0) (c .before .before .before .before .before .before .if1 .left)
       (goes _ _ _ (c .before .before .before .before .before .problems-at .ensures) (c .before .before .before .if2 .left)
       (leaves _ _ _ _ (c .before .if3 .taken)))),
@@ -38,7 +38,7 @@ returns-3 c = (
 returns-4 : tie.Need-returns-4
 unfolding restOf
 returns-4 c = (
-  rw (reject-by _ _)
+  rw (reject-by _ _ _)
       (goes _ _ _ (c .before .before .before .before .before .before .before .caller-at .ensures .0) (c .before .before .before .before .before .if1 .left)
       (goes _ _ _ (c .before .before .before .before .problems-at .ensures) (c .before .before .if2 .left)
       (ap accepted (sym (c .before .before .before .before .before .before .before .caller-at .ensures .1 _ _)) ∙ ends _ _ _ _ (c .if3 .left)))),
