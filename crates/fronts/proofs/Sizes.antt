@@ -13,8 +13,8 @@ use Rattle.coding.specs.Codec.{has}
 use Rattle.coding.specs.Leaves.{identifier}
 use Rattle.coding.specs.Written.{lead, fullNumber}
 use Rattle.coding.proofs.Basic.{and-left, and-right}
-use Rattle.coding.proofs.Small.{id-length, id-range, null-length}
-use Rattle.coding.proofs.Writing.{number-length, width-range}
+use Rattle.coding.proofs.Small.{id-length, id-range, null-length, small-length}
+use Rattle.coding.proofs.Writing.{number-length, width-range, lead-length-short, lead-length-long}
 use Rattle.types.specs.Frames.{operations, errors}
 use Rattle.heads.proofs.Codes.{has-below}
 use Rattle.fronts.specs.declared.Front.{Front}
@@ -62,6 +62,12 @@ module _ (f : Front) (v : frontFine f ≡ true) where
       go false h =
           let a = and-right ((eqb 1 (f .frame) && eqb 0 (f .unnamed)) && (eqb (f .id) (f .id) && eqb (f .operation) (f .operation))) _ h in
           omega (arith, eqb-true 0 (f .detail) (and-right (eqb 0 (f .error) && eqb 0 (f .problem)) _ a))
+
+  pub small-operation : f .frame ≡ 1 → f .operation < 128
+  small-operation e = small-1 e .0
+
+  pub small-detail : f .frame ≡ 1 → f .detail < 128
+  small-detail e = small-1 e .1
 
   pub small-2 : f .frame ≡ 2 → f .operation < 128
   unfolding frontFine
@@ -118,6 +124,57 @@ module _ (f : Front) (v : frontFine f ≡ true) where
 pub id-many : (f : Front) → (length (idOctets f) ≡ 2 + length (identifier .write (f .id)))
 id-many f = id-length 0x02 (f .id)
 
+-- by the frame, where the identifier has w octets
+abbrev Sized : Front → ℕ → ℕ → Type 0
+Sized f n r = (r ≡ length (frontOctets f n)) × ((5 ≤ r) × (r ≤ 10))
+
+module _ (f : Front) (n w : ℕ) (v : frontFine f ≡ true) (e : w ≡ length (identifier .write (f .id))) (b : (1 ≤ w) × (w ≤ 2)) where
+  pub size-request : f .frame ≡ 1 → f .operation ≡ 30 → Sized f n (2 + w + 6)
+  size-request q o =
+      let s = small-1 f v q in
+      let k : length (frontOctets f n) ≡ 2 + w + 6 =
+      rw (front-1 f n q, eq-eqb _ _ o) (simp (length-append, id-many, small-length 0x02 _ (s .0), small-length 0x0a _ (s .1)) (omega arith)) in
+      (sym k, (omega arith, omega arith))
+
+  pub size-invoke : f .frame ≡ 1 → (f .operation ≡ 30 → ⊥) → Sized f n (2 + w + 3)
+  size-invoke q o =
+      let s = small-1 f v q in
+      let k : length (frontOctets f n) ≡ 2 + w + 3 =
+      rw (front-1 f n q, ne-eqb _ _ o) (simp (length-append, id-many, small-length 0x02 _ (s .0)) (omega arith)) in
+      (sym k, (omega arith, omega arith))
+
+  pub size-result : f .frame ≡ 2 → n + 3 < 128 → Sized f n (2 + w + 5)
+  size-result q h =
+      let k : length (frontOctets f n) ≡ 2 + w + 5 =
+      rw (front-2 f n q) (simp (length-append, id-many, lead-length-short 0x30 (3 + n) (omega arith), small-length 0x02 _ (small-2 f v q)) (omega arith)) in
+      (sym k, (omega arith, omega arith))
+
+  pub size-result-long : f .frame ≡ 2 → 128 ≤ n + 3 → n < 250 → Sized f n (2 + w + 6)
+  size-result-long q h l =
+      let k : length (frontOctets f n) ≡ 2 + w + 6 =
+      rw (front-2 f n q)
+      (simp (length-append, id-many, lead-length-long 0x30 (3 + n) (omega arith) (omega arith), small-length 0x02 _ (small-2 f v q)) (omega arith)) in
+      (sym k, (omega arith, omega arith))
+
+  pub size-error : f .frame ≡ 3 → Sized f n (2 + w + 3)
+  size-error q =
+      let k : length (frontOctets f n) ≡ 2 + w + 3 = rw (front-3 f n q) (simp (length-append, id-many, small-length 0x02 _ (small-3 f v q)) (omega arith)) in
+      (sym k, (omega arith, omega arith))
+
+  pub size-reject : (f .frame ≡ 1 → ⊥) → (f .frame ≡ 2 → ⊥) → (f .frame ≡ 3 → ⊥) → (f .unnamed ≡ 1 → ⊥) → Sized f n (2 + w + 3)
+  size-reject x y z u =
+      let k : length (frontOctets f n) ≡ 2 + w + 3 =
+      rw (front-4 f n x y z, ne-eqb _ _ u) (simp (length-append, id-many, small-length (f .problem) (f .detail) (small-4 f v x y z)) (omega arith)) in
+      (sym k, (omega arith, omega arith))
+
+pub size-unnamed : (f : Front) (n : ℕ) → frontFine f ≡ true → (f .frame ≡ 1 → ⊥) → (f .frame ≡ 2 → ⊥) → (f .frame ≡ 3 → ⊥) → f .unnamed ≡ 1 → Sized f n 5
+size-unnamed f n v x y z u =
+    let k : length (frontOctets f n) ≡ 5 =
+    rw (front-4 f n x y z, eq-eqb _ _ u) (simp (length-append, null-length, small-length (f .problem) (f .detail) (small-4 f v x y z)) (omega arith)) in
+    (sym k, (omega arith, omega arith))
+
+pub ruleset sizes = (size-request, size-invoke, size-result, size-result-long, size-error, size-unnamed, size-reject)
+
 -- at least five, whatever is in it
 pub front-least : (f : Front) (n : ℕ) → 5 ≤ length (frontOctets f n)
 unfolding frontOctets
@@ -150,3 +207,30 @@ front-least f n = go (eqb (f .frame) 1) (eqb (f .frame) 2) (eqb (f .frame) 3) (e
     go false false true e = omega (arith, length-append (idOctets f) (fullNumber 0x02 (f .error)), id3, num3 0x02 (f .error))
     go false false false true = omega (arith, length-append (lead 0x05 0) (fullNumber (f .problem) (f .detail)), null-length 0x05, num3 (f .problem) (f .detail))
     go false false false false = omega (arith, length-append (idOctets f) (fullNumber (f .problem) (f .detail)), id3, num3 (f .problem) (f .detail))
+
+-- ---- room for a part that is there or not
+
+module _ (a n : ℕ) (f : Front) where
+  pub room-null : f .unnamed ≡ 1 → a + length (cond (eqb (f .unnamed) 1) (lead 0x05 0) (idOctets f)) ≤ n → a + length (lead 0x05 0) ≤ n
+  room-null u h = rw (eq-eqb _ _ u) at h
+
+  pub room-named : (f .unnamed ≡ 1 → ⊥) → a + length (cond (eqb (f .unnamed) 1) (lead 0x05 0) (idOctets f)) ≤ n → a + length (idOctets f) ≤ n
+  room-named u h = rw (ne-eqb _ _ u) at h
+
+-- the same of a front, frame by frame
+module _ (a m : ℕ) (f : Front) (n : ℕ) where
+  pub room-1 : f .frame ≡ 1 → a + length (frontOctets f n) ≤ m
+      → a + length (idOctets f ++ (fullNumber 0x02 (f .operation) ++ cond (eqb (f .operation) 30) (fullNumber 0x0a (f .detail)) [])) ≤ m
+  room-1 q h = rw (front-1 f n q) at h
+
+  pub room-2 : f .frame ≡ 2 → a + length (frontOctets f n) ≤ m → a + length (idOctets f ++ (lead 0x30 (3 + n) ++ fullNumber 0x02 (f .operation))) ≤ m
+  room-2 q h = rw (front-2 f n q) at h
+
+  pub room-3 : f .frame ≡ 3 → a + length (frontOctets f n) ≤ m → a + length (idOctets f ++ fullNumber 0x02 (f .error)) ≤ m
+  room-3 q h = rw (front-3 f n q) at h
+
+  pub room-4 : (f .frame ≡ 1 → ⊥) → (f .frame ≡ 2 → ⊥) → (f .frame ≡ 3 → ⊥) → a + length (frontOctets f n) ≤ m
+      → a + length (cond (eqb (f .unnamed) 1) (lead 0x05 0) (idOctets f) ++ fullNumber (f .problem) (f .detail)) ≤ m
+  room-4 x y z h = rw (front-4 f n x y z) at h
+
+pub ruleset fronts = (front-1, front-2, front-3, front-4, room-1, room-2, room-3, room-4, small-operation, small-detail, small-2, small-3, small-4)

@@ -17,7 +17,4 @@ returns-3 c =
 pub is-operation-spec : {M : Type 1} → statement M
 is-operation-spec =
     tie.close
-    (tie.spec
-    returns
-    returns-2
-    returns-3)
+    (tie.spec returns returns-2 returns-3)

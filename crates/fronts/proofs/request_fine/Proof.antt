@@ -1,41 +1,10 @@
-use borrow.Author.Tests.{eq-eqb, ne-eqb, le-leb, lt-leb}
-use mathlib.Core.Path.{sym, refl}
-use Rattle.fronts.specs.Fronts.{frontFine}
-use Rattle.fronts.proofs.Sizes.{operation-30}
+use Rattle.fronts.proofs.Tests.{tests}
+use Rattle.fronts.proofs.Fine.{request-is}
 use Rattle.fronts.proofs.request_fine.Statement.{statement}
 use Rattle.fronts.proofs.request_fine.Tie as tie
-
-returns : tie.Need-returns
-unfolding frontFine
-returns c =
-    simp (eq-eqb _ _ (c .before .before .pre .0), eq-eqb _ _ (sym (c .before .before .pre .0)), eq-eqb _ _ (c .before .before .pre .1), eq-eqb _ _ (sym (c .before .before .pre .1)), operation-30 _ (c .before .before .pre .1), ne-eqb _ _ (c .if1 .taken), ne-eqb _ _ (λ h. c .if1 .taken (sym h)), eq-eqb (c .before .before .args .f .id) (c .before .before .args .f .id) refl, eq-eqb (c .before .before .args .f .detail) (c .before .before .args .f .detail) refl)
-
-returns-2 : tie.Need-returns-2
-unfolding frontFine
-returns-2 c =
-    simp (eq-eqb _ _ (c .before .before .before .before .pre .0), eq-eqb _ _ (sym (c .before .before .before .before .pre .0)), eq-eqb _ _ (c .before .before .before .before .pre .1), eq-eqb _ _ (sym (c .before .before .before .before .pre .1)), operation-30 _ (c .before .before .before .before .pre .1), ne-eqb _ _ (c .if2 .taken), ne-eqb _ _ (λ h. c .if2 .taken (sym h)), eq-eqb _ _ (c .before .before .if1 .left), eq-eqb _ _ (sym (c .before .before .if1 .left)), eq-eqb (c .before .before .before .before .args .f .id) (c .before .before .before .before .args .f .id) refl, eq-eqb (c .before .before .before .before .args .f .detail) (c .before .before .before .before .args .f .detail) refl)
-
-returns-3 : tie.Need-returns-3
-unfolding frontFine
-returns-3 c =
-    simp (eq-eqb _ _ (c .before .before .before .before .before .before .pre .0), eq-eqb _ _ (sym (c .before .before .before .before .before .before .pre .0)), eq-eqb _ _ (c .before .before .before .before .before .before .pre .1), eq-eqb _ _ (sym (c .before .before .before .before .before .before .pre .1)), operation-30 _ (c .before .before .before .before .before .before .pre .1), ne-eqb _ _ (c .if3 .taken), ne-eqb _ _ (λ h. c .if3 .taken (sym h)), eq-eqb _ _ (c .before .before .if2 .left), eq-eqb _ _ (sym (c .before .before .if2 .left)), eq-eqb _ _ (c .before .before .before .before .if1 .left), eq-eqb _ _ (sym (c .before .before .before .before .if1 .left)), eq-eqb (c .before .before .before .before .before .before .args .f .id) (c .before .before .before .before .before .before .args .f .id) refl, eq-eqb (c .before .before .before .before .before .before .args .f .detail) (c .before .before .before .before .before .before .args .f .detail) refl)
-
-returns-4 : tie.Need-returns-4
-unfolding frontFine
-returns-4 c =
-    simp (eq-eqb _ _ (c .before .before .before .before .before .before .before .before .pre .0), eq-eqb _ _ (sym (c .before .before .before .before .before .before .before .before .pre .0)), eq-eqb _ _ (c .before .before .before .before .before .before .before .before .pre .1), eq-eqb _ _ (sym (c .before .before .before .before .before .before .before .before .pre .1)), operation-30 _ (c .before .before .before .before .before .before .before .before .pre .1), eq-eqb _ _ (c .before .before .if3 .left), eq-eqb _ _ (sym (c .before .before .if3 .left)), eq-eqb _ _ (c .before .before .before .before .if2 .left), eq-eqb _ _ (sym (c .before .before .before .before .if2 .left)), eq-eqb _ _ (c .before .before .before .before .before .before .if1 .left), eq-eqb _ _ (sym (c .before .before .before .before .before .before .if1 .left)), lt-leb _ _ (c .if4 .taken), eq-eqb (c .before .before .before .before .before .before .before .before .args .f .id) (c .before .before .before .before .before .before .before .before .args .f .id) refl, eq-eqb (c .before .before .before .before .before .before .before .before .args .f .detail) (c .before .before .before .before .before .before .before .before .args .f .detail) refl)
-
-returns-5 : tie.Need-returns-5
-unfolding frontFine
-returns-5 c =
-    simp (eq-eqb _ _ (c .before .before .before .before .before .before .before .before .pre .0), eq-eqb _ _ (sym (c .before .before .before .before .before .before .before .before .pre .0)), eq-eqb _ _ (c .before .before .before .before .before .before .before .before .pre .1), eq-eqb _ _ (sym (c .before .before .before .before .before .before .before .before .pre .1)), operation-30 _ (c .before .before .before .before .before .before .before .before .pre .1), eq-eqb _ _ (c .before .before .if3 .left), eq-eqb _ _ (sym (c .before .before .if3 .left)), eq-eqb _ _ (c .before .before .before .before .if2 .left), eq-eqb _ _ (sym (c .before .before .before .before .if2 .left)), eq-eqb _ _ (c .before .before .before .before .before .before .if1 .left), eq-eqb _ _ (sym (c .before .before .before .before .before .before .if1 .left)), le-leb _ _ (c .if4 .left), eq-eqb (c .before .before .before .before .before .before .before .before .args .f .id) (c .before .before .before .before .before .before .before .before .args .f .id) refl, eq-eqb (c .before .before .before .before .before .before .before .before .args .f .detail) (c .before .before .before .before .before .before .before .before .args .f .detail) refl)
 
 pub request-fine-spec : {M : Type 1} → statement M
 request-fine-spec =
     tie.close
-    (tie.spec
-    returns
-    returns-2
-    returns-3
-    returns-4
-    returns-5)
+    (tie.spec (λ c. search (tests, request-is)) (λ c. search (tests, request-is)) (λ c. search (tests, request-is)) (λ c. search (tests, request-is))
+    (λ c. search (tests, request-is)))
