@@ -24,14 +24,14 @@ int rewrite(const uint8_t *octets, size_t length, uint8_t *buffer, size_t room)
     if (aoc_read(octets, length, &a))
         return -1;
     aoc_written w = aoc_write(&a.record, buffer, room);
-    return w.number ? -1 : (int)w.count;
+    return w.refusal ? -1 : (int)w.count;
 }
 
 static unsigned read_one(long i)
 {
     aoc_answer a;
     aoc_read(row[i & 7].octets, row[i & 7].length, &a);
-    return a.number + a.record.frame;
+    return a.refusal + a.record.frame;
 }
 
 static unsigned rewrite_one(long i)

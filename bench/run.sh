@@ -9,7 +9,7 @@ count=${COUNT:-4000} timed=${TIMED:-1000000}
 work=$(mktemp -d) || exit 2
 trap 'rm -rf "$work"' EXIT
 
-sh tools/archive && gcc -O2 bench/echo.c -o "$work/echo" || exit 1
+sh tools/archive && "${CC:-cc}" -O2 bench/echo.c -o "$work/echo" || exit 1
 [ -x target/bin/lines ] || rt check lines >"$work/log" 2>&1 || { echo "bench: the line program is not built"; exit 1; }
 if [ "$(uname -m)" = x86_64 ]; then
     built="the archive itself" lines=target/bin/lines
@@ -17,11 +17,11 @@ if [ "$(uname -m)" = x86_64 ]; then
 else
     built="the archive's own module compiled for this processor" lines=$work/lines
     sh bench/native.sh crate aoc "$work/aoc.o" && sh bench/native.sh c bench/ours.c "$work/side.o" &&
-        gcc -O2 bench/bench.c "$work/side.o" "$work/aoc.o" -o "$work/ours" &&
-        sh bench/native.sh crate lines "$work/lines.o" && gcc "$work/lines.o" -o "$lines" || exit 1
+        "${CC:-cc}" -O2 bench/bench.c "$work/side.o" "$work/aoc.o" -o "$work/ours" &&
+        sh bench/native.sh crate lines "$work/lines.o" && "${CC:-cc}" "$work/lines.o" -o "$lines" || exit 1
 fi
 libpri=no
-if gcc -O2 bench/bench.c bench/libpri.c -o "$work/libpri" -lpri 2>/dev/null; then
+if "${CC:-cc}" -O2 bench/bench.c bench/libpri.c -o "$work/libpri" -lpri 2>/dev/null; then
     libpri=yes
 else
     echo "bench: libpri is not installed (Debian: apt-get install libpri-dev), so its side is left out"

@@ -10,9 +10,9 @@
 #include <stdlib.h>
 #include <string.h>
 
-#include "aoc.h"
+#include "aoc_text.h"
 
-enum { MOST_CALLS = 64, WORD = 16, LONGEST_ELEMENT = 257 };
+enum { MOST_CALLS = 64, WORD = 16, TEXT = 1024 };
 
 struct call {
     char room[WORD];
@@ -40,12 +40,17 @@ static struct call *call_of(const char *room, unsigned number)
 
 /* ------------------------------------------------------------------ events */
 
+static aoc_service service_of(char c)
+{
+    return c == 'S' ? AOC_SERVICE_S : c == 'D' ? AOC_SERVICE_D : c == 'E' ? AOC_SERVICE_E : AOC_SERVICE_NONE;
+}
+
 static aoc_outcome set_up(struct call *call, const char *services)
 {
     aoc_services asked = aoc_no_services();
     aoc_identifiers ids = aoc_three_identifiers(last_identifier);
     for (; *services; services++)
-        asked = aoc_with_service(asked, *services == 'S' ? AOC_S : *services == 'D' ? AOC_D : *services == 'E' ? AOC_E : AOC_NO_SERVICE);
+        asked = aoc_with_service(asked, service_of(*services));
     last_identifier = ids.e;
     return aoc_setup(&call->account, asked, ids);
 }
@@ -61,27 +66,47 @@ static void print_octets(const uint8_t *octets, size_t n)
 static void take_component(struct call *call, const char *time, const uint8_t *octets, size_t n)
 {
     aoc_outcome outcome = aoc_component(&call->account, octets, n);
-    if (outcome.number == AOC_WRONG_PHASE) {
-        printf("%s  room %s  call %u  a component came in no call\n", time, call->room, call->number);
-    } else if (outcome.number < AOC_NEW_RATE) {
-        uint8_t reject[AOC_LONGEST_REPLY];
-        aoc_written reply = aoc_reply(octets, n, reject, sizeof reject);
-        printf("%s  room %s  call %u  refused %u%s", time, call->room, call->number, outcome.number,
-               reply.count ? ", sent back" : "");
-        print_octets(reject, reply.count);
+    if (!aoc_is_refusal(outcome.number))
+        return;
+    printf("%s  room %s  call %u  a component refused: %s", time, call->room, call->number, aoc_refusal_text(outcome.number));
+    uint8_t reject[AOC_LIMIT_REPLY_OCTETS];
+    aoc_written reply = {0, 0};
+    if (outcome.number != AOC_REFUSED_WRONG_PHASE)
+        reply = aoc_reply(octets, n, reject, sizeof reject);
+    if (reply.count)
+        printf(", sent back");
+    print_octets(reject, reply.count);
+}
+
+static int digit(char c)
+{
+    return c >= '0' && c <= '9' ? c - '0' : c >= 'A' && c <= 'F' ? c - 'A' + 10 : c >= 'a' && c <= 'f' ? c - 'a' + 10 : -1;
+}
+
+/* The octets of a text of two hex digits each, with spaces between them; false where it has anything else, or too many. */
+static bool octets_of(const char *text, uint8_t *octets, size_t most, size_t *count)
+{
+    for (*count = 0;; text += 2) {
+        text += strspn(text, " \t\r\n");
+        if (!*text)
+            return true;
+        if (digit(text[0]) < 0 || digit(text[1]) < 0 || *count == most)
+            return false;
+        octets[(*count)++] = (uint8_t)(digit(text[0]) << 4 | digit(text[1]));
     }
 }
 
 static void take_element(struct call *call, const char *time, const char *hex)
 {
-    uint8_t octets[LONGEST_ELEMENT + 1];
-    size_t n = 0;
-    unsigned octet;
-    for (int used; n < sizeof octets && sscanf(hex, " %2x%n", &octet, &used) == 1; hex += used)
-        octets[n++] = (uint8_t)octet;
+    uint8_t octets[AOC_LIMIT_ELEMENT_OCTETS];
+    size_t n;
+    if (!octets_of(hex, octets, sizeof octets, &n)) {
+        printf("%s  room %s  call %u  not the octets of an element\n", time, call->room, call->number);
+        return;
+    }
     aoc_starts found = aoc_element(octets, n);
-    if (found.number)
-        printf("%s  room %s  call %u  a malformed Facility element\n", time, call->room, call->number);
+    if (aoc_is_refusal(found.refusal))
+        printf("%s  room %s  call %u  %s\n", time, call->room, call->number, aoc_refusal_text(found.refusal));
     for (unsigned i = 0; i < found.count; i++) {
         size_t from = found.starts[i], to = i + 1 < found.count ? found.starts[i + 1] : n;
         take_component(call, time, octets + from, to - from);
@@ -113,44 +138,17 @@ static void take_line(const char *line)
         take_element(call, time, line + used);
     else
         printf("%s  room %s  call %u  no such event: %s\n", time, room, number, event);
-    if (outcome.number)
-        printf("%s  room %s  call %u  %s refused %u\n", time, room, number, event, outcome.number);
+    if (aoc_is_refusal(outcome.number))
+        printf("%s  room %s  call %u  %s refused: %s\n", time, room, number, event, aoc_refusal_text(outcome.number));
 }
 
 /* ------------------------------------------------------------------ figures */
 
-static void print_money(const aoc_money *money)
-{
-    uint64_t value = aoc_thousandths(money->number, money->multiplier);
-    for (int i = 0; i < money->currency.count; i++) {
-        uint8_t c = money->currency.octets[i];
-        putchar(c >= 0x20 && c < 0x7F ? c : '?');
-    }
-    printf(" %llu.%03llu", (unsigned long long)(value / 1000), (unsigned long long)(value % 1000));
-}
-
-static void print_units(const aoc_charge *charge)
-{
-    for (int i = 0; i < charge->count; i++) {
-        if (i)
-            printf(", ");
-        if (charge->units[i].known)
-            printf("%u units", (unsigned)charge->unit_numbers[i]);
-        else
-            printf("units not available");
-        if (charge->units[i].type)
-            printf(" of type %u", charge->units[i].type);
-    }
-}
-
 static void print_charge(const aoc_charge *charge)
 {
-    if (charge->kind == AOC_FREE)
-        printf("free");
-    else if (charge->kind == AOC_MONEY)
-        print_money(&charge->money);
-    else if (charge->kind == AOC_UNITS)
-        print_units(charge);
+    char text[TEXT];
+    aoc_print_charge(text, sizeof text, charge);
+    printf("%s", text);
 }
 
 /* ------------------------------------------------------------------ the morning */
@@ -166,8 +164,8 @@ static void print_postings(void)
 {
     puts("To post");
     for (size_t i = 0; i < count; i++) {
-        aoc_closing closing = aoc_closing_of(calls[i].account);
-        if (closing.service == AOC_NO_SERVICE)
+        aoc_closing closing = aoc_closing_of(&calls[i].account);
+        if (closing.service == AOC_SERVICE_NONE)
             continue;
         printf("  room %s  call %u  ", calls[i].room, calls[i].number);
         print_charge(&closing.charge);
@@ -179,7 +177,7 @@ static void print_services(const char *text, aoc_services set)
 {
     static const char names[] = " SDE";
     int any = 0;
-    for (uint8_t service = AOC_S; service <= AOC_E; service++)
+    for (uint8_t service = AOC_SERVICE_S; service <= AOC_SERVICE_E; service++)
         if (aoc_has_service(set, service))
             printf("%s %c", any++ ? "," : text, names[service]);
 }
@@ -187,32 +185,31 @@ static void print_services(const char *text, aoc_services set)
 /* Why a clerk has to look at a call, as far as its account knows; nothing where there is no need. */
 static void print_reasons(const struct call *call)
 {
-    static const char *const phases[] = {"not set up", "being set up", "connected", "clearing"};
-    aoc_closing closing = aoc_closing_of(call->account);
-    aoc_charge running = aoc_running_of(call->account);
-    aoc_marks marks = aoc_marks_of(call->account);
-    uint8_t phase = aoc_phase_of(call->account);
-    int conflict = aoc_has_service(marks.conflict, AOC_D) || aoc_has_service(marks.conflict, AOC_E);
+    aoc_closing closing = aoc_closing_of(&call->account);
+    aoc_charge running = aoc_running_of(&call->account);
+    aoc_marks marks = aoc_marks_of(&call->account);
+    uint8_t phase = aoc_phase_of(&call->account);
+    int conflict = aoc_has_service(marks.conflict, AOC_SERVICE_D) || aoc_has_service(marks.conflict, AOC_SERVICE_E);
     int incomplete = 0;
-    for (int i = 0; closing.charge.kind == AOC_UNITS && i < closing.charge.count; i++)
-        incomplete |= !closing.charge.units[i].known;
-    if (closing.service != AOC_NO_SERVICE && !conflict && !incomplete)
+    for (size_t i = 0; closing.charge.kind == AOC_CHARGE_UNITS && i < closing.charge.count; i++)
+        incomplete |= !aoc_unit_at(&closing.charge, i).known;
+    if (closing.service != AOC_SERVICE_NONE && !conflict && !incomplete)
         return;
 
     printf("  room %s  call %u  ", call->room, call->number);
-    if (phase < AOC_ENDED)
-        printf("still open (%s)", phases[phase]);
-    else if (closing.service == AOC_NO_SERVICE)
+    if (phase != AOC_PHASE_ENDED)
+        printf("still open (%s)", aoc_phase_text(phase));
+    else if (closing.service == AOC_SERVICE_NONE)
         printf("no final");
     else if (incomplete)
         printf("units not available in the final");
     else
         printf("posted by the first final");
     print_services(", another one differs:", marks.conflict);
-    if (closing.service == AOC_NO_SERVICE) {
+    if (closing.service == AOC_SERVICE_NONE) {
         print_services(", told not available:", marks.absent);
-        print_services(", request not answered:", aoc_pending_of(call->account).asked);
-        if (running.kind != AOC_NO_CHARGE) {
+        print_services(", request not answered:", aoc_pending_of(&call->account).asked);
+        if (running.kind != AOC_CHARGE_NONE) {
             printf(", last running figure ");
             print_charge(&running);
         }

@@ -52,11 +52,11 @@ static aoc_outcome setup(int s, int d, int e)
 {
     aoc_services asked = aoc_no_services();
     if (s >= 0)
-        asked = aoc_with_service(asked, AOC_S);
+        asked = aoc_with_service(asked, AOC_SERVICE_S);
     if (d >= 0)
-        asked = aoc_with_service(asked, AOC_D);
+        asked = aoc_with_service(asked, AOC_SERVICE_D);
     if (e >= 0)
-        asked = aoc_with_service(asked, AOC_E);
+        asked = aoc_with_service(asked, AOC_SERVICE_E);
     aoc_identifiers ids = {(uint16_t)s, (uint16_t)d, (uint16_t)e};
     return aoc_setup(&call.account, asked, ids);
 }
@@ -70,8 +70,8 @@ static int is(aoc_outcome o, uint8_t number, uint8_t service)
 
 static uint64_t running(void)
 {
-    aoc_charge c = aoc_running_of(call.account);
-    return c.kind == AOC_MONEY ? aoc_thousandths(c.money.number, c.money.multiplier) : UINT64_MAX;
+    aoc_charge c = aoc_running_of(&call.account);
+    return c.kind == AOC_CHARGE_MONEY ? aoc_thousandths(c.money.number, c.money.multiplier) : UINT64_MAX;
 }
 
 /* ------------------------------------------------------------------ lists of the specification */
@@ -82,11 +82,11 @@ static void test_lists(void)
     start();
     STEP(setup(-1, -1, -1), 0, 0);
     STEP(aoc_connect(&call.account), 0, 0);
-    STEP(component(C1), AOC_NEW_RUNNING, AOC_D);
+    STEP(component(C1), AOC_OUTCOME_NEW_RUNNING, AOC_SERVICE_D);
     STEP(aoc_clear(&call.account), 0, 0);
     STEP(aoc_released(&call.account), 0, 0);
-    CHECK(running() == 500 && aoc_phase_of(call.account) == AOC_ENDED, "a call");
-    aoc_closing closing = aoc_closing_of(call.account);
+    CHECK(running() == 500 && aoc_phase_of(&call.account) == AOC_PHASE_ENDED, "a call");
+    aoc_closing closing = aoc_closing_of(&call.account);
     CHECK(all(&closing, sizeof closing, 0), "no closing figure");
 
     /* a final, the same again, another */
@@ -94,17 +94,17 @@ static void test_lists(void)
     setup(-1, -1, -1);
     aoc_connect(&call.account);
     aoc_clear(&call.account);
-    STEP(component(C2), AOC_FINAL, AOC_E);
-    STEP(component(C2), AOC_REPEATED, AOC_E);
-    STEP(component(C2_13), AOC_CONFLICT, AOC_E);
-    STEP(component(C2), AOC_REPEATED, AOC_E);
-    CHECK(aoc_closing_of(call.account).service == AOC_NO_SERVICE, "none before the end");
+    STEP(component(C2), AOC_OUTCOME_FINAL, AOC_SERVICE_E);
+    STEP(component(C2), AOC_OUTCOME_REPEATED, AOC_SERVICE_E);
+    STEP(component(C2_13), AOC_OUTCOME_CONFLICT, AOC_SERVICE_E);
+    STEP(component(C2), AOC_OUTCOME_REPEATED, AOC_SERVICE_E);
+    CHECK(aoc_closing_of(&call.account).service == AOC_SERVICE_NONE, "none before the end");
     STEP(aoc_released(&call.account), 0, 0);
-    closing = aoc_closing_of(call.account);
-    CHECK(closing.service == AOC_E && closing.charge.kind == AOC_UNITS && closing.charge.count == 1, "closing");
+    closing = aoc_closing_of(&call.account);
+    CHECK(closing.service == AOC_SERVICE_E && closing.charge.kind == AOC_CHARGE_UNITS && closing.charge.count == 1, "closing");
     CHECK(closing.charge.unit_numbers[0] == 12 && closing.charge.units[0].known, "closing");
-    aoc_marks marks = aoc_marks_of(call.account);
-    CHECK(aoc_has_service(marks.conflict, AOC_E) && !aoc_has_service(marks.conflict, AOC_D), "conflict");
+    aoc_marks marks = aoc_marks_of(&call.account);
+    CHECK(aoc_has_service(marks.conflict, AOC_SERVICE_E) && !aoc_has_service(marks.conflict, AOC_SERVICE_D), "conflict");
     CHECK(all(&marks.absent, sizeof marks.absent, 0), "conflict");
 
     /* a pending request keeps its service's charges out, until a result or an error */
@@ -113,50 +113,50 @@ static void test_lists(void)
         start();
         setup(-1, 5, -1);
         aoc_connect(&call.account);
-        STEP(component(C1), AOC_IGNORED, AOC_D);
-        STEP(component(REJECT_NULL), AOC_NO_REQUEST, 0);
-        STEP(component(S_RESULT), AOC_MISFIT, AOC_D);
-        CHECK(aoc_has_service(aoc_pending_of(call.account).asked, AOC_D), "pending");
-        CHECK(aoc_pending_of(call.account).d == 5, "pending");
-        STEP(component(answers[failing]), failing ? AOC_FAILED : AOC_GRANTED, AOC_D);
-        CHECK(!aoc_has_service(aoc_pending_of(call.account).asked, AOC_D), "pending");
-        STEP(component(answers[failing]), AOC_NO_REQUEST, 0);
-        STEP(component(C1), AOC_NEW_RUNNING, AOC_D);
+        STEP(component(C1), AOC_OUTCOME_IGNORED, AOC_SERVICE_D);
+        STEP(component(REJECT_NULL), AOC_OUTCOME_NO_REQUEST, 0);
+        STEP(component(S_RESULT), AOC_OUTCOME_MISFIT, AOC_SERVICE_D);
+        CHECK(aoc_has_service(aoc_pending_of(&call.account).asked, AOC_SERVICE_D), "pending");
+        CHECK(aoc_pending_of(&call.account).d == 5, "pending");
+        STEP(component(answers[failing]), failing ? AOC_OUTCOME_FAILED : AOC_OUTCOME_GRANTED, AOC_SERVICE_D);
+        CHECK(!aoc_has_service(aoc_pending_of(&call.account).asked, AOC_SERVICE_D), "pending");
+        STEP(component(answers[failing]), AOC_OUTCOME_NO_REQUEST, 0);
+        STEP(component(C1), AOC_OUTCOME_NEW_RUNNING, AOC_SERVICE_D);
     }
 
     /* a pending S request silences S alone; its result is the rate */
     start();
     setup(5, -1, -1);
-    STEP(component(C8), AOC_IGNORED, AOC_S);
-    STEP(component(C6), AOC_NEW_RUNNING, AOC_D);
-    STEP(component(C4), AOC_MISFIT, AOC_S);
-    STEP(component(S_RESULT), AOC_GRANTED, AOC_S);
-    CHECK(aoc_rate_of(call.account).kind == AOC_ARRANGEMENT && aoc_rate_of(call.account).arrangement == 1, "rate");
-    STEP(component(C8), AOC_NEW_RATE, AOC_S);
-    CHECK(aoc_rate_of(call.account).arrangement == 10, "rate");
-    STEP(component(C3), AOC_NOT_OURS, 0);
-    STEP(component(D_ABSENT), AOC_NOT_AVAILABLE, AOC_D);
-    CHECK(aoc_has_service(aoc_marks_of(call.account).absent, AOC_D), "absent");
+    STEP(component(C8), AOC_OUTCOME_IGNORED, AOC_SERVICE_S);
+    STEP(component(C6), AOC_OUTCOME_NEW_RUNNING, AOC_SERVICE_D);
+    STEP(component(C4), AOC_OUTCOME_MISFIT, AOC_SERVICE_S);
+    STEP(component(S_RESULT), AOC_OUTCOME_GRANTED, AOC_SERVICE_S);
+    CHECK(aoc_rate_of(&call.account).kind == AOC_CHARGE_ARRANGEMENT && aoc_rate_of(&call.account).arrangement == 1, "rate");
+    STEP(component(C8), AOC_OUTCOME_NEW_RATE, AOC_SERVICE_S);
+    CHECK(aoc_rate_of(&call.account).arrangement == 10, "rate");
+    STEP(component(C3), AOC_OUTCOME_NOT_OURS, 0);
+    STEP(component(D_ABSENT), AOC_OUTCOME_NOT_AVAILABLE, AOC_SERVICE_D);
+    CHECK(aoc_has_service(aoc_marks_of(&call.account).absent, AOC_SERVICE_D), "absent");
 
     /* what is out of phase, and finals of D beside one of E */
     start();
     setup(-1, -1, -1);
-    STEP(component(C1), AOC_OUT_OF_PHASE, AOC_D);
-    STEP(component(TOTAL), AOC_OUT_OF_PHASE, AOC_D);
-    STEP(component(C7), AOC_OUT_OF_PHASE, AOC_E);
+    STEP(component(C1), AOC_OUTCOME_OUT_OF_PHASE, AOC_SERVICE_D);
+    STEP(component(TOTAL), AOC_OUTCOME_OUT_OF_PHASE, AOC_SERVICE_D);
+    STEP(component(C7), AOC_OUTCOME_OUT_OF_PHASE, AOC_SERVICE_E);
     aoc_clear(&call.account);
-    STEP(component(C1), AOC_OUT_OF_PHASE, AOC_D);
-    STEP(component(TOTAL), AOC_FINAL, AOC_D);
-    STEP(component(SAME_TOTAL), AOC_REPEATED, AOC_D);
-    STEP(component(C6), AOC_CONFLICT, AOC_D);
+    STEP(component(C1), AOC_OUTCOME_OUT_OF_PHASE, AOC_SERVICE_D);
+    STEP(component(TOTAL), AOC_OUTCOME_FINAL, AOC_SERVICE_D);
+    STEP(component(SAME_TOTAL), AOC_OUTCOME_REPEATED, AOC_SERVICE_D);
+    STEP(component(C6), AOC_OUTCOME_CONFLICT, AOC_SERVICE_D);
     aoc_account before_e = call.account;
     aoc_released(&call.account);
-    CHECK(aoc_closing_of(call.account).service == AOC_D, "closing of D");
+    CHECK(aoc_closing_of(&call.account).service == AOC_SERVICE_D, "closing of D");
     call.account = before_e;
-    STEP(component(C7), AOC_FINAL, AOC_E);
+    STEP(component(C7), AOC_OUTCOME_FINAL, AOC_SERVICE_E);
     aoc_released(&call.account);
-    closing = aoc_closing_of(call.account);
-    CHECK(closing.service == AOC_E && closing.charge.kind == AOC_FREE, "closing of E");
+    closing = aoc_closing_of(&call.account);
+    CHECK(closing.service == AOC_SERVICE_E && closing.charge.kind == AOC_CHARGE_FREE, "closing of E");
 }
 
 /* ------------------------------------------------------------------ refusals */
@@ -164,34 +164,34 @@ static void test_lists(void)
 static void to_phase(int phase)
 {
     start();
-    if (phase >= AOC_ESTABLISHMENT)
+    if (phase >= AOC_PHASE_ESTABLISHMENT)
         setup(1, 2, 3);
-    if (phase >= AOC_ACTIVE)
+    if (phase >= AOC_PHASE_ACTIVE)
         aoc_connect(&call.account);
-    if (phase >= AOC_CLEARING)
+    if (phase >= AOC_PHASE_CLEARING)
         aoc_clear(&call.account);
-    if (phase >= AOC_ENDED)
+    if (phase >= AOC_PHASE_ENDED)
         aoc_released(&call.account);
-    CHECK(aoc_phase_of(call.account) == phase, "phase");
+    CHECK(aoc_phase_of(&call.account) == phase, "phase");
 }
 
 static void test_refusals(void)
 {
-    static const uint8_t allowed[6] = {0, 1 << AOC_IDLE, 1 << AOC_ESTABLISHMENT, 1 << AOC_ESTABLISHMENT | 1 << AOC_ACTIVE,
-                                       1 << AOC_CLEARING, 1 << AOC_ESTABLISHMENT | 1 << AOC_ACTIVE | 1 << AOC_CLEARING};
+    static const uint8_t allowed[6] = {0, 1 << AOC_PHASE_IDLE, 1 << AOC_PHASE_ESTABLISHMENT, 1 << AOC_PHASE_ESTABLISHMENT | 1 << AOC_PHASE_ACTIVE,
+                                       1 << AOC_PHASE_CLEARING, 1 << AOC_PHASE_ESTABLISHMENT | 1 << AOC_PHASE_ACTIVE | 1 << AOC_PHASE_CLEARING};
     static const char *const bad[] = {
         "", "A1 83", "", "A5", "A1 00 00", "A1 00", "A1 09 02 01 07 02 01 25 0A 01 01", "A3 06 02 01 05 02 01 01",
         "A1 08 02 01 03 02 01 23 81 00",
     };
     static const aoc_services all_three = {1, 1, 1};
-    for (int phase = AOC_IDLE; phase <= AOC_ENDED; phase++) {
+    for (int phase = AOC_PHASE_IDLE; phase <= AOC_PHASE_ENDED; phase++) {
         for (unsigned kind = 0; kind < 256; kind++) {
             to_phase(phase);
             aoc_account before = call.account;
             aoc_event event = {(uint8_t)kind, all_three, 7, 8, 9};
             aoc_outcome o = aoc_step(&call.account, event, NULL, 0);
             int fits = kind < 6 && allowed[kind] >> phase & 1;
-            CHECK(is(o, !fits ? AOC_WRONG_PHASE : kind == AOC_COMPONENT ? AOC_CUT : 0, 0), "an event in a phase");
+            CHECK(is(o, !fits ? AOC_REFUSED_WRONG_PHASE : kind == AOC_EVENT_COMPONENT ? AOC_REFUSED_CUT : 0, 0), "an event in a phase");
             if (o.number)
                 CHECK(!memcmp(&before, &call.account, sizeof before), "a refused event");
         }
@@ -200,8 +200,8 @@ static void test_refusals(void)
             size_t n = number == 3 ? 255 : unhex(bad[number - 1], octets);
             to_phase(phase);
             aoc_account before = call.account;
-            int heard = phase >= AOC_ESTABLISHMENT && phase <= AOC_CLEARING;
-            CHECK(is(aoc_component(&call.account, lend(octets, n), n), heard ? number : AOC_WRONG_PHASE, 0), "a refusal");
+            int heard = phase >= AOC_PHASE_ESTABLISHMENT && phase <= AOC_PHASE_CLEARING;
+            CHECK(is(aoc_component(&call.account, lend(octets, n), n), heard ? number : AOC_REFUSED_WRONG_PHASE, 0), "a refusal");
             CHECK(!memcmp(&before, &call.account, sizeof before), "a refusal");
         }
     }
@@ -211,17 +211,17 @@ static void test_refusals(void)
     for (size_t i = 0; i < sizeof clashing / sizeof *clashing; i++) {
         start();
         aoc_account before = call.account;
-        STEP(setup(clashing[i][0], clashing[i][1], clashing[i][2]), AOC_BAD_SETUP, 0);
+        STEP(setup(clashing[i][0], clashing[i][1], clashing[i][2]), AOC_REFUSED_BAD_SETUP, 0);
         CHECK(!memcmp(&before, &call.account, sizeof before), "a bad setup");
     }
     for (int i = 0; i < 8; i++) {
         start();
-        aoc_event event = {AOC_SETUP, {0, 0, 0}, 5, 5, 5};
+        aoc_event event = {AOC_EVENT_SETUP, {0, 0, 0}, 5, 5, 5};
         event.asked.s = i == 1 ? 255 : 0;
         event.asked.d = i == 2 ? 2 : 0;
         event.asked.e = i == 4 ? 128 : 0;
         STEP(aoc_step(&call.account, event, NULL, 0), 0, 0);
-        aoc_pending p = aoc_pending_of(call.account);
+        aoc_pending p = aoc_pending_of(&call.account);
         CHECK(p.asked.s == (i == 1) && p.asked.d == (i == 2) && p.asked.e == (i == 4) && p.unused == 0, "a mark is kept as 1");
         CHECK(p.s == (i == 1 ? 5 : 0) && p.d == (i == 2 ? 5 : 0) && p.e == (i == 4 ? 5 : 0), "no identifier is kept without a request");
     }
@@ -231,7 +231,7 @@ static void test_refusals(void)
 
 static uint8_t mark_of(const aoc_services *set, int service)
 {
-    return service == AOC_S ? set->s : service == AOC_D ? set->d : service == AOC_E ? set->e : 0;
+    return service == AOC_SERVICE_S ? set->s : service == AOC_SERVICE_D ? set->d : service == AOC_SERVICE_E ? set->e : 0;
 }
 
 static uint64_t value_of(const aoc_money *m)
@@ -249,10 +249,10 @@ static int same(const aoc_charge *first, const aoc_charge *c)
 {
     if (first->kind != c->kind)
         return 0;
-    if (c->kind == AOC_MONEY)
+    if (c->kind == AOC_CHARGE_MONEY)
         return first->money.currency.count == c->money.currency.count && value_of(&first->money) == value_of(&c->money) &&
                !memcmp(first->money.currency.octets, c->money.currency.octets, c->money.currency.count);
-    if (c->kind == AOC_UNITS)
+    if (c->kind == AOC_CHARGE_UNITS)
         return first->count == c->count && !memcmp(first->numbers, c->numbers, 4 * c->count) &&
                !memcmp(first->octets, c->octets, 2 * c->count);
     return 1;
@@ -261,16 +261,16 @@ static int same(const aoc_charge *first, const aoc_charge *c)
 /* The rules of the specification over an account, whatever it holds: the outcome, and the account after it. */
 static aoc_outcome by_the_rules(aoc_account *a, aoc_event e, const uint8_t *octets, size_t n)
 {
-    static const aoc_outcome wrong_phase = {AOC_WRONG_PHASE, 0}, bad_setup = {AOC_BAD_SETUP, 0}, none = {0, 0};
-    int heard = a->phase >= AOC_ESTABLISHMENT && a->phase <= AOC_CLEARING;
+    static const aoc_outcome wrong_phase = {AOC_REFUSED_WRONG_PHASE, 0}, bad_setup = {AOC_REFUSED_BAD_SETUP, 0}, none = {0, 0};
+    int heard = a->phase >= AOC_PHASE_ESTABLISHMENT && a->phase <= AOC_PHASE_CLEARING;
     switch (e.kind) {
-    case AOC_SETUP:
-        if (a->phase != AOC_IDLE)
+    case AOC_EVENT_SETUP:
+        if (a->phase != AOC_PHASE_IDLE)
             return wrong_phase;
         if ((e.asked.s && e.asked.d && e.s == e.d) || (e.asked.s && e.asked.e && e.s == e.e) ||
             (e.asked.d && e.asked.e && e.d == e.e))
             return bad_setup;
-        a->phase = AOC_ESTABLISHMENT;
+        a->phase = AOC_PHASE_ESTABLISHMENT;
         a->asked.s = e.asked.s != 0;
         a->asked.d = e.asked.d != 0;
         a->asked.e = e.asked.e != 0;
@@ -278,22 +278,22 @@ static aoc_outcome by_the_rules(aoc_account *a, aoc_event e, const uint8_t *octe
         a->d = e.asked.d ? e.d : 0;
         a->e = e.asked.e ? e.e : 0;
         return none;
-    case AOC_CONNECT:
-        if (a->phase != AOC_ESTABLISHMENT)
+    case AOC_EVENT_CONNECT:
+        if (a->phase != AOC_PHASE_ESTABLISHMENT)
             return wrong_phase;
-        a->phase = AOC_ACTIVE;
+        a->phase = AOC_PHASE_ACTIVE;
         return none;
-    case AOC_CLEAR:
-        if (a->phase != AOC_ESTABLISHMENT && a->phase != AOC_ACTIVE)
+    case AOC_EVENT_CLEAR:
+        if (a->phase != AOC_PHASE_ESTABLISHMENT && a->phase != AOC_PHASE_ACTIVE)
             return wrong_phase;
-        a->phase = AOC_CLEARING;
+        a->phase = AOC_PHASE_CLEARING;
         return none;
-    case AOC_RELEASED:
-        if (a->phase != AOC_CLEARING)
+    case AOC_EVENT_RELEASED:
+        if (a->phase != AOC_PHASE_CLEARING)
             return wrong_phase;
-        a->phase = AOC_ENDED;
+        a->phase = AOC_PHASE_ENDED;
         return none;
-    case AOC_COMPONENT:
+    case AOC_EVENT_COMPONENT:
         if (!heard)
             return wrong_phase;
         break;
@@ -304,57 +304,57 @@ static aoc_outcome by_the_rules(aoc_account *a, aoc_event e, const uint8_t *octe
     aoc_answer answer = read_octets(octets, n);
     const aoc_record *r = &answer.record;
     const aoc_charge *c = &r->charge;
-    aoc_outcome o = {(uint8_t)answer.number, 0};
-    if (answer.number)
+    aoc_outcome o = {(uint8_t)answer.refusal, 0};
+    if (answer.refusal)
         return o;
-    if (r->frame == AOC_INVOKE) {
-        o.number = AOC_NOT_OURS;
-        if (r->operation == AOC_CHARGING_REQUEST)
+    if (r->frame == AOC_FRAME_INVOKE) {
+        o.number = AOC_OUTCOME_NOT_OURS;
+        if (r->operation == AOC_OPERATION_CHARGING_REQUEST)
             return o;
-        o.service = r->operation <= 32 ? AOC_S : r->operation <= 34 ? AOC_D : AOC_E;
-        int is_free = c->kind == AOC_FREE, d = o.service == AOC_D;
+        o.service = r->operation <= 32 ? AOC_SERVICE_S : r->operation <= 34 ? AOC_SERVICE_D : AOC_SERVICE_E;
+        int is_free = c->kind == AOC_CHARGE_FREE, d = o.service == AOC_SERVICE_D;
         aoc_charge *first = d ? &a->d_final : &a->e_final;
         if (mark_of(&a->asked, o.service)) {
-            o.number = AOC_IGNORED;
-        } else if (c->kind == AOC_NO_CHARGE) {
-            o.number = AOC_NOT_AVAILABLE;
+            o.number = AOC_OUTCOME_IGNORED;
+        } else if (c->kind == AOC_CHARGE_NONE) {
+            o.number = AOC_OUTCOME_NOT_AVAILABLE;
             a->absent = aoc_with_service(a->absent, o.service);
-        } else if (o.service == AOC_S) {
-            o.number = AOC_NEW_RATE;
+        } else if (o.service == AOC_SERVICE_S) {
+            o.number = AOC_OUTCOME_NEW_RATE;
             a->rate = *c;
-        } else if (d && (is_free ? a->phase != AOC_CLEARING : !c->total && a->phase == AOC_ACTIVE)) {
-            o.number = AOC_NEW_RUNNING;
+        } else if (d && (is_free ? a->phase != AOC_PHASE_CLEARING : !c->total && a->phase == AOC_PHASE_ACTIVE)) {
+            o.number = AOC_OUTCOME_NEW_RUNNING;
             a->running = *c;
-        } else if (a->phase != AOC_CLEARING || (d && !is_free && !c->total)) {
-            o.number = AOC_OUT_OF_PHASE;
-        } else if (first->kind == AOC_NO_CHARGE) {
-            o.number = AOC_FINAL;
+        } else if (a->phase != AOC_PHASE_CLEARING || (d && !is_free && !c->total)) {
+            o.number = AOC_OUTCOME_OUT_OF_PHASE;
+        } else if (first->kind == AOC_CHARGE_NONE) {
+            o.number = AOC_OUTCOME_FINAL;
             *first = *c;
         } else if (same(first, c)) {
-            o.number = AOC_REPEATED;
+            o.number = AOC_OUTCOME_REPEATED;
         } else {
-            o.number = AOC_CONFLICT;
+            o.number = AOC_OUTCOME_CONFLICT;
             a->conflict = aoc_with_service(a->conflict, o.service);
         }
         return o;
     }
-    o.number = AOC_NO_REQUEST;
-    int holder = a->asked.s && a->s == r->id ? AOC_S : a->asked.d && a->d == r->id ? AOC_D : a->asked.e && a->e == r->id ? AOC_E : 0;
+    o.number = AOC_OUTCOME_NO_REQUEST;
+    int holder = a->asked.s && a->s == r->id ? AOC_SERVICE_S : a->asked.d && a->d == r->id ? AOC_SERVICE_D : a->asked.e && a->e == r->id ? AOC_SERVICE_E : 0;
     if (r->unnamed || !holder)
         return o;
     o.service = (uint8_t)holder;
-    o.number = AOC_FAILED;
-    if (r->frame == AOC_RETURN_RESULT) {
-        o.number = AOC_MISFIT;
-        if ((holder == AOC_S) != (c->kind != AOC_NO_CHARGE))
+    o.number = AOC_OUTCOME_FAILED;
+    if (r->frame == AOC_FRAME_RESULT) {
+        o.number = AOC_OUTCOME_MISFIT;
+        if ((holder == AOC_SERVICE_S) != (c->kind != AOC_CHARGE_NONE))
             return o;
-        o.number = AOC_GRANTED;
-        if (holder == AOC_S)
+        o.number = AOC_OUTCOME_GRANTED;
+        if (holder == AOC_SERVICE_S)
             a->rate = *c;
     }
-    if (holder == AOC_S)
+    if (holder == AOC_SERVICE_S)
         a->asked.s = 0, a->s = 0;
-    else if (holder == AOC_D)
+    else if (holder == AOC_SERVICE_D)
         a->asked.d = 0, a->d = 0;
     else
         a->asked.e = 0, a->e = 0;
@@ -366,16 +366,16 @@ static void check_read_off(void)
 {
     const aoc_account *a = &call.account;
     aoc_account before = *a;
-    aoc_charge rate = aoc_rate_of(*a), run = aoc_running_of(*a);
-    aoc_closing closing = aoc_closing_of(*a);
-    aoc_marks marks = aoc_marks_of(*a);
-    aoc_pending pending = aoc_pending_of(*a);
+    aoc_charge rate = aoc_rate_of(a), run = aoc_running_of(a);
+    aoc_closing closing = aoc_closing_of(a);
+    aoc_marks marks = aoc_marks_of(a);
+    aoc_pending pending = aoc_pending_of(a);
     CHECK(!memcmp(&rate, &a->rate, sizeof rate) && !memcmp(&run, &a->running, sizeof run), "read off");
     CHECK(!memcmp(&marks.absent, &a->absent, 3) && !memcmp(&marks.conflict, &a->conflict, 3), "read off");
     CHECK(!memcmp(&pending.asked, &a->asked, 3) && pending.unused == 0, "read off");
-    CHECK(pending.s == a->s && pending.d == a->d && pending.e == a->e && aoc_phase_of(*a) == a->phase, "read off");
-    const aoc_charge *closes = a->phase != AOC_ENDED ? NULL : a->e_final.kind ? &a->e_final : a->d_final.kind ? &a->d_final : NULL;
-    uint32_t service = !closes ? AOC_NO_SERVICE : closes == &a->e_final ? AOC_E : AOC_D;
+    CHECK(pending.s == a->s && pending.d == a->d && pending.e == a->e && aoc_phase_of(a) == a->phase, "read off");
+    const aoc_charge *closes = a->phase != AOC_PHASE_ENDED ? NULL : a->e_final.kind ? &a->e_final : a->d_final.kind ? &a->d_final : NULL;
+    uint32_t service = !closes ? AOC_SERVICE_NONE : closes == &a->e_final ? AOC_SERVICE_E : AOC_SERVICE_D;
     CHECK(closing.service == service, "read off");
     CHECK(closes ? !memcmp(&closing.charge, closes, sizeof *closes) : all(&closing.charge, sizeof closing.charge, 0), "read off");
     CHECK(!memcmp(&before, a, sizeof before), "read off");
@@ -394,7 +394,7 @@ static void test_nonsense(void)
                 a[i] = (uint8_t)(chance() >> 40);
         } else {
             /* a final of the component's own, and some octets changed */
-            call.account.phase = AOC_CLEARING;
+            call.account.phase = AOC_PHASE_CLEARING;
             call.account.d_final = call.account.e_final = read_octets(octets, n).record.charge;
             if (chance() & 1)
                 n = unhex(finals[chance() % 10], octets);
@@ -410,7 +410,7 @@ static void test_nonsense(void)
         if (chance() % 4 == 0)
             call.account.d = 5;
         check_read_off();
-        aoc_event event = {AOC_COMPONENT, {0, 0, 0}, 0, 0, 0};
+        aoc_event event = {AOC_EVENT_COMPONENT, {0, 0, 0}, 0, 0, 0};
         if (chance() % 4 == 0) {
             uint64_t x = chance();
             aoc_event other = {(uint8_t)(x % 7), {(uint8_t)(x >> 8 & 2), (uint8_t)(x >> 16 & 255), (uint8_t)(x >> 24 & 1)},

@@ -80,8 +80,8 @@ static inline aoc_answer read_octets(const uint8_t *octets, size_t n)
         uint8_t after[GUARD];
     } lent;
     memset(&lent, MARK, sizeof lent);
-    uint32_t number = aoc_read(octets, n, &lent.answer);
-    CHECK(number == lent.answer.number && all(lent.before, GUARD, MARK) && all(lent.after, GUARD, MARK), "read");
+    aoc_refusal refusal = aoc_read(octets, n, &lent.answer);
+    CHECK(refusal == lent.answer.refusal && all(lent.before, GUARD, MARK) && all(lent.after, GUARD, MARK), "read");
     return lent.answer;
 }
 

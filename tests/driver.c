@@ -52,7 +52,7 @@ static void answer_read(const char *rest)
     aoc_answer a;
     memset(&a, MARK, sizeof a);
     aoc_read(octets, unhex(rest, octets), &a);
-    printf("%u ", (unsigned)a.number);
+    printf("%u ", (unsigned)a.refusal);
     put_hex(&a.record, sizeof a.record);
 }
 
@@ -60,9 +60,9 @@ static void answer_read(const char *rest)
 static void answer_written(aoc_written w, size_t room)
 {
     uint8_t *at = buffer + GUARD;
-    printf("%u %u ", (unsigned)w.number, (unsigned)w.count);
+    printf("%u %u ", (unsigned)w.refusal, (unsigned)w.count);
     put_hex(at, w.count);
-    if (w.count > room || (w.number && w.count) || !all(buffer, GUARD, MARK) ||
+    if (w.count > room || (w.refusal && w.count) || !all(buffer, GUARD, MARK) ||
         !all(at + w.count, room - w.count + GUARD, MARK))
         fputs(" touched", stdout);
 }
@@ -93,10 +93,10 @@ static void answer_reply(const char *rest)
 static void answer_element(const char *rest)
 {
     aoc_starts s = aoc_element(octets, unhex(rest, octets));
-    printf("%u %u ", s.number, s.count);
-    for (int i = 0; i < s.count && i < AOC_MOST_COMPONENTS; i++)
+    printf("%u %u ", s.refusal, s.count);
+    for (int i = 0; i < s.count && i < AOC_LIMIT_COMPONENTS; i++)
         printf(i ? ",%u" : "%u", s.starts[i]);
-    if (s.count > AOC_MOST_COMPONENTS || !all(s.starts + s.count, AOC_MOST_COMPONENTS - s.count, 0))
+    if (s.count > AOC_LIMIT_COMPONENTS || !all(s.starts + s.count, AOC_LIMIT_COMPONENTS - s.count, 0))
         fputs(" not zero", stdout);
 }
 
@@ -126,7 +126,7 @@ static uint32_t crc(const void *from, size_t n)
 
 static void put_figure(const aoc_charge *c)
 {
-    if (c->kind == AOC_NO_CHARGE)
+    if (c->kind == AOC_CHARGE_NONE)
         fputs(all(c, sizeof *c, 0) ? ",-" : ",not zero", stdout);
     else
         printf(",%08x", (unsigned)crc(c, sizeof *c));
@@ -134,7 +134,7 @@ static void put_figure(const aoc_charge *c)
 
 static unsigned bits(aoc_services set)
 {
-    unsigned of_s = aoc_has_service(set, AOC_S), of_d = aoc_has_service(set, AOC_D), of_e = aoc_has_service(set, AOC_E);
+    unsigned of_s = aoc_has_service(set, AOC_SERVICE_S), of_d = aoc_has_service(set, AOC_SERVICE_D), of_e = aoc_has_service(set, AOC_SERVICE_E);
     return of_s | of_d << 1 | of_e << 2;
 }
 
@@ -143,10 +143,10 @@ static aoc_outcome setup(aoc_account *account, const char *text)
     aoc_services asked = aoc_no_services();
     aoc_identifiers ids = {0, 0, 0};
     uint16_t *id[] = {&ids.s, &ids.d, &ids.e};
-    for (uint8_t service = AOC_S; service <= AOC_E; service++) {
+    for (uint8_t service = AOC_SERVICE_S; service <= AOC_SERVICE_E; service++) {
         char *next = (char *)text + 1;
         if (*text != '-') {
-            *id[service - AOC_S] = (uint16_t)strtoul(text, &next, 10);
+            *id[service - AOC_SERVICE_S] = (uint16_t)strtoul(text, &next, 10);
             asked = aoc_with_service(asked, service);
         }
         text = next + 1;
@@ -175,11 +175,11 @@ static void answer_account(const char *rest)
     aoc_account account = aoc_fresh();
     while (*rest) {
         aoc_outcome outcome = do_event(&account, rest);
-        aoc_charge rate = aoc_rate_of(account), running = aoc_running_of(account);
-        aoc_closing closing = aoc_closing_of(account);
-        aoc_marks marks = aoc_marks_of(account);
-        aoc_pending pending = aoc_pending_of(account);
-        printf("%u,%u,%u", outcome.number, outcome.service, aoc_phase_of(account));
+        aoc_charge rate = aoc_rate_of(&account), running = aoc_running_of(&account);
+        aoc_closing closing = aoc_closing_of(&account);
+        aoc_marks marks = aoc_marks_of(&account);
+        aoc_pending pending = aoc_pending_of(&account);
+        printf("%u,%u,%u", outcome.number, outcome.service, aoc_phase_of(&account));
         put_figure(&rate);
         put_figure(&running);
         put_figure(&closing.charge);

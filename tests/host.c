@@ -23,7 +23,7 @@ static aoc_record record_of(const char *name)
 
 static int refused(aoc_answer a, uint32_t number)
 {
-    return a.number == number && all(&a.record, sizeof a.record, 0);
+    return a.refusal == number && all(&a.record, sizeof a.record, 0);
 }
 
 /* ------------------------------------------------------------------ reading */
@@ -34,11 +34,11 @@ static void test_valid(void)
         uint8_t octets[300], longer[300];
         size_t n = unhex(valid[i].hex, octets);
         aoc_answer a = read_octets(lend(octets, n), n);
-        CHECK(a.number == AOC_ACCEPTED, valid[i].name);
+        CHECK(a.refusal == AOC_ACCEPTED, valid[i].name);
         for (size_t k = 0; k < n; k++)
-            CHECK(refused(read_octets(lend(octets, k), k), AOC_CUT), valid[i].name);
+            CHECK(refused(read_octets(lend(octets, k), k), AOC_REFUSED_CUT), valid[i].name);
         octets[n] = 0;
-        CHECK(refused(read_octets(lend(octets, n + 1), n + 1), AOC_TRAILING), valid[i].name);
+        CHECK(refused(read_octets(lend(octets, n + 1), n + 1), AOC_REFUSED_TRAILING), valid[i].name);
 
         /* the same contents after a length of two more octets */
         size_t inner = octets[1] < 0x80 ? 2 : 3;
@@ -55,18 +55,18 @@ static void test_valid(void)
 static void test_fields(void)
 {
     aoc_record r = record_of("D amount, subtotal");
-    CHECK(r.frame == AOC_INVOKE && r.id == 1 && r.operation == AOC_D_CURRENCY, "fields");
-    CHECK(r.charge.kind == AOC_MONEY && r.charge.total == AOC_SUBTOTAL && !r.charge.billed, "fields");
+    CHECK(r.frame == AOC_FRAME_INVOKE && r.id == 1 && r.operation == AOC_OPERATION_D_CURRENCY, "fields");
+    CHECK(r.charge.kind == AOC_CHARGE_MONEY && r.charge.total == AOC_TOTAL_NO && !r.charge.billed, "fields");
     CHECK(r.charge.money.currency.count == 3 && !memcmp(r.charge.money.currency.octets, "EUR\0\0\0\0\0\0\0", 10), "fields");
     CHECK(aoc_thousandths(r.charge.money.number, r.charge.money.multiplier) == 500, "fields");
 
     r = record_of("rates, every kind");
-    CHECK((int16_t)r.id == -32768 && r.charge.kind == AOC_RATES && r.charge.count == 7, "rates");
+    CHECK((int16_t)r.id == -32768 && r.charge.kind == AOC_CHARGE_RATES && r.charge.count == 7, "rates");
     CHECK(r.charge.rates[0].kind == AOC_RATE_DURATION && r.charge.rates[0].detail == AOC_DURATION_STEPS, "rates");
     CHECK(r.charge.rates[0].stepped == 1 && r.charge.rates[0].scale == AOC_SCALE_SECOND, "rates");
     CHECK(r.charge.rates[0].step_scale == AOC_SCALE_DAY && r.charge.rates[0].multiplier == AOC_MULTIPLIER_THOUSAND, "rates");
     CHECK(r.charge.rate_numbers[0].number == 16777215 && r.charge.rate_numbers[0].time == 100, "rates");
-    CHECK(r.charge.rate_numbers[0].step == AOC_HIGHEST_NUMBER, "rates");
+    CHECK(r.charge.rate_numbers[0].step == AOC_LIMIT_NUMBER, "rates");
     CHECK(r.charge.rates[2].kind == AOC_RATE_FLAT && !memcmp(r.charge.rates[2].currency.octets, "ABCDEFGHIJ", 10), "rates");
     CHECK(r.charge.rates[2].item == AOC_ITEM_SETUP && r.charge.rate_numbers[2].number == 128, "rates");
     CHECK(r.charge.rates[3].kind == AOC_RATE_VOLUME && r.charge.rates[3].detail == AOC_VOLUME_MESSAGE, "rates");
@@ -75,7 +75,7 @@ static void test_fields(void)
     CHECK(r.charge.rates[5].kind == AOC_RATE_FREE && r.charge.rates[6].kind == AOC_RATE_UNKNOWN, "rates");
 
     r = record_of("D units, subtotal");
-    CHECK(r.charge.kind == AOC_UNITS && r.charge.count == 4, "units");
+    CHECK(r.charge.kind == AOC_CHARGE_UNITS && r.charge.count == 4, "units");
     CHECK(r.charge.units[0].known && r.charge.unit_numbers[0] == 12 && !r.charge.units[0].type, "units");
     CHECK(!r.charge.units[1].known && !r.charge.units[1].type, "units");
     CHECK(r.charge.units[2].known && !r.charge.unit_numbers[2] && r.charge.units[2].type == 16, "units");
@@ -83,18 +83,18 @@ static void test_fields(void)
 
     r = record_of("E amount, billed, by identifier");
     CHECK(r.charge.billed && r.charge.billing == AOC_BILLING_TRANSFER, "association");
-    CHECK(r.charge.association.kind == AOC_BY_IDENTIFIER && (int16_t)r.charge.association.id == -32768, "association");
+    CHECK(r.charge.association.kind == AOC_ASSOCIATION_IDENTIFIER && (int16_t)r.charge.association.id == -32768, "association");
     r = record_of("E amount, by number");
-    CHECK(r.charge.association.kind == AOC_BY_NUMBER && r.charge.association.count == 20, "association");
+    CHECK(r.charge.association.kind == AOC_ASSOCIATION_NUMBER && r.charge.association.count == 20, "association");
     CHECK(!memcmp(r.charge.association.digits, "0123456789 123456789", 20), "association");
     r = record_of("E free, by planned number");
-    CHECK(r.charge.kind == AOC_FREE && r.charge.association.kind == AOC_BY_PLANNED_NUMBER, "association");
+    CHECK(r.charge.kind == AOC_CHARGE_FREE && r.charge.association.kind == AOC_ASSOCIATION_PLANNED_NUMBER, "association");
     CHECK(r.charge.association.plan == AOC_PLAN_ABBREVIATED && r.charge.association.digits[0] == '7', "association");
 
     r = record_of("reject 83 0, NULL");
-    CHECK(r.frame == AOC_REJECT && r.unnamed && r.problem == AOC_PROBLEM_ERROR && !r.detail, "reject");
+    CHECK(r.frame == AOC_FRAME_REJECT && r.unnamed && r.problem == AOC_PROBLEM_ERROR && !r.detail, "reject");
     r = record_of("error 26");
-    CHECK(r.frame == AOC_RETURN_ERROR && r.error == AOC_ERROR_NO_CHARGING_INFO && r.id == 5, "error");
+    CHECK(r.frame == AOC_FRAME_ERROR && r.error == AOC_ERROR_NO_CHARGING_INFO && r.id == 5, "error");
 }
 
 static void test_refusals(void)
@@ -179,15 +179,15 @@ static void test_refusals(void)
     };
     for (size_t i = 0; i < sizeof cases / sizeof *cases; i++)
         CHECK(refused(read_hex(cases[i].hex), cases[i].number), cases[i].hex);
-    CHECK(refused(read_octets(NULL, 0), AOC_CUT), "null");
+    CHECK(refused(read_octets(NULL, 0), AOC_REFUSED_CUT), "null");
 
     /* over 254 octets is judged first, whatever they are */
     uint8_t octets[600] = {0xA1, 0x82, 0, 251};
-    CHECK(read_octets(lend(octets, 254), 254).number != AOC_TOO_LONG, "254 octets");
+    CHECK(read_octets(lend(octets, 254), 254).refusal != AOC_REFUSED_TOO_LONG, "254 octets");
     for (size_t n = 255; n <= sizeof octets; n++)
-        CHECK(refused(read_octets(lend(octets, n), n), AOC_TOO_LONG), "over 254 octets");
+        CHECK(refused(read_octets(lend(octets, n), n), AOC_REFUSED_TOO_LONG), "over 254 octets");
     memset(octets, 0, sizeof octets);
-    CHECK(refused(read_octets(lend(octets, 255), 255), AOC_TOO_LONG), "255 zeros");
+    CHECK(refused(read_octets(lend(octets, 255), 255), AOC_REFUSED_TOO_LONG), "255 zeros");
 }
 
 /* ------------------------------------------------------------------ writing */
@@ -202,10 +202,10 @@ static void test_rooms(void)
             uint8_t *buffer = make_room(room);
             aoc_written w = aoc_write(&r, buffer, room);
             size_t count = room < n ? 0 : n;
-            CHECK(w.number == (room < n ? AOC_NO_ROOM : AOC_ACCEPTED) && w.count == count, valid[i].name);
+            CHECK(w.refusal == (room < n ? AOC_REFUSED_NO_ROOM : AOC_ACCEPTED) && w.count == count, valid[i].name);
             CHECK(holds(buffer, room, octets, count), valid[i].name);
         }
-        CHECK(aoc_write(&r, NULL, 0).number == AOC_NO_ROOM, valid[i].name);
+        CHECK(aoc_write(&r, NULL, 0).refusal == AOC_REFUSED_NO_ROOM, valid[i].name);
     }
 }
 
@@ -215,7 +215,7 @@ static void check_refused(aoc_record r, uint32_t number, const char *name)
     for (size_t room = 0; room <= 300; room += 300) {
         uint8_t *buffer = make_room(room);
         aoc_written w = aoc_write(&r, buffer, room);
-        CHECK(w.number == number && w.count == 0, name);
+        CHECK(w.refusal == number && w.count == 0, name);
         CHECK(holds(buffer, room, buffer, 0), name);
     }
 }
@@ -240,7 +240,7 @@ static void test_out_of_range(void)
         OUT("request D", error, 3),
         OUT("request D", problem, 0x80),
         OUT("request D", detail, 3),
-        OUT("request D", charge.kind, AOC_FREE),
+        OUT("request D", charge.kind, AOC_CHARGE_FREE),
         OUT("request D", charge.total, 1),
         OUT("request D", charge.billed, 1),
         OUT("request D", charge.billing, 1),
@@ -262,8 +262,8 @@ static void test_out_of_range(void)
         OUT("result, nothing", operation, 31),
         OUT("result, nothing", unnamed, 1),
         OUT("result, nothing", detail, 1),
-        OUT("result, nothing", charge.kind, AOC_FREE),
-        OUT("result, nothing", charge.kind, AOC_MONEY),
+        OUT("result, nothing", charge.kind, AOC_CHARGE_FREE),
+        OUT("result, nothing", charge.kind, AOC_CHARGE_MONEY),
         OUT("error 26", error, 1),
         OUT("error 26", error, 27),
         OUT("error 26", error, 255),
@@ -271,7 +271,7 @@ static void test_out_of_range(void)
         OUT("error 26", unnamed, 1),
         OUT("error 26", problem, 0x80),
         OUT("error 26", detail, 1),
-        OUT("error 26", charge.kind, AOC_FREE),
+        OUT("error 26", charge.kind, AOC_CHARGE_FREE),
         OUT("reject 80 2", problem, 0x7F),
         OUT("reject 80 2", problem, 0x84),
         OUT("reject 80 2", problem, 0),
@@ -285,9 +285,9 @@ static void test_out_of_range(void)
         OUT("reject 80 2", error, 3),
         OUT("reject 80 0, NULL", id, 1),
         OUT("D amount, subtotal", detail, 1),
-        OUT("D amount, subtotal", charge.kind, AOC_UNITS),
-        OUT("D amount, subtotal", charge.kind, AOC_FREE),
-        OUT("D amount, subtotal", charge.kind, AOC_NO_CHARGE),
+        OUT("D amount, subtotal", charge.kind, AOC_CHARGE_UNITS),
+        OUT("D amount, subtotal", charge.kind, AOC_CHARGE_FREE),
+        OUT("D amount, subtotal", charge.kind, AOC_CHARGE_NONE),
         OUT("D amount, subtotal", charge.kind, 6),
         OUT("D amount, subtotal", charge.kind, 255),
         OUT("D amount, subtotal", charge.total, 2),
@@ -304,17 +304,17 @@ static void test_out_of_range(void)
         OUT("D amount, subtotal", charge.money.currency.count, 11),
         OUT("D amount, subtotal", charge.money.currency.octets[0], 0x80),
         OUT("D amount, subtotal", charge.money.currency.octets[3], 0x20),
-        OUT("D amount, subtotal", charge.association.kind, AOC_BY_IDENTIFIER),
+        OUT("D amount, subtotal", charge.association.kind, AOC_ASSOCIATION_IDENTIFIER),
         OUT("D amount, subtotal", charge.numbers[0], 1),
         OUT("D amount, subtotal", charge.octets[0], 1),
         OUT("D free", charge.total, 1),
         OUT("D free", charge.billed, 1),
-        OUT("D free", charge.association.kind, AOC_BY_IDENTIFIER),
-        OUT("D free", charge.kind, AOC_ARRANGEMENT),
+        OUT("D free", charge.association.kind, AOC_ASSOCIATION_IDENTIFIER),
+        OUT("D free", charge.kind, AOC_CHARGE_ARRANGEMENT),
         OUT("E amount", charge.total, 1),
         OUT("E amount, billed, by identifier", charge.billing, 8),
         OUT("E amount", charge.association.kind, 4),
-        OUT("E amount", charge.association.kind, AOC_BY_NUMBER),
+        OUT("E amount", charge.association.kind, AOC_ASSOCIATION_NUMBER),
         OUT("E amount", charge.association.id, 1),
         OUT("E amount, billed, by identifier", charge.association.plan, 1),
         OUT("E amount, billed, by identifier", charge.association.count, 1),
@@ -389,41 +389,41 @@ static void test_out_of_range(void)
     for (size_t i = 0; i < sizeof cases / sizeof *cases; i++) {
         aoc_record r = record_of(cases[i].base);
         memcpy((uint8_t *)&r + cases[i].at, &cases[i].value, cases[i].size);
-        check_refused(r, AOC_BAD_RECORD, cases[i].member);
+        check_refused(r, AOC_REFUSED_BAD_RECORD, cases[i].member);
     }
     aoc_record zero;
     memset(&zero, 0, sizeof zero);
-    check_refused(zero, AOC_BAD_RECORD, "a record of zeros");
+    check_refused(zero, AOC_REFUSED_BAD_RECORD, "a record of zeros");
     memset(&zero, 0xFF, sizeof zero);
-    check_refused(zero, AOC_BAD_RECORD, "a record of ones");
+    check_refused(zero, AOC_REFUSED_BAD_RECORD, "a record of ones");
 }
 
 /* 10 before 11 before 12. */
 static void test_long_records(void)
 {
     aoc_record r = record_of("D units, 32");
-    for (int i = 0; i < AOC_MOST_UNITS; i++) {
-        r.charge.unit_numbers[i] = AOC_HIGHEST_NUMBER;
+    for (int i = 0; i < AOC_LIMIT_UNITS; i++) {
+        r.charge.unit_numbers[i] = AOC_LIMIT_NUMBER;
         r.charge.units[i].type = 16;
     }
-    check_refused(r, AOC_LONG_RECORD, "32 units");
+    check_refused(r, AOC_REFUSED_LONG_RECORD, "32 units");
     r.charge.total = 2;
-    check_refused(r, AOC_BAD_RECORD, "32 units, no total");
+    check_refused(r, AOC_REFUSED_BAD_RECORD, "32 units, no total");
 
     /* 32 numbers of three octets, and a type in four of them: 254 octets; a fifth type is too much */
     r = record_of("D units, 32");
-    for (int i = 0; i < AOC_MOST_UNITS; i++) {
+    for (int i = 0; i < AOC_LIMIT_UNITS; i++) {
         r.charge.unit_numbers[i] = 32768;
         uint32_t size = 178 + 2 * (i + 1);
         CHECK(aoc_write(&r, make_room(size), size).count == size, "units by number");
-        CHECK(aoc_write(&r, make_room(size - 1), size - 1).number == AOC_NO_ROOM, "units by number");
+        CHECK(aoc_write(&r, make_room(size - 1), size - 1).refusal == AOC_REFUSED_NO_ROOM, "units by number");
     }
     for (int i = 0; i < 4; i++)
         r.charge.units[i].type = 1;
     CHECK(aoc_write(&r, make_room(254), 254).count == 254, "254 octets");
-    CHECK(aoc_write(&r, make_room(253), 253).number == AOC_NO_ROOM, "254 octets");
+    CHECK(aoc_write(&r, make_room(253), 253).refusal == AOC_REFUSED_NO_ROOM, "254 octets");
     r.charge.units[4].type = 1;
-    check_refused(r, AOC_LONG_RECORD, "257 octets");
+    check_refused(r, AOC_REFUSED_LONG_RECORD, "257 octets");
 }
 
 /* Each octet of each record, changed: what is still accepted reads back as that record; all else is left untouched. */
@@ -440,13 +440,13 @@ static void test_changed_octets(void)
                 *octet = k < sizeof values ? values[k] : k == sizeof values ? (uint8_t)(*octet + 1) : (uint8_t)(*octet - 1);
                 uint8_t *buffer = make_room(254);
                 aoc_written w = aoc_write(&r, buffer, 254);
-                if (w.number == AOC_ACCEPTED) {
+                if (w.refusal == AOC_ACCEPTED) {
                     aoc_answer back = read_octets(buffer, w.count);
                     CHECK(w.count <= 254 && holds(buffer, 254, buffer, w.count), valid[i].name);
-                    CHECK(back.number == AOC_ACCEPTED && !memcmp(&back.record, &r, sizeof r), valid[i].name);
+                    CHECK(back.refusal == AOC_ACCEPTED && !memcmp(&back.record, &r, sizeof r), valid[i].name);
                     kept++;
                 } else {
-                    CHECK((w.number == AOC_BAD_RECORD || w.number == AOC_LONG_RECORD) && w.count == 0, valid[i].name);
+                    CHECK((w.refusal == AOC_REFUSED_BAD_RECORD || w.refusal == AOC_REFUSED_LONG_RECORD) && w.count == 0, valid[i].name);
                     CHECK(holds(buffer, 254, buffer, 0), valid[i].name);
                     not_kept++;
                 }
@@ -466,10 +466,10 @@ static void check_reply(const char *hex, const char *answer)
         uint8_t *buffer = make_room(room);
         aoc_written w = aoc_reply(lend(octets, n), n, buffer, room);
         size_t count = room < size ? 0 : size;
-        CHECK(w.number == (room < size ? AOC_NO_ROOM : AOC_ACCEPTED) && w.count == count, hex);
+        CHECK(w.refusal == (room < size ? AOC_REFUSED_NO_ROOM : AOC_ACCEPTED) && w.count == count, hex);
         CHECK(holds(buffer, room, expected, count), hex);
     }
-    CHECK(aoc_reply(lend(octets, n), n, NULL, 0).number == (size ? AOC_NO_ROOM : AOC_ACCEPTED), hex);
+    CHECK(aoc_reply(lend(octets, n), n, NULL, 0).refusal == (size ? AOC_REFUSED_NO_ROOM : AOC_ACCEPTED), hex);
 }
 
 static void test_reply(void)
@@ -500,18 +500,18 @@ static void test_reply(void)
 
     uint8_t octets[300] = {0xA1}, answer[16];
     size_t size = unhex("A4 05 05 00 80 01 02", answer);
-    uint8_t *buffer = make_room(AOC_LONGEST_REPLY);
-    aoc_written w = aoc_reply(lend(octets, 255), 255, buffer, AOC_LONGEST_REPLY);
-    CHECK(w.number == AOC_ACCEPTED && w.count == size && holds(buffer, AOC_LONGEST_REPLY, answer, size), "255 octets");
+    uint8_t *buffer = make_room(AOC_LIMIT_REPLY_OCTETS);
+    aoc_written w = aoc_reply(lend(octets, 255), 255, buffer, AOC_LIMIT_REPLY_OCTETS);
+    CHECK(w.refusal == AOC_ACCEPTED && w.count == size && holds(buffer, AOC_LIMIT_REPLY_OCTETS, answer, size), "255 octets");
     octets[0] = 0xA4;
-    CHECK(aoc_reply(lend(octets, 255), 255, NULL, 0).number == AOC_ACCEPTED, "255 octets of a reject");
+    CHECK(aoc_reply(lend(octets, 255), 255, NULL, 0).refusal == AOC_ACCEPTED, "255 octets of a reject");
 }
 
 /* ------------------------------------------------------------------ the Facility element */
 
 static int bad_element(aoc_starts s)
 {
-    return s.number == AOC_BAD_ELEMENT && s.count == 0 && all(s.starts, sizeof s.starts, 0);
+    return s.refusal == AOC_REFUSED_BAD_ELEMENT && s.count == 0 && all(s.starts, sizeof s.starts, 0);
 }
 
 static aoc_starts element_hex(const char *hex)
@@ -526,14 +526,14 @@ static void test_element(void)
     uint8_t octets[600] = {0x1C, 0, 0x91};
 
     /* 1 to 127 components of two octets; every shorter part of each element is malformed, and so is one octet more */
-    for (size_t count = 1; count <= AOC_MOST_COMPONENTS; count++) {
+    for (size_t count = 1; count <= AOC_LIMIT_COMPONENTS; count++) {
         size_t n = 3 + 2 * count;
         octets[1] = (uint8_t)(n - 2);
         octets[n - 2] = (uint8_t)(count + 0x7F);
         octets[n - 1] = 0;
         aoc_starts s = aoc_element(lend(octets, n), n);
-        int right = s.number == AOC_ACCEPTED && s.count == count;
-        for (size_t i = 0; i < AOC_MOST_COMPONENTS; i++)
+        int right = s.refusal == AOC_ACCEPTED && s.count == count;
+        for (size_t i = 0; i < AOC_LIMIT_COMPONENTS; i++)
             right = right && s.starts[i] == (i < count ? 3 + 2 * i : 0);
         CHECK(right, "components of two octets");
         CHECK(bad_element(aoc_element(lend(octets, n + 1), n + 1)), "one octet over");
@@ -545,7 +545,7 @@ static void test_element(void)
     CHECK(bad_element(aoc_element(NULL, 0)), "null");
 
     aoc_starts s = element_hex("1C 0F 91 A1 81 03 00 00 00 A2 82 00 02 00 00 05 00");
-    CHECK(s.number == AOC_ACCEPTED && s.count == 3, "three forms of a length");
+    CHECK(s.refusal == AOC_ACCEPTED && s.count == 3, "three forms of a length");
     CHECK(s.starts[0] == 3 && s.starts[1] == 9 && s.starts[2] == 15, "three forms of a length");
     s = element_hex("1C 14 91 A1 80 02 01 05 02 01 1E 0A 01 01 00 00 A1 04 02 01 07 06");
     CHECK(s.count == 2 && s.starts[0] == 3 && s.starts[1] == 16, "a length without a number");
@@ -588,12 +588,12 @@ static void test_values(void)
     for (int i = 0; i < 125; i++) {
         aoc_services set = {marks[i % 5], marks[i / 5 % 5], marks[i / 25]};
         for (unsigned service = 0; service < 256; service++) {
-            uint8_t own = service == AOC_S ? set.s : service == AOC_D ? set.d : service == AOC_E ? set.e : 0;
+            uint8_t own = service == AOC_SERVICE_S ? set.s : service == AOC_SERVICE_D ? set.d : service == AOC_SERVICE_E ? set.e : 0;
             CHECK(aoc_has_service(set, (uint8_t)service) == (own != 0), "has service");
             CHECK(!aoc_has_service(none, (uint8_t)service), "has service");
             aoc_services more = aoc_with_service(set, (uint8_t)service);
-            CHECK(more.s == (service == AOC_S ? 1 : set.s) && more.d == (service == AOC_D ? 1 : set.d) &&
-                      more.e == (service == AOC_E ? 1 : set.e), "with service");
+            CHECK(more.s == (service == AOC_SERVICE_S ? 1 : set.s) && more.d == (service == AOC_SERVICE_D ? 1 : set.d) &&
+                      more.e == (service == AOC_SERVICE_E ? 1 : set.e), "with service");
         }
     }
 }
@@ -615,19 +615,19 @@ static void test_noise(void)
             octets[chance() % n] = (uint8_t)(chance() >> 30);
         const uint8_t *lent = lend(octets, n);
         aoc_answer a = read_octets(lent, n);
-        CHECK(a.number <= AOC_BAD_ARGUMENT && (!a.number || all(&a.record, sizeof a.record, 0)), "any octets");
+        CHECK(a.refusal <= AOC_REFUSED_BAD_ARGUMENT && (!a.refusal || all(&a.record, sizeof a.record, 0)), "any octets");
         CHECK(!memcmp(lent, octets, n), "any octets");
-        uint8_t *buffer = make_room(AOC_LONGEST_REPLY);
-        aoc_written reply = aoc_reply(lent, n, buffer, AOC_LONGEST_REPLY);
-        CHECK(reply.number == AOC_ACCEPTED && holds(buffer, AOC_LONGEST_REPLY, buffer, reply.count), "any octets");
-        CHECK((reply.count == 0) == (a.number == 0 || (n && octets[0] == 0xA4)), "any octets");
-        CHECK(!reply.count || read_octets(buffer, reply.count).number == AOC_ACCEPTED, "a reply is a component");
+        uint8_t *buffer = make_room(AOC_LIMIT_REPLY_OCTETS);
+        aoc_written reply = aoc_reply(lent, n, buffer, AOC_LIMIT_REPLY_OCTETS);
+        CHECK(reply.refusal == AOC_ACCEPTED && holds(buffer, AOC_LIMIT_REPLY_OCTETS, buffer, reply.count), "any octets");
+        CHECK((reply.count == 0) == (a.refusal == 0 || (n && octets[0] == 0xA4)), "any octets");
+        CHECK(!reply.count || read_octets(buffer, reply.count).refusal == AOC_ACCEPTED, "a reply is a component");
         aoc_starts s = aoc_element(lent, n);
-        CHECK(s.number ? bad_element(s) : s.count > 0, "any octets");
-        if (a.number == 0) {
+        CHECK(s.refusal ? bad_element(s) : s.count > 0, "any octets");
+        if (a.refusal == 0) {
             aoc_written w = aoc_write(&a.record, form, sizeof form);
             aoc_answer back = read_octets(form, w.count);
-            CHECK(w.number == AOC_ACCEPTED && w.count <= n, "what is read is written no longer");
+            CHECK(w.refusal == AOC_ACCEPTED && w.count <= n, "what is read is written no longer");
             CHECK(!memcmp(&back, &a, sizeof a), "what is written reads back");
         }
     }

@@ -165,17 +165,21 @@ p.communicate(timeout=LONG)
 compare("each answer before the next line is given", got, C3 + b"\nbad line\n" + C7 + b"\n")
 
 
-def ends(name, out, **more):
-    """The program ends by itself, though its input does not."""
+NO_OUTPUT = b"lines: the output cannot be written\n"
+NO_INPUT = b"lines: the input cannot be read\n"
+
+
+def ends(name, out, says=NO_OUTPUT, **more):
+    """The program ends by itself, though its input does not, and says why."""
     source = subprocess.Popen(["yes", C3.decode()], stdout=subprocess.PIPE)
-    p = subprocess.Popen(RUN, stdin=source.stdout, stdout=out, **more)
+    p = subprocess.Popen(RUN, stdin=source.stdout, stdout=out, stderr=subprocess.PIPE, **more)
     source.stdout.close()
     if out == subprocess.PIPE:
         p.stdout.read(10)
         p.stdout.close()
     try:
         p.wait(timeout=LONG)
-        tell(name, True)
+        compare(name, p.stderr.read(), says)
     except subprocess.TimeoutExpired:
         p.kill()
         tell(name, False, ": it goes on")
@@ -186,10 +190,35 @@ def ends(name, out, **more):
 if os.path.exists("/dev/full"):
     with open("/dev/full", "wb") as f:
         ends("a full disk ends it", f)
-ends("a reader that goes away ends it", subprocess.PIPE)
-# Python starts its children with the signal of a broken pipe set to its default; here the failed write alone is what ends the program.
+# the signal of a broken pipe ends it before it can say anything
+ends("a reader that goes away ends it", subprocess.PIPE, b"")
+# Python starts its children with that signal set to its default; here the failed write alone is what ends the program.
 ends("a reader that goes away ends it, without the signal", subprocess.PIPE, restore_signals=False)
 ends("a closed output ends it", None, preexec_fn=lambda: os.close(1))
+
+
+def unread(name, expected, **more):
+    """A read fails: the program says so and ends, with this output."""
+    p = subprocess.run(RUN, stdout=subprocess.PIPE, stderr=subprocess.PIPE, timeout=LONG, **more)
+    compare(name, p.stdout, expected)
+    compare(name + ", and it says so", p.stderr, NO_INPUT)
+
+
+folder = os.open("tests", os.O_RDONLY)
+unread("a folder as the input", b"", stdin=folder)
+os.close(folder)
+unread("a closed input", b"", preexec_fn=lambda: os.close(0))
+
+
+# a pipe that does not wait: after what it holds a read fails, though it may go on later
+reading, writing = os.pipe()
+os.set_blocking(reading, False)
+os.write(writing, C3 + b"\n" + C7)
+unread("an input that breaks off in a line", C3 + b"\n", stdin=reading)
+os.close(reading)
+os.close(writing)
+p = subprocess.run(RUN, input=C3 + b"\n" + C7, capture_output=True, timeout=LONG)
+compare("nothing is said where nothing fails", p.stderr, b"")
 
 print(f"{passed} passed, {failed} failed")
 sys.exit(1 if failed else 0)

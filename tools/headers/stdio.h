@@ -1,6 +1,9 @@
 /* What tests and examples use of C's header, as x86-64 Linux has it: see tools/cc. */
 #pragma once
 #include <stddef.h>
+#ifdef __cplusplus
+extern "C" {
+#endif
 typedef struct _IO_FILE FILE;
 extern FILE *stdin, *stdout, *stderr;
 FILE *fopen(const char *, const char *);
@@ -13,3 +16,6 @@ int printf(const char *, ...);
 int fprintf(FILE *, const char *, ...);
 int snprintf(char *, size_t, const char *, ...);
 int sscanf(const char *, const char *, ...);
+#ifdef __cplusplus
+}
+#endif

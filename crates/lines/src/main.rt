@@ -10,6 +10,7 @@ mod input;
 mod output;
 
 use input::Line;
+use libc::STDERR_FILENO;
 use libc::STDIN_FILENO;
 use libc::STDOUT_FILENO;
 ghost use mathlib.Core.Path.{_≡_};
@@ -85,10 +86,19 @@ fn run(s: &[u8], from: usize, l: Line, octets: &mut [u8; 254], out: &mut [u8; 65
     Done { line, at, used }
 }
 
-fn put(out: &[u8], used: usize) -> bool {
+fn written(out: &[u8], used: usize) -> bool {
     if used <= out.len() {
         return io::write_all(STDOUT_FILENO, &out[..used]);
     }
+    false
+}
+
+// A write that fails is told of on standard error.
+fn put(out: &[u8], used: usize) -> bool {
+    if written(out, used) {
+        return true;
+    }
+    io::write_all(STDERR_FILENO, b"lines: the output cannot be written\n");
     false
 }
 
@@ -116,10 +126,18 @@ fn chunk(s: &[u8], l: Line, octets: &mut [u8; 254], out: &mut [u8; 65536]) -> Le
     Left { line, more: true }
 }
 
-// Reads once and answers what came. Where no more comes, a line that nothing ended is answered if it has a character.
+// Reads once and answers what came. Where no more comes, a line that nothing ended is answered if it has a character. A read
+// that fails is told of, and ends the program: the line may go on in what was not read, so it is not answered.
 fn once(l: Line, octets: &mut [u8; 254], buf: &mut [u8], out: &mut [u8; 65536]) -> Left {
     let got = libc::read(STDIN_FILENO, buf);
-    if got <= 0 {
+    if got < 0 {
+        io::write_all(STDERR_FILENO, b"lines: the input cannot be read\n");
+        return Left {
+            line: l,
+            more: false,
+        };
+    }
+    if got == 0 {
         if l.phase != 0 {
             chunk(b"\n", l, octets, out);
         }

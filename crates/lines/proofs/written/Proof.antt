@@ -1,10 +1,10 @@
--- `lines::put` meets its contract.
+-- `lines::written` meets its contract.
 -- Assumes nothing.
 use native.Mathlib.Omega.{arith}
 use borrow.Author.Needs.{needs}
 use lib.ListN.{length-take}
-use Rattle.lines.proofs.put.Statement.{statement}
-use Rattle.lines.proofs.put.Tie as tie
+use Rattle.lines.proofs.written.Statement.{statement}
+use Rattle.lines.proofs.written.Tie as tie
 
 slice-aggregate-write-all : tie.Need-slice-aggregate-write-all
 slice-aggregate-write-all c = simp length-take (omega arith)
@@ -18,5 +18,5 @@ returns c = search needs
 returns-2 : tie.Need-returns-2
 returns-2 c = search needs
 
-pub put-spec : {M : Type 1} → statement M
-put-spec = tie.close (tie.spec slice-aggregate-write-all write-all-requires returns returns-2)
+pub written-spec : {M : Type 1} → statement M
+written-spec = tie.close (tie.spec slice-aggregate-write-all write-all-requires returns returns-2)

@@ -1,0 +1,227 @@
+/* What stands behind aoc.h, which includes it and which hosts read instead: the two functions of the library over the parts
+ * of a record, the bodies of the inline functions, and the layout that the library has. */
+#ifndef AOC_PARTS_H
+#define AOC_PARTS_H
+
+#ifndef AOC_H
+#error "include aoc.h"
+#endif
+
+/* ------------------------------------------------------------------ a record in parts */
+
+/* Numbers go by value and arrays are lent, so that no list is copied. Of what is passed, the front is the record's first 8
+ * octets, the figure its charge's first 48, and a short answer an answer's first 60. */
+typedef struct {
+    uint8_t frame, unnamed;
+    uint16_t id;
+    uint8_t operation, error, problem, detail;
+} aoc_front;
+
+typedef struct {
+    aoc_money money;
+    aoc_association association;
+    uint8_t kind, total, billed, billing, arrangement, count;
+} aoc_figure;
+
+typedef struct {
+    uint32_t refusal;
+    aoc_front front;
+    aoc_figure figure;
+} aoc_short_answer;
+
+/* A figure's small numbers: of the association the identifier, the count of digits, the kind and the plan; the count of the
+ * currency's octets; and the rest under its own names. */
+typedef struct {
+    uint16_t id, digits;
+    uint8_t currency, multiplier, party, plan, kind, total, billed, billing, arrangement, count;
+} aoc_outline;
+
+/* Proved. What aoc_read and aoc_write say, over the parts. */
+aoc_short_answer aoc_read_into(const uint8_t *octets, size_t length, uint32_t (*numbers)[32], uint8_t (*rows)[192]);
+aoc_written aoc_write_from(aoc_front front, aoc_outline outline, uint32_t number, const uint8_t (*currency)[10],
+                           const uint8_t (*digits)[20], const uint32_t (*numbers)[32], const uint8_t (*rows)[192],
+                           uint8_t *buffer, size_t room);
+
+static inline aoc_refusal aoc_read(const uint8_t *octets, size_t length, aoc_answer *answer)
+{
+    aoc_charge *charge = &answer->record.charge;
+    aoc_short_answer a = aoc_read_into(octets, length, &charge->numbers, &charge->octets);
+    memcpy(answer, &a, sizeof a);
+    return (aoc_refusal)a.refusal;
+}
+
+static inline aoc_written aoc_write(const aoc_record *record, uint8_t *buffer, size_t room)
+{
+    const aoc_charge *c = &record->charge;
+    const aoc_association *a = &c->association;
+    aoc_front front;
+    memcpy(&front, record, sizeof front);
+    aoc_outline outline = {a->id, a->count, c->money.currency.count, c->money.multiplier, a->kind, a->plan,
+                           c->kind, c->total, c->billed, c->billing, c->arrangement, c->count};
+    return aoc_write_from(front, outline, c->money.number, &c->money.currency.octets, &a->digits, &c->numbers, &c->octets,
+                          buffer, room);
+}
+
+/* ------------------------------------------------------------------ values */
+
+static inline bool aoc_is_refusal(uint32_t number)
+{
+    switch (number) {
+        AOC_REFUSALS(AOC_ROW_CASE)
+        return true;
+    default:
+        return false;
+    }
+}
+
+static inline aoc_unit_entry aoc_unit_at(const aoc_charge *charge, size_t index)
+{
+    aoc_unit_entry entry = {0, 0, 0};
+    if (charge->kind == AOC_CHARGE_UNITS && index < charge->count && index < AOC_LIMIT_UNITS) {
+        entry.known = charge->units[index].known;
+        entry.type = charge->units[index].type;
+        entry.number = charge->unit_numbers[index];
+    }
+    return entry;
+}
+
+static inline aoc_rate_entry aoc_rate_at(const aoc_charge *charge, size_t index)
+{
+    aoc_rate_entry entry;
+    memset(&entry, 0, sizeof entry);
+    if (charge->kind == AOC_CHARGE_RATES && index < charge->count && index < AOC_LIMIT_RATES) {
+        const aoc_rate *rate = &charge->rates[index];
+        const aoc_rate_numbers *numbers = &charge->rate_numbers[index];
+        entry.item = rate->item;
+        entry.kind = rate->kind;
+        entry.detail = rate->detail;
+        entry.stepped = rate->stepped;
+        entry.scale = rate->scale;
+        entry.step_scale = rate->step_scale;
+        entry.time = numbers->time;
+        entry.step = numbers->step;
+        entry.money.currency = rate->currency;
+        entry.money.multiplier = rate->multiplier;
+        entry.money.number = numbers->number;
+    }
+    return entry;
+}
+
+/* ------------------------------------------------------------------ one call's account */
+
+static inline aoc_outcome aoc_phase_event(aoc_account *account, uint8_t kind)
+{
+    aoc_event event = {kind, {0, 0, 0}, 0, 0, 0};
+    return aoc_step(account, event, NULL, 0);
+}
+
+static inline aoc_outcome aoc_setup(aoc_account *account, aoc_services asked, aoc_identifiers ids)
+{
+    aoc_event event = {AOC_EVENT_SETUP, asked, ids.s, ids.d, ids.e};
+    return aoc_step(account, event, NULL, 0);
+}
+
+static inline aoc_outcome aoc_connect(aoc_account *account)
+{
+    return aoc_phase_event(account, AOC_EVENT_CONNECT);
+}
+
+static inline aoc_outcome aoc_clear(aoc_account *account)
+{
+    return aoc_phase_event(account, AOC_EVENT_CLEAR);
+}
+
+static inline aoc_outcome aoc_released(aoc_account *account)
+{
+    return aoc_phase_event(account, AOC_EVENT_RELEASED);
+}
+
+static inline aoc_outcome aoc_component(aoc_account *account, const uint8_t *octets, size_t length)
+{
+    aoc_event event = {AOC_EVENT_COMPONENT, {0, 0, 0}, 0, 0, 0};
+    return aoc_step(account, event, octets, length);
+}
+
+static inline aoc_charge aoc_rate_of(const aoc_account *account)
+{
+    return account->rate;
+}
+
+static inline aoc_charge aoc_running_of(const aoc_account *account)
+{
+    return account->running;
+}
+
+static inline aoc_closing aoc_closing_of(const aoc_account *account)
+{
+    aoc_closing closing;
+    memset(&closing, 0, sizeof closing);
+    if (account->phase != AOC_PHASE_ENDED)
+        return closing;
+    if (account->e_final.kind != AOC_CHARGE_NONE) {
+        closing.service = AOC_SERVICE_E;
+        closing.charge = account->e_final;
+    } else if (account->d_final.kind != AOC_CHARGE_NONE) {
+        closing.service = AOC_SERVICE_D;
+        closing.charge = account->d_final;
+    }
+    return closing;
+}
+
+static inline aoc_marks aoc_marks_of(const aoc_account *account)
+{
+    aoc_marks marks = {account->absent, account->conflict};
+    return marks;
+}
+
+static inline aoc_pending aoc_pending_of(const aoc_account *account)
+{
+    aoc_pending pending = {account->asked, 0, account->s, account->d, account->e};
+    return pending;
+}
+
+static inline uint8_t aoc_phase_of(const aoc_account *account)
+{
+    return account->phase;
+}
+
+/* ------------------------------------------------------------------ the layout that the library has */
+
+#ifdef __cplusplus
+#define AOC_LAYOUT(fact) static_assert(fact, #fact)
+#else
+#define AOC_LAYOUT(fact) _Static_assert(fact, #fact)
+#endif
+AOC_LAYOUT(sizeof(aoc_currency) == 11);
+AOC_LAYOUT(sizeof(aoc_money) == 16 && offsetof(aoc_money, multiplier) == 11 && offsetof(aoc_money, number) == 12);
+AOC_LAYOUT(sizeof(aoc_association) == 26 && offsetof(aoc_association, count) == 2);
+AOC_LAYOUT(offsetof(aoc_association, kind) == 4 && offsetof(aoc_association, plan) == 5);
+AOC_LAYOUT(offsetof(aoc_association, digits) == 6);
+AOC_LAYOUT(sizeof(aoc_unit) == 2 && sizeof(aoc_rate) == 18 && sizeof(aoc_rate_numbers) == 12);
+AOC_LAYOUT(offsetof(aoc_rate, multiplier) == 6 && offsetof(aoc_rate, currency) == 7);
+AOC_LAYOUT(sizeof(aoc_charge) == 368 && offsetof(aoc_charge, association) == 16);
+AOC_LAYOUT(offsetof(aoc_charge, kind) == 42 && offsetof(aoc_charge, count) == 47);
+AOC_LAYOUT(offsetof(aoc_charge, numbers) == 48 && offsetof(aoc_charge, rate_numbers) == 48);
+AOC_LAYOUT(offsetof(aoc_charge, octets) == 176 && offsetof(aoc_charge, units) == 176);
+AOC_LAYOUT(offsetof(aoc_charge, rates) == 176);
+AOC_LAYOUT(sizeof(aoc_record) == 376 && offsetof(aoc_record, id) == 2 && offsetof(aoc_record, operation) == 4);
+AOC_LAYOUT(offsetof(aoc_record, detail) == 7 && offsetof(aoc_record, charge) == 8);
+AOC_LAYOUT(sizeof(aoc_answer) == 380 && offsetof(aoc_answer, record) == 4);
+AOC_LAYOUT(sizeof(aoc_front) == offsetof(aoc_record, charge) && offsetof(aoc_front, detail) == offsetof(aoc_record, detail));
+AOC_LAYOUT(sizeof(aoc_figure) == offsetof(aoc_charge, numbers) && offsetof(aoc_figure, count) == offsetof(aoc_charge, count));
+AOC_LAYOUT(sizeof(aoc_outline) == 14 && offsetof(aoc_outline, count) == 13);
+AOC_LAYOUT(sizeof(aoc_short_answer) == 60 && offsetof(aoc_short_answer, figure) == 12);
+AOC_LAYOUT(sizeof(aoc_written) == 8 && offsetof(aoc_written, count) == 4);
+AOC_LAYOUT(sizeof(aoc_starts) == 129 && offsetof(aoc_starts, starts) == 2);
+AOC_LAYOUT(sizeof(aoc_services) == 3 && sizeof(aoc_identifiers) == 6 && sizeof(aoc_outcome) == 2);
+AOC_LAYOUT(sizeof(aoc_event) == 10 && offsetof(aoc_event, asked) == 1 && offsetof(aoc_event, s) == 4);
+AOC_LAYOUT(sizeof(aoc_account) == 1488 && offsetof(aoc_account, asked) == 1 && offsetof(aoc_account, s) == 4);
+AOC_LAYOUT(offsetof(aoc_account, absent) == 10 && offsetof(aoc_account, conflict) == 13);
+AOC_LAYOUT(offsetof(aoc_account, rate) == 16 && offsetof(aoc_account, running) == 384);
+AOC_LAYOUT(offsetof(aoc_account, d_final) == 752 && offsetof(aoc_account, e_final) == 1120);
+AOC_LAYOUT(sizeof(aoc_closing) == 372 && offsetof(aoc_closing, charge) == 4);
+AOC_LAYOUT(sizeof(aoc_marks) == 6 && offsetof(aoc_marks, conflict) == 3);
+AOC_LAYOUT(sizeof(aoc_pending) == 10 && offsetof(aoc_pending, s) == 4);
+#undef AOC_LAYOUT
+
+#endif
