@@ -1,8 +1,9 @@
 -- Choices by a test.
 use Prim.Native.Nat.{ℕ}
-use mathlib.Core.Path.{_≡_, refl}
-use mathlib.Core.Bool.{Bool, true, false, cond}
+use mathlib.Core.Path.{_≡_, refl, ap}
+use mathlib.Core.Bool.{Bool, true, false, not, _&&_, _||_, cond}
 use lib.Dec.{eqb}
+use native.Mathlib.Omega.{arith}
 use borrow.Author.Tests.{eqb-true}
 
 pub if-same : {A : Type 0} (b : Bool) (x : A) → cond b x x ≡ x
@@ -17,3 +18,19 @@ by-test false p q = q refl
 -- by whether a number is another
 pub by-number : {P : Type 0} (n k : ℕ) → (n ≡ k → P) → (eqb n k ≡ false → P) → P
 by-number n k p q = by-test (eqb n k) (λ e. p (eqb-true n k e)) q
+
+-- a test that fails and passes
+pub never : {P : Type 0} → false ≡ true → P
+never q = let z : _≡_ {A = ℕ} 0 1 = ap (λ (b : Bool). cond b 1 0) q in absurd (omega arith)
+
+pub first-of : (a b : Bool) → (a && b) ≡ true → a ≡ true
+first-of true b q = refl
+first-of false b q = q
+
+pub second-of : (a b : Bool) → (a && b) ≡ true → b ≡ true
+second-of true b q = q
+second-of false b q = never q
+
+pub implied : (a b : Bool) → a ≡ true → (not a || b) ≡ true → b ≡ true
+implied true b t q = q
+implied false b t q = never t

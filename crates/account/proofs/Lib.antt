@@ -1,4 +1,6 @@
 pub mod Choice
+pub mod Transitions
+pub mod Refusals
 pub mod Demand
 pub mod Steps
 pub mod Lent

@@ -1,5 +1,6 @@
 -- One call's events, and what the rules pick out of their list. A history has the latest event first.
 use Prim.Native.Nat.{ℕ}
+use mathlib.Core.Path.{_≡_}
 use mathlib.Core.List.{List, [], _∷_}
 use mathlib.Core.Bool.{Bool, false, _&&_, _||_, cond}
 use lib.Dec.{eqb}
@@ -13,7 +14,10 @@ use Rattle.account.specs.declared.Status.{Status}
 use Rattle.account.specs.declared.Account.{Account}
 use Rattle.account.specs.declared.Closing.{Closing}
 use Rattle.account.specs.declared.Marks.{Marks}
-use Rattle.account.specs.Outcome.{idle, establishment, active, clearing, ended, setup, connect, clear, released, S, D, E, Request, noRequest, request, Requests, Known, judge}
+use Rattle.account.specs.declared.Pending.{Pending}
+use Rattle.account.specs.declared.Stepped.{Stepped}
+use Rattle.values.specs.Sets.{emptySet}
+use Rattle.account.specs.Outcome.{Idle, Ended, Setup, leadsTo, S, D, E, Request, noRequest, requestFor, Requests, Known, judge}
 
 -- an event with its octets, and the same with its outcome
 pub record Given : Type 0 where
@@ -29,8 +33,8 @@ pub record Judged : Type 0 where
   pub outcome : Outcome
 
 -- the charge of a component
-abbrev pub chargeOf : List ℕ → Charge
-chargeOf o = readOf o .value .charge
+abbrev pub chargeIn : List ℕ → Charge
+chargeIn o = readOf o .value .charge
 
 -- ---- going over a list
 
@@ -41,7 +45,7 @@ any t (j ∷ h) = t j || any t h
 -- the charge of the last event that passes a test
 abbrev pub last : (Judged → Bool) → List Judged → Charge
 last t [] = noCharge
-last t (j ∷ h) = cond (t j) (chargeOf (j .octets)) (last t h)
+last t (j ∷ h) = cond (t j) (chargeIn (j .octets)) (last t h)
 
 -- an outcome was n; it was the service's n
 abbrev pub was : ℕ → Outcome → Bool
@@ -52,22 +56,15 @@ its s n r = eqb (r .number) n && eqb (r .service) s
 
 -- ---- the phase follows from the phase events not refused
 
-abbrev pub leadsTo : ℕ → ℕ → ℕ
-leadsTo kind phase =
-    cond (eqb kind setup) establishment
-    (cond (eqb kind connect) active
-    (cond (eqb kind clear) clearing
-    (cond (eqb kind released) ended phase)))
-
 abbrev pub phase : List Judged → ℕ
-phase [] = idle
+phase [] = Idle
 phase (j ∷ h) = cond (was 0 (j .outcome)) (leadsTo (j .event .kind) (phase h)) (phase h)
 
 -- ---- a request is pending if the one accepted Setup named it and no earlier event was its 24 or 25
 
 abbrev pub named : ℕ → List Judged → Request
 named s [] = noRequest
-named s (j ∷ h) = cond (eqb (j .event .kind) setup && was 0 (j .outcome)) (request s (j .event)) (named s h)
+named s (j ∷ h) = cond (eqb (j .event .kind) Setup && was 0 (j .outcome)) (requestFor s (j .event)) (named s h)
 
 abbrev pub settles : ℕ → Outcome → Bool
 settles s r = its s 24 r || its s 25 r
@@ -99,8 +96,8 @@ marks h = record {
 
 -- ---- the rate is that of the last 20 or S 24; the running figure that of the last 21
 
-abbrev pub rate : List Judged → Charge
-rate h = last (λ j. was 20 (j .outcome) || its S 24 (j .outcome)) h
+abbrev pub currentRate : List Judged → Charge
+currentRate h = last (λ j. was 20 (j .outcome) || its S 24 (j .outcome)) h
 
 abbrev pub running : List Judged → Charge
 running h = last (λ j. was 21 (j .outcome)) h
@@ -112,7 +109,7 @@ noClosing = record { service = 0; value = noCharge }
 
 abbrev pub closing : List Judged → Closing
 closing h =
-    cond (eqb (phase h) ended)
+    cond (eqb (phase h) Ended)
     (cond (hasFinal E h) (record { service = E; value = final E h })
     (cond (hasFinal D h) (record { service = D; value = final D h }) noClosing))
     noClosing
@@ -156,7 +153,26 @@ statusBy h = record {
 }
 
 abbrev pub accountBy : List Judged → Account
-accountBy h = record { status = statusBy h; rate = rate h; running = running h; dfinal = final D h; efinal = final E h }
+accountBy h = record { status = statusBy h; rate = currentRate h; running = running h; dfinal = final D h; efinal = final E h }
+
+-- an account that stands for no events
+abbrev pub freshStatus : Status
+freshStatus = record { phase = Idle; asked = emptySet; s = 0; d = 0; e = 0; absent = emptySet; conflict = emptySet }
+
+abbrev pub fresh : Account
+fresh = record { status = freshStatus; rate = noCharge; running = noCharge; dfinal = noCharge; efinal = noCharge }
+
+-- the requests pending as they are handed over
+abbrev pub pendingOf : Requests → Pending
+pendingOf q = record { asked = q .asked; unused = 0; s = q .s; d = q .d; e = q .e }
+
+-- ---- the step by the list: the outcome of an event after a history, and the account of the history with the event
+
+abbrev pub stepped : Outcome → Account → Stepped
+stepped r a = record { outcome = r; account = a }
+
+abbrev pub steppedBy : Given → List Given → Stepped
+steppedBy g h = stepped (judge (known (judged h)) (g .event) (g .octets)) (accountBy (judged (g ∷ h)))
 
 -- ---- what can be read after an event: its outcome, the rate, the running and the closing figure, and the marks
 
@@ -171,7 +187,7 @@ pub record Shown : Type 0 where
 abbrev pub shown : Given → List Given → Shown
 shown g h = record {
   outcome = judge (known (judged h)) (g .event) (g .octets);
-  rate = rate (judged (g ∷ h));
+  rate = currentRate (judged (g ∷ h));
   running = running (judged (g ∷ h));
   closing = closing (judged (g ∷ h));
   marks = marks (judged (g ∷ h));
@@ -181,3 +197,34 @@ shown g h = record {
 abbrev pub picked : List Given → List Given → List Shown
 picked h [] = []
 picked h (g ∷ l) = shown g h ∷ picked (g ∷ h) l
+
+-- ---- what a host calls: a step, and what it reads off the account
+
+pub record Calls : Type 0 where
+  pub step : Account → Event → List ℕ → Stepped
+  pub rate : Account → Charge
+  pub running : Account → Charge
+  pub closing : Account → Closing
+  pub marks : Account → Marks
+
+-- each does by the rules at an account that stands for a history
+pub record Obeys (f : Calls) : Type 0 where
+  pub step : (h : List Given) (g : Given) → f .step (accountBy (judged h)) (g .event) (g .octets) ≡ steppedBy g h
+  pub rate : (h : List Given) → f .rate (accountBy (judged h)) ≡ currentRate (judged h)
+  pub running : (h : List Given) → f .running (accountBy (judged h)) ≡ running (judged h)
+  pub closing : (h : List Given) → f .closing (accountBy (judged h)) ≡ closing (judged h)
+  pub marks : (h : List Given) → f .marks (accountBy (judged h)) ≡ marks (judged h)
+
+abbrev pub readOff : Calls → Stepped → Shown
+readOff f r = record {
+  outcome = r .outcome;
+  rate = f .rate (r .account);
+  running = f .running (r .account);
+  closing = f .closing (r .account);
+  marks = f .marks (r .account);
+}
+
+-- what a host reads that hands the step each event of a list in turn
+abbrev pub answers : Calls → Account → List Given → List Shown
+answers f a [] = []
+answers f a (g ∷ l) = readOff f (f .step a (g .event) (g .octets)) ∷ answers f (f .step a (g .event) (g .octets) .account) l

@@ -1,3 +1,4 @@
 pub mod Outcome
 pub mod History
 pub mod Step
+pub mod Parts

@@ -1,7 +1,7 @@
 -- An event's outcome, from what is known of the call when it comes. The numbers of outcomes and refusals are those of the paper.
 use Prim.Native.Nat.{ℕ}
-use mathlib.Core.List.{List}
-use mathlib.Core.Bool.{Bool, not, _&&_, _||_, cond}
+use mathlib.Core.List.{List, [], _∷_}
+use mathlib.Core.Bool.{Bool, false, not, _&&_, _||_, cond}
 use lib.Dec.{eqb, leb}
 use Rattle.types.specs.declared.Charge.{Charge}
 use Rattle.types.specs.declared.Record.{Record}
@@ -15,46 +15,90 @@ use Rattle.account.specs.declared.Outcome.{Outcome}
 
 -- ---- phases
 
-abbrev pub idle : ℕ
-idle = 0
+abbrev pub Idle : ℕ
+Idle = 0
 
-abbrev pub establishment : ℕ
-establishment = 1
+abbrev pub Establishment : ℕ
+Establishment = 1
 
-abbrev pub active : ℕ
-active = 2
+abbrev pub Active : ℕ
+Active = 2
 
-abbrev pub clearing : ℕ
-clearing = 3
+abbrev pub Clearing : ℕ
+Clearing = 3
 
-abbrev pub ended : ℕ
-ended = 4
+abbrev pub Ended : ℕ
+Ended = 4
 
--- ---- kinds of events; another kind is allowed in no phase
+-- ---- kinds of events
 
-abbrev pub setup : ℕ
-setup = 1
+abbrev pub Setup : ℕ
+Setup = 1
 
-abbrev pub connect : ℕ
-connect = 2
+abbrev pub Connect : ℕ
+Connect = 2
 
-abbrev pub clear : ℕ
-clear = 3
+abbrev pub Clear : ℕ
+Clear = 3
 
-abbrev pub released : ℕ
-released = 4
+abbrev pub Released : ℕ
+Released = 4
 
-abbrev pub component : ℕ
-component = 5
+abbrev pub Component : ℕ
+Component = 5
 
--- Component is allowed in the middle three
-abbrev pub allowed : ℕ → ℕ → Bool
-allowed kind phase =
-    cond (eqb kind setup) (eqb phase idle)
-    (cond (eqb kind connect) (eqb phase establishment)
-    (cond (eqb kind clear) (eqb phase establishment || eqb phase active)
-    (cond (eqb kind released) (eqb phase clearing)
-    (eqb kind component && (eqb phase establishment || (eqb phase active || eqb phase clearing))))))
+-- ---- the phase events, each from a phase to a phase; Component is allowed in the middle three
+
+pub record Transition : Type 0 where
+  pub event : ℕ
+  pub from : ℕ
+  pub to : ℕ
+
+abbrev pub goes : ℕ → ℕ → ℕ → Transition
+goes k p n = record { event = k; from = p; to = n }
+
+abbrev pub transitions : List Transition
+transitions =
+    goes Setup Idle Establishment
+    ∷ goes Connect Establishment Active
+    ∷ goes Clear Establishment Clearing
+    ∷ goes Clear Active Clearing
+    ∷ goes Released Clearing Ended
+    ∷ goes Component Establishment Establishment
+    ∷ goes Component Active Active
+    ∷ goes Component Clearing Clearing
+    ∷ []
+
+-- a row is that of an event in a phase
+abbrev pub isFor : Transition → ℕ → ℕ → Bool
+isFor r kind phase = eqb (r .event) kind && eqb (r .from) phase
+
+abbrev pub allowedBy : List Transition → ℕ → ℕ → Bool
+allowedBy [] kind phase = false
+allowedBy (r ∷ l) kind phase = isFor r kind phase || allowedBy l kind phase
+
+abbrev pub leadsBy : List Transition → ℕ → ℕ → ℕ
+leadsBy [] kind phase = phase
+leadsBy (r ∷ l) kind phase = cond (isFor r kind phase) (r .to) (leadsBy l kind phase)
+
+-- an event is allowed in a phase where a row is its own; it leads where that row says
+unfoldable pub allowed : ℕ → ℕ → Bool
+allowed = allowedBy transitions
+
+unfoldable pub leadsTo : ℕ → ℕ → ℕ
+leadsTo = leadsBy transitions
+
+-- ---- refusals: those of decoding, 13 and 14
+
+abbrev pub among : ℕ → List ℕ → Bool
+among n [] = false
+among n (x ∷ l) = eqb n x || among n l
+
+abbrev pub refusals : List ℕ
+refusals = 1 ∷ 2 ∷ 3 ∷ 4 ∷ 5 ∷ 6 ∷ 7 ∷ 8 ∷ 9 ∷ 13 ∷ 14 ∷ []
+
+unfoldable pub isRefusal : ℕ → Bool
+isRefusal n = among n refusals
 
 -- ---- services, numbered as in a set of them, and outcomes
 
@@ -71,8 +115,8 @@ abbrev pub outcome : ℕ → ℕ → Outcome
 outcome n s = record { number = n; service = s }
 
 -- an outcome of no service
-abbrev pub bare : ℕ → Outcome
-bare n = outcome n 0
+abbrev pub noService : ℕ → Outcome
+noService n = outcome n 0
 
 -- the service of an invoke: 31, 32 S; 33, 34 D; 35, 36 E
 abbrev pub serviceOf : ℕ → ℕ
@@ -92,8 +136,8 @@ abbrev pub asking : ℕ → ℕ → Request
 asking mark id = cond (eqb mark 0) noRequest (record { mark = 1; id = id })
 
 -- what a Setup asks for a service
-abbrev pub request : ℕ → Event → Request
-request s e =
+abbrev pub requestFor : ℕ → Event → Request
+requestFor s e =
     cond (eqb s S) (asking (e .asked .s) (e .s))
     (cond (eqb s D) (asking (e .asked .d) (e .d)) (asking (e .asked .e) (e .e)))
 
@@ -102,7 +146,7 @@ abbrev pub clash : Request → Request → Bool
 clash p q = not (eqb (p .mark) 0) && (not (eqb (q .mark) 0) && eqb (p .id) (q .id))
 
 abbrev pub clashes : Event → Bool
-clashes e = clash (request S e) (request D e) || (clash (request S e) (request E e) || clash (request D e) (request E e))
+clashes e = clash (requestFor S e) (requestFor D e) || (clash (requestFor S e) (requestFor E e) || clash (requestFor D e) (requestFor E e))
 
 -- ---- what is known when an event comes
 
@@ -131,74 +175,84 @@ pub record Known : Type 0 where
   pub byD : First
   pub byE : First
 
-abbrev pub firstOf : Known → ℕ → First
-firstOf k s = cond (eqb s D) (k .byD) (k .byE)
+abbrev pub firstFinal : Known → ℕ → First
+firstFinal k s = cond (eqb s D) (k .byD) (k .byE)
+
+-- ---- what a charge says: 05 00, free, a subtotal, a total, a list of rates or a special arrangement
+
+abbrev pub isNotAvailable : Charge → Bool
+isNotAvailable c = eqb (c .figure .kind) 0
+
+abbrev pub isFree : Charge → Bool
+isFree c = eqb (c .figure .kind) 1
+
+abbrev pub isSubtotal : Charge → Bool
+isSubtotal c = eqb (c .figure .total) 0
+
+abbrev pub isTotal : Charge → Bool
+isTotal c = eqb (c .figure .total) 1
+
+abbrev pub isListOrSpecial : Charge → Bool
+isListOrSpecial c = eqb (c .figure .kind) 4 || eqb (c .figure .kind) 5
 
 -- ---- component outcomes, first that fits
 
 -- a final: 22 if its service has none yet; 28 if the same; else 29
-abbrev pub finalOf : First → Charge → ℕ → Outcome
-finalOf first c s = cond (first .given) (cond (sameOf (first .charge) c) (outcome 28 s) (outcome 29 s)) (outcome 22 s)
+abbrev pub judgeFinal : First → ℕ → Charge → Outcome
+judgeFinal first s c = cond (first .given) (cond (sameOf (first .charge) c) (outcome 28 s) (outcome 29 s)) (outcome 22 s)
 
--- D subtotal in Active, D free (kind 1) in Establishment or Active
-abbrev pub runs : ℕ → ℕ → ℕ → ℕ → Bool
-runs phase s kind total =
-    eqb s D && cond (eqb kind 1) (eqb phase establishment || eqb phase active) (eqb total 0 && eqb phase active)
+-- D subtotal in Active, D free in Establishment or Active
+abbrev pub runs : ℕ → ℕ → Charge → Bool
+runs phase s c =
+    eqb s D && cond (isFree c) (eqb phase Establishment || eqb phase Active) (isSubtotal c && eqb phase Active)
 
--- D total or D free in Clearing, any E figure in Clearing
-abbrev pub closes : ℕ → ℕ → ℕ → ℕ → Bool
-closes phase s kind total = eqb phase clearing && (eqb s E || (eqb kind 1 || eqb total 1))
+-- any E figure in Clearing, D total or D free in Clearing
+abbrev pub closes : ℕ → ℕ → Charge → Bool
+closes phase s c = eqb phase Clearing && (eqb s E || (isFree c || isTotal c))
 
--- (what the outcome of a final is stands apart: `final` gives it for a service)
-abbrev pub judgeFigure : ℕ → (ℕ → Outcome) → ℕ → ℕ → ℕ → Outcome
-judgeFigure phase final s kind total =
+-- S: 20; 21; a final; others: 27
+abbrev pub judgeFigure : Known → ℕ → Charge → Outcome
+judgeFigure k s c =
     cond (eqb s S) (outcome 20 s)
-    (cond (runs phase s kind total) (outcome 21 s)
-    (cond (closes phase s kind total) (final s) (outcome 27 s)))
+    (cond (runs (k .phase) s c) (outcome 21 s)
+    (cond (closes (k .phase) s c) (judgeFinal (firstFinal k s) s c) (outcome 27 s)))
 
 -- invoke 30: 32; the service's request pending: 26; not available: 23
-abbrev pub judgeInvoke : ℕ → Requests → (ℕ → Outcome) → ℕ → ℕ → ℕ → Outcome
-judgeInvoke phase q final operation kind total =
-    cond (eqb operation 30) (bare 32)
-    (cond (has (q .asked) (serviceOf operation)) (outcome 26 (serviceOf operation))
-    (cond (eqb kind 0) (outcome 23 (serviceOf operation))
-    (judgeFigure phase final (serviceOf operation) kind total)))
+abbrev pub judgeInvoke : Known → Record → Outcome
+judgeInvoke k c =
+    cond (eqb (c .operation) 30) (noService 32)
+    (cond (has (k .pending .asked) (serviceOf (c .operation))) (outcome 26 (serviceOf (c .operation)))
+    (cond (isNotAvailable (c .charge)) (outcome 23 (serviceOf (c .operation)))
+    (judgeFigure k (serviceOf (c .operation)) (c .charge))))
 
 -- a result fits S if it is a list or a special arrangement, D and E if it is NULL
-abbrev pub fits : ℕ → ℕ → Bool
-fits s kind = cond (eqb s S) (eqb kind 4 || eqb kind 5) (eqb kind 0)
+abbrev pub fits : ℕ → Charge → Bool
+fits s c = cond (eqb s S) (isListOrSpecial c) (isNotAvailable c)
 
--- return result: 30 if no pending request has its identifier; 24 if it fits; else 31
-abbrev pub judgeResult : ℕ → ℕ → Outcome
-judgeResult s kind = cond (eqb s 0) (bare 30) (cond (fits s kind) (outcome 24 s) (outcome 31 s))
+-- return result, s the service whose pending request has its identifier: 30 if none has; 24 if it fits; else 31
+abbrev pub judgeResult : ℕ → Charge → Outcome
+judgeResult s c = cond (eqb s 0) (noService 30) (cond (fits s c) (outcome 24 s) (outcome 31 s))
 
--- return error or reject: 25 on a pending request's identifier, else (NULL too) 30
+-- return error or reject: 25 on a pending request's identifier, else 30
 abbrev pub judgeFailure : ℕ → Outcome
-judgeFailure s = cond (eqb s 0) (bare 30) (outcome 25 s)
+judgeFailure s = cond (eqb s 0) (noService 30) (outcome 25 s)
 
--- frames: 1 invoke, 2 return result, 3 return error, 4 reject
-unfoldable pub judgeFrame : ℕ → Requests → (ℕ → Outcome) → ℕ → ℕ → ℕ → ℕ → ℕ → ℕ → Outcome
-judgeFrame phase q final frame operation unnamed id kind total =
-    cond (eqb frame 1) (judgeInvoke phase q final operation kind total)
-    (cond (eqb frame 2) (judgeResult (holderOf q id) kind)
-    (cond (eqb unnamed 1) (bare 30) (judgeFailure (holderOf q id))))
-
-abbrev pub judgeRecord : ℕ → Requests → (ℕ → Outcome) → Record → Outcome
-judgeRecord phase q final c =
-    judgeFrame phase q final (c .frame) (c .operation) (c .unnamed) (c .id) (c .charge .figure .kind) (c .charge .figure .total)
+-- frames: 1 invoke, 2 return result, 3 return error, 4 reject; a reject with NULL in place of an identifier is 30 too
+unfoldable pub judgeRecord : Known → Record → Outcome
+judgeRecord k c =
+    cond (eqb (c .frame) 1) (judgeInvoke k c)
+    (cond (eqb (c .frame) 2) (judgeResult (holderOf (k .pending) (c .id)) (c .charge))
+    (cond (eqb (c .unnamed) 1) (noService 30) (judgeFailure (holderOf (k .pending) (c .id)))))
 
 -- a decoding refusal is the event's
 abbrev pub judgeAnswer : Known → Answer → Outcome
-judgeAnswer k r =
-    cond (eqb (r .number) 0)
-    (judgeRecord (k .phase) (k .pending) (λ s. finalOf (firstOf k s) (r .value .charge) s) (r .value))
-    (bare (r .number))
+judgeAnswer k r = cond (eqb (r .number) 0) (judgeRecord k (r .value)) (noService (r .number))
 
 -- ---- the outcome of any event: 14 before 13 and before decoding; a phase event that is not refused has 0
 
 unfoldable pub judge : Known → Event → List ℕ → Outcome
 judge k e o =
     cond (allowed (e .kind) (k .phase))
-    (cond (eqb (e .kind) component) (judgeAnswer k (readOf o))
-    (cond (eqb (e .kind) setup && clashes e) (bare 13) (bare 0)))
-    (bare 14)
+    (cond (eqb (e .kind) Component) (judgeAnswer k (readOf o))
+    (cond (eqb (e .kind) Setup && clashes e) (noService 13) (noService 0)))
+    (noService 14)

@@ -11,9 +11,10 @@ ghost use lib.Dec.{eqb};
 ghost use Prim.Native.Nat.{ℕ};
 ghost use Rattle.types.specs.Arguments.{noCharge};
 ghost use Rattle.types.specs.Frames.{readOf};
-ghost use Rattle.account.specs.Outcome.{allowed, serviceOf, clash, asking, clashes, holderOf, finalOf, runs, closes, judgeFigure, judgeInvoke, judgeResult, judgeFailure, judgeFrame, fits, outcome, bare};
-ghost use Rattle.account.specs.History.{Given, event, leadsTo, judged, accountBy, rate, running, closing, marks, phase, requests};
-ghost use Rattle.account.specs.Step.{requestsOf, firstFigure, moved, noted, stepped, stepOf, steppedBy, resolved, placeOf, taken, changed, fresh, closingOf, marksOf, pendingOf};
+ghost use Rattle.account.specs.Outcome.{serviceOf, clash, asking, clashes, holderOf, judgeFinal, judgeFailure, outcome, noService};
+ghost use Rattle.account.specs.History.{Given, event, judged, accountBy, currentRate, running, closing, marks, phase, requests, fresh, stepped, steppedBy, pendingOf};
+ghost use Rattle.account.specs.Step.{requestsOf, firstFigure, moved, noted, placeOf, changeOf, changed, steppedOf, closingOf, marksOf};
+ghost use Rattle.account.specs.Parts.{nextPhase, runsBy, closesBy, claimFigure, claimInvoke, fitsBy, claimResult, claimFrame, resolved, taken};
 
 // number: 20 to 32, a refusal, or 0 for a phase event that is not refused. service: 0 for none.
 #[repr(C)]
@@ -61,9 +62,9 @@ pub struct Stepped {
     pub account: Account,
 }
 
-// What an event changes. place: where the charge is kept, 1 the rate, 2 the running figure, 3 the final of D, 4 the final of E; 0 nowhere.
+// What an event changes. place: where the charge is kept, 1 the rate, 2 the running figure, 3 the final of D, 4 the final of E; 0 nowhere, and the charge is none.
 #[repr(C)]
-struct Change {
+pub struct Change {
     pub outcome: Outcome,
     pub place: u16,
     pub status: Status,
@@ -155,34 +156,21 @@ pub fn fresh() -> Account
 
 // ---- phase events
 
-fn allowed(kind: u8, phase: u8) -> bool
-    ensures { λ r. ⌜ r ≡ allowed kind phase ⌝ }
+// Where each kind of event leads, in hexadecimal: the digit at a phase, counted from the right, is the phase that it leads to from there.
+// 0 stands where it is not allowed, since nothing leads to Idle.
+const NEXT: [u32; 8] = [0, 0x1, 0x20, 0x330, 0x4000, 0x3210, 0, 0];
+
+fn next_phase(kind: u8, phase: u8) -> u8
+    ensures { λ r. ⌜ r ≡ nextPhase kind phase ⌝ }
 {
-    if kind == 1 {
-        return phase == 0;
+    if kind > 7 {
+        return 0;
     }
-    if kind == 2 {
-        return phase == 1;
+    if phase > 7 {
+        return 0;
     }
-    if kind == 3 {
-        if phase == 1 {
-            return true;
-        }
-        return phase == 2;
-    }
-    if kind == 4 {
-        return phase == 3;
-    }
-    if kind != 5 {
-        return false;
-    }
-    if phase == 1 {
-        return true;
-    }
-    if phase == 2 {
-        return true;
-    }
-    phase == 3
+    let row = NEXT[kind as usize];
+    ((row >> ((phase as u32) * 4)) % 16) as u8
 }
 
 // Whether two requests have one identifier.
@@ -211,24 +199,6 @@ fn clashes(e: Event) -> bool
     clash(asked.d, e.d, asked.e, e.e)
 }
 
-fn leads_to(kind: u8, phase: u8) -> u8
-    ensures { λ r. ⌜ r ≡ leadsTo kind phase ⌝ }
-{
-    if kind == 1 {
-        return 1;
-    }
-    if kind == 2 {
-        return 2;
-    }
-    if kind == 3 {
-        return 3;
-    }
-    if kind == 4 {
-        return 4;
-    }
-    phase
-}
-
 // A mark as it is kept: 1 where something is asked for.
 fn mark_of(mark: u8) -> u8
     ensures { λ r. ⌜ ((id : ℕ) → r ≡ asking mark id .mark) ⌝ }
@@ -242,11 +212,10 @@ fn id_of(mark: u8, id: u16) -> u16
     if mark == 0 { 0 } else { id }
 }
 
-// The status after a phase event that is not refused.
-fn moved(mut t: Status, e: Event) -> Status
-    ensures { λ r. ⌜ r ≡ moved t e ⌝ }
+// The status after a phase event that is not refused, by the phase that it leads to.
+fn moved(mut t: Status, e: Event, phase: u8) -> Status
+    ensures { λ r. ⌜ r ≡ moved t e phase ⌝ }
 {
-    let phase = leads_to(e.kind, t.phase);
     t.phase = phase;
     if e.kind != 1 {
         return t;
@@ -281,7 +250,7 @@ fn service_of(operation: u8) -> u8
 }
 
 fn runs(phase: u8, service: u8, kind: u8, total: u8) -> bool
-    ensures { λ r. ⌜ r ≡ runs phase service kind total ⌝ }
+    ensures { λ r. ⌜ r ≡ runsBy phase service kind total ⌝ }
 {
     if service != 2 {
         return false;
@@ -299,7 +268,7 @@ fn runs(phase: u8, service: u8, kind: u8, total: u8) -> bool
 }
 
 fn closes(phase: u8, service: u8, kind: u8, total: u8) -> bool
-    ensures { λ r. ⌜ r ≡ closes phase service kind total ⌝ }
+    ensures { λ r. ⌜ r ≡ closesBy phase service kind total ⌝ }
 {
     if phase != 3 {
         return false;
@@ -315,7 +284,7 @@ fn closes(phase: u8, service: u8, kind: u8, total: u8) -> bool
 
 // A figure of a service that has no request pending.
 fn figure_outcome(phase: u8, service: u8, kind: u8, total: u8) -> Outcome
-    ensures { λ r. ⌜ r ≡ judgeFigure phase (outcome 22) service kind total ⌝ }
+    ensures { λ r. ⌜ r ≡ claimFigure phase service kind total ⌝ }
 {
     if service == 1 {
         return Outcome {
@@ -342,7 +311,7 @@ fn figure_outcome(phase: u8, service: u8, kind: u8, total: u8) -> Outcome
 }
 
 fn invoke_outcome(t: Status, operation: u8, kind: u8, total: u8) -> Outcome
-    ensures { λ r. ⌜ r ≡ judgeInvoke (t .phase) (requestsOf t) (outcome 22) operation kind total ⌝ }
+    ensures { λ r. ⌜ r ≡ claimInvoke (t .phase) (requestsOf t) operation kind total ⌝ }
 {
     if operation == 30 {
         return Outcome {
@@ -394,7 +363,7 @@ fn holder(t: Status, id: u16) -> u8
 }
 
 fn fits(service: u8, kind: u8) -> bool
-    ensures { λ r. ⌜ r ≡ fits service kind ⌝ }
+    ensures { λ r. ⌜ r ≡ fitsBy service kind ⌝ }
 {
     if service != 1 {
         return kind == 0;
@@ -406,7 +375,7 @@ fn fits(service: u8, kind: u8) -> bool
 }
 
 fn result_outcome(service: u8, kind: u8) -> Outcome
-    ensures { λ r. ⌜ r ≡ judgeResult service kind ⌝ }
+    ensures { λ r. ⌜ r ≡ claimResult service kind ⌝ }
 {
     if service == 0 {
         return Outcome {
@@ -450,7 +419,7 @@ fn claimed(
     kind: u8,
     total: u8,
 ) -> Outcome
-    ensures { λ r. ⌜ r ≡ judgeFrame (t .phase) (requestsOf t) (outcome 22) frame operation unnamed id kind total ⌝ }
+    ensures { λ r. ⌜ r ≡ claimFrame (t .phase) (requestsOf t) frame operation unnamed id kind total ⌝ }
 {
     if frame == 1 {
         return invoke_outcome(t, operation, kind, total);
@@ -472,7 +441,7 @@ fn claimed(
 
 // A final, beside the first one of its service.
 fn final_outcome(first: Charge, c: Charge, service: u8) -> Outcome
-    ensures { λ r. ⌜ r ≡ finalOf (firstFigure first) c service ⌝ }
+    ensures { λ r. ⌜ r ≡ judgeFinal (firstFigure first) service c ⌝ }
 {
     if first.figure.kind == 0 {
         return Outcome {
@@ -582,12 +551,11 @@ fn place_of(o: Outcome) -> u16
 
 // ---- the step
 
-// An event that has no figure.
-fn plain(number: u8, status: Status) -> Change
-    ensures { λ r. ⌜ (r .outcome ≡ bare number) × (r .place ≡ 0) × (r .status ≡ status) ⌝ }
+// A change that keeps no figure.
+fn still(outcome: Outcome, status: Status) -> Change
+    ensures { λ r. ⌜ r ≡ record { outcome = outcome; place = 0; status = status; charge = noCharge } ⌝ }
 {
     let charge = no_charge();
-    let outcome = Outcome { number, service: 0 };
     Change {
         outcome,
         place: 0,
@@ -596,8 +564,15 @@ fn plain(number: u8, status: Status) -> Change
     }
 }
 
+fn plain(number: u8, status: Status) -> Change
+    ensures { λ r. ⌜ r ≡ record { outcome = noService number; place = 0; status = status; charge = noCharge } ⌝ }
+{
+    let outcome = Outcome { number, service: 0 };
+    still(outcome, status)
+}
+
 fn taken(a: Account, octets: &[u8]) -> Change
-    ensures { λ r. ⌜ changed a r ≡ taken a (readOf (now (octets .entry))) ⌝ }
+    ensures { λ r. ⌜ r ≡ taken a (readOf (now (octets .entry))) ⌝ }
 {
     let mut numbers: [u32; 32] = [0; 32];
     let mut rows: [u8; 192] = [0; 192];
@@ -626,6 +601,9 @@ fn taken(a: Account, octets: &[u8]) -> Change
     let outcome = resolved(a, claim, charge);
     let status = noted(t, outcome);
     let place = place_of(outcome);
+    if place == 0 {
+        return still(outcome, status);
+    }
     Change {
         outcome,
         place,
@@ -634,12 +612,14 @@ fn taken(a: Account, octets: &[u8]) -> Change
     }
 }
 
-// What an event changes.
-fn changes(a: Account, e: Event, octets: &[u8]) -> Change
-    ensures { λ r. ⌜ changed a r ≡ stepOf a e (now (octets .entry)) ⌝ }
+// The step by value: what an event changes.
+pub fn step(a: Account, e: Event, octets: &[u8]) -> Change
+    ensures one { λ r. ⌜ r ≡ changeOf a e (now (octets .entry)) ⌝ }
+    ensures rules { λ r. ⌜ ((h : List Given) → a ≡ accountBy (judged h) → changed a r ≡ steppedBy (event e (now (octets .entry))) h) ⌝ }
 {
     let t = a.status;
-    if !allowed(e.kind, t.phase) {
+    let phase = next_phase(e.kind, t.phase);
+    if phase == 0 {
         return plain(14, t);
     }
     if e.kind == 5 {
@@ -649,18 +629,19 @@ fn changes(a: Account, e: Event, octets: &[u8]) -> Change
         if clashes(e) {
             return plain(13, t);
         }
-        let up = moved(t, e);
+        let up = moved(t, e, phase);
         return plain(0, up);
     }
-    let next = moved(t, e);
+    let next = moved(t, e, phase);
     plain(0, next)
 }
 
-pub fn step(mut a: Account, e: Event, octets: &[u8]) -> Stepped
-    ensures one { λ r. ⌜ r ≡ stepOf a e (now (octets .entry)) ⌝ }
+// The same of a whole account.
+pub fn step_whole(mut a: Account, e: Event, octets: &[u8]) -> Stepped
+    ensures one { λ r. ⌜ r ≡ steppedOf a e (now (octets .entry)) ⌝ }
     ensures rules { λ r. ⌜ ((h : List Given) → a ≡ accountBy (judged h) → r ≡ steppedBy (event e (now (octets .entry))) h) ⌝ }
 {
-    let w = changes(a, e, octets);
+    let w = step(a, e, octets);
     let outcome = w.outcome;
     let status = w.status;
     let charge = w.charge;
@@ -702,9 +683,9 @@ pub fn step(mut a: Account, e: Event, octets: &[u8]) -> Stepped
 
 // The host lends the account, and the step updates it there.
 pub fn step_in(a: &mut Account, e: Event, octets: &[u8]) -> Outcome
-    ensures { λ r. ⌜ (stepped r (now (a .exit)) ≡ stepOf (now (a .entry)) e (now (octets .entry))) × ((h : List Given) → now (a .entry) ≡ accountBy (judged h) → stepped r (now (a .exit)) ≡ steppedBy (event e (now (octets .entry))) h) ⌝ }
+    ensures { λ r. ⌜ (stepped r (now (a .exit)) ≡ steppedOf (now (a .entry)) e (now (octets .entry))) × ((h : List Given) → now (a .entry) ≡ accountBy (judged h) → stepped r (now (a .exit)) ≡ steppedBy (event e (now (octets .entry))) h) ⌝ }
 {
-    let w = changes(*a, e, octets);
+    let w = step(*a, e, octets);
     a.status = w.status;
     if w.place == 1 {
         a.rate = w.charge;
@@ -729,7 +710,7 @@ pub fn step_in(a: &mut Account, e: Event, octets: &[u8]) -> Outcome
 
 pub fn rate_of(a: Account) -> Charge
     ensures one { λ r. ⌜ r ≡ a .rate ⌝ }
-    ensures rules { λ r. ⌜ ((h : List Given) → a ≡ accountBy (judged h) → r ≡ rate (judged h)) ⌝ }
+    ensures rules { λ r. ⌜ ((h : List Given) → a ≡ accountBy (judged h) → r ≡ currentRate (judged h)) ⌝ }
 {
     a.rate
 }

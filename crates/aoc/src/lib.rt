@@ -18,8 +18,8 @@ ghost use Rattle.facility.specs.Element.{elementOf};
 ghost use Rattle.values.specs.Amounts.{powers};
 ghost use Rattle.values.specs.Identifiers.{nextOf, oneUp};
 ghost use Rattle.values.specs.Sets.{emptySet, isService, has, with};
-ghost use Rattle.account.specs.History.{Given, event, judged, accountBy, rate, running, closing, marks, phase, requests};
-ghost use Rattle.account.specs.Step.{requestsOf, stepped, stepOf, steppedBy, fresh, closingOf, marksOf, pendingOf};
+ghost use Rattle.account.specs.History.{Given, event, judged, accountBy, currentRate, running, closing, marks, phase, requests, stepped, steppedBy, fresh, pendingOf};
+ghost use Rattle.account.specs.Step.{requestsOf, steppedOf, closingOf, marksOf};
 
 // ---- components
 
@@ -135,7 +135,7 @@ pub extern "C" fn aoc_step(
     e: account::Event,
     octets: &[u8],
 ) -> account::Outcome
-    ensures { λ r. ⌜ (stepped r (now (a .exit)) ≡ stepOf (now (a .entry)) e (now (octets .entry))) × ((h : List Given) → now (a .entry) ≡ accountBy (judged h) → stepped r (now (a .exit)) ≡ steppedBy (event e (now (octets .entry))) h) ⌝ }
+    ensures { λ r. ⌜ (stepped r (now (a .exit)) ≡ steppedOf (now (a .entry)) e (now (octets .entry))) × ((h : List Given) → now (a .entry) ≡ accountBy (judged h) → stepped r (now (a .exit)) ≡ steppedBy (event e (now (octets .entry))) h) ⌝ }
 {
     account::step_in(a, e, octets)
 }
@@ -143,7 +143,7 @@ pub extern "C" fn aoc_step(
 #[no_mangle]
 pub extern "C" fn aoc_rate_of(a: account::Account) -> types::Charge
     ensures one { λ r. ⌜ r ≡ a .rate ⌝ }
-    ensures rules { λ r. ⌜ ((h : List Given) → a ≡ accountBy (judged h) → r ≡ rate (judged h)) ⌝ }
+    ensures rules { λ r. ⌜ ((h : List Given) → a ≡ accountBy (judged h) → r ≡ currentRate (judged h)) ⌝ }
 {
     account::rate_of(a)
 }

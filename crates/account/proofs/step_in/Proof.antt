@@ -1,5 +1,5 @@
--- `account::step_in` meets its contract: a walk of its MIR, by hand. The borrow is opened, the whole struct is copied out and passed to `changes`, the status and at most one figure of what
--- `changes` returns are stored behind the reference, and the borrow is closed. All that the proof knows of `changes` is that it meets its contract. The walk itself is `Lent`'s.
+-- `account::step_in` meets its contract: a walk of its MIR, by hand. The borrow is opened, the whole struct is copied out and passed to `step`, the status and at most one figure of what
+-- `step` returns are stored behind the reference, and the borrow is closed. All that the proof knows of `step` is that it meets its contract. The walk itself is `Lent`'s.
 -- Assumes nothing.
 use mathlib.Core.Path.{_≡_, refl, ap, _∙_}
 use Prim.Native.Nat.{ℕ}
@@ -42,7 +42,8 @@ use denote.Triple.Clauses.{ensured, lasts}
 use Rattle.types.specs.declared.Charge.{Charge}
 use Rattle.types.proofs.Charge as F
 use Rattle.types.proofs.Charge.Laws as F′
-use Rattle.account.specs.Step.{stepOf, put, changed}
+use Rattle.account.specs.History.{Given as Gave, event, judged, accountBy, steppedBy}
+use Rattle.account.specs.Step.{changeOf, put, changed, steppedOf}
 use Rattle.account.specs.declared.Account.{Account}
 use Rattle.account.specs.declared.Change.{Change}
 use Rattle.account.specs.declared.Event.{Event}
@@ -59,12 +60,12 @@ use Rattle.account.proofs.Status as S
 use Rattle.account.proofs.Status.Laws as S′
 use Rattle.account.proofs.Change as N
 use Rattle.account.proofs.Change.Laws as N′
-use Rattle.account.proofs.Steps.{promised, atPlace, kept-at, kept-nowhere}
+use Rattle.account.proofs.Steps.{promised, atPlace, stored-T, stored-none-T}
 use Rattle.account.proofs.Lent.{accountTy, changeTy, accountVal, changeVal, lent}
-use Rattle.account.proofs.changes as changes
-use Rattle.account.proofs.changes.Symbol as changes-def
-use Rattle.account.proofs.changes.Symbol.{name as #account·changes}
-use Rattle.account.proofs.changes.Met as changes-thm
+use Rattle.account.proofs.step as step
+use Rattle.account.proofs.step.Symbol as step-def
+use Rattle.account.proofs.step.Symbol.{name as #account·step}
+use Rattle.account.proofs.step.Met as step-thm
 use Rattle.account.proofs.step_in.Key.{name as #account·step-in}
 use Rattle.account.proofs.step_in as step-in
 use Rattle.account.proofs.step_in.Statement as stated
@@ -146,8 +147,8 @@ module _ {M : Type 1} (𝓤 : URA M) (H : Heap 𝓤) (A : Atoms 𝓤) (W : Given
       ) $ done !)))))
 
 -- the contract that the proof cites
-abbrev Changes : {M : Type 1} (𝓤 : URA M) (H : Heap 𝓤) (A : Atoms 𝓤) (at-mem : Memory → SProp 𝓤) (run : Routine → Fun 𝓤) → Contract 𝓤
-Changes 𝓤 H A at-mem run = tripleOf 𝓤 H A changes.signature (changes.spec 𝓤 H A at-mem run)
+abbrev ByValue : {M : Type 1} (𝓤 : URA M) (H : Heap 𝓤) (A : Atoms 𝓤) (at-mem : Memory → SProp 𝓤) (run : Routine → Fun 𝓤) → Contract 𝓤
+ByValue 𝓤 H A at-mem run = tripleOf 𝓤 H A step.signature (step.spec 𝓤 H A at-mem run)
 
 module _ {M : Type 1} (𝓤 : URA M) (H : Heap 𝓤) (A : Atoms 𝓤) (W : Given 𝓤 H A) (at-mem : Memory → SProp 𝓤) (run : Routine → Fun 𝓤) (κ κ′ : Lft) (q q′ : Share) (b o : ℕ) (γ : GName) (h : Account) (ev : Event) (s : RefT (List ℕ)) where
   abbrev vS : Val
@@ -171,40 +172,43 @@ module _ {M : Type 1} (𝓤 : URA M) (H : Heap 𝓤) (A : Atoms 𝓤) (W : Given
   abbrev Post : Val → SProp 𝓤
   Post = walkOf 𝓤 H A step-in.ended stayed (step-in.clauses 𝓤 H A at-mem run) .post (((κ, (κ′, tt)), (q, (q′, tt)), tt, x, at), tt)
 
-  -- the call of `changes`: what it is passed, what it asks, and what is known of its result
-  abbrev to-changes : Changes 𝓤 H A at-mem run .Ghost
-  to-changes = (((κ′, tt), (q′, tt), tt, (h, (ev, (s, tt))), (old ∷ [], (vE ev ∷ [], (vS ∷ [], tt)))), tt)
+  -- the call of `step`: what it is passed, what it asks, and what is known of its result
+  abbrev to-step : ByValue 𝓤 H A at-mem run .Ghost
+  to-step = (((κ′, tt), (q′, tt), tt, (h, (ev, (s, tt))), (old ∷ [], (vE ev ∷ [], (vS ∷ [], tt)))), tt)
 
   is-old : Is T.the-row h (vA h ∷ []) → Is T.the-row h (old ∷ [])
   is-old g = rw (parts h) at g
 
-  goes-changes : Is T.the-row h (vA h ∷ []) → ent 𝓤 (⋆ 𝓤 H A ((‵ (flft κ′ q′) ⊛ ‵ ftrue) ∷ ‵ (owns (E.the-row ∷ ShrSlice (named 1) κ′ u8 ∷ []) (ev, (s, tt)) (vE ev ∷ [], (vS ∷ [], tt))) ∷ [])) (sep 𝓤 (Changes 𝓤 H A at-mem run .pre to-changes) (sem 𝓤 H A Sl))
-  goes-changes g =
+  goes-step : Is T.the-row h (vA h ∷ []) → ent 𝓤 (⋆ 𝓤 H A ((‵ (flft κ′ q′) ⊛ ‵ ftrue) ∷ ‵ (owns (E.the-row ∷ ShrSlice (named 1) κ′ u8 ∷ []) (ev, (s, tt)) (vE ev ∷ [], (vS ∷ [], tt))) ∷ [])) (sep 𝓤 (ByValue 𝓤 H A at-mem run .pre to-step) (sem 𝓤 H A Sl))
+  goes-step g =
       qed W ((‵ (flft κ′ q′) ⊛ ‵ ftrue) ∷ ‵ (owns (E.the-row ∷ ShrSlice (named 1) κ′ u8 ∷ []) (ev, (s, tt)) (vE ev ∷ [], (vS ∷ [], tt))) ∷ []) ∵
       move ! (1 ∷ []) $ fsplit ! $ move ! (1 ∷ []) $ fsplit ! $ use1 W (‵ Sl ⊛ ‵ Sl) (shr-slice-copy 𝓤 H A W (named 1) κ′ u8 .twice s (vS ∷ [])) $ split ! $
       -- [the slice; the slice; true; the event; the tokens]
       move ! (0 ∷ 2 ∷ []) $ fjoin ! $ move ! (2 ∷ 0 ∷ []) $ fjoin ! $ owned ! T.the-row (Is T.the-row) (LL.makes T.the-type T′.the-plain 𝓤 H A) h _ (is-old g) $ fjoin ! $ move ! (2 ∷ 0 ∷ []) $
-      use2 W (raw (Changes 𝓤 H A at-mem run .pre to-changes)) (qed W ((‵ (flft κ′ q′) ⊛ ‵ ftrue) ∷ ‵ (owns (T.the-row ∷ E.the-row ∷ ShrSlice (named 0) κ′ u8 ∷ []) (h, (ev, (s, tt))) (old ∷ [], (vE ev ∷ [], (vS ∷ [], tt)))) ∷ []) ∵ join ! $ frame ! $ done !) $ frame ! $ done !
+      use2 W (raw (ByValue 𝓤 H A at-mem run .pre to-step)) (qed W ((‵ (flft κ′ q′) ⊛ ‵ ftrue) ∷ ‵ (owns (T.the-row ∷ E.the-row ∷ ShrSlice (named 0) κ′ u8 ∷ []) (h, (ev, (s, tt))) (old ∷ [], (vE ev ∷ [], (vS ∷ [], tt)))) ∷ []) ∵ join ! $ frame ! $ done !) $ frame ! $ done !
 
   abbrev Said : Change → Type 0
-  Said r = changed h r ≡ stepOf h ev (now s)
+  Said r = r ≡ changeOf h ev (now s)
 
-  -- the callee's `ensured`: it has no `&mut`, so what is said of last values is dropped
-  said : (r : Change) → ent 𝓤 (ensured 𝓤 H A changes.ended (changes.clauses 𝓤 H A at-mem run) (κ′, tt) (h, (ev, (s, tt))) tt r) (fact 𝓤 (Said r))
-  said r = exE 𝓤 _ (λ ws. snd∗ 𝓤 (sem 𝓤 H A (lasts changes.ended (κ′, tt) (h, (ev, (s, tt))) ws)) (fact 𝓤 (Said r)))
+  abbrev Rules : Change → Type 0
+  Rules r = (l : List Gave) → h ≡ accountBy (judged l) → changed h r ≡ steppedBy (event ev (now s)) l
+
+  -- the callee's `ensured`: it has no `&mut`, so what is said of last values is dropped, and its clause `rules` is not used
+  said : (r : Change) → ent 𝓤 (ensured 𝓤 H A step.ended (step.clauses 𝓤 H A at-mem run) (κ′, tt) (h, (ev, (s, tt))) tt r) (fact 𝓤 (Said r))
+  said r = exE 𝓤 _ (λ ws. via 𝓤 _ (snd∗ 𝓤 (sem 𝓤 H A (lasts step.ended (κ′, tt) (h, (ev, (s, tt))) ws)) (sep 𝓤 (fact 𝓤 (Said r)) (fact 𝓤 (Rules r)))) (fst∗ 𝓤 (fact 𝓤 (Said r)) (fact 𝓤 (Rules r))))
 
   -- the account after a change that is kept at a place
   abbrev last : Change → ℕ → Account
   last r k = put h (atPlace r k)
 
   abbrev Result : Change → ℕ → Type 0
-  Result r k = _≡_ {A = Stepped} (record { outcome = r .outcome; account = last r k }) (stepOf h ev (now s))
+  Result r k = _≡_ {A = Stepped} (record { outcome = r .outcome; account = last r k }) (steppedOf h ev (now s))
 
   result : (r : Change) (k : ℕ) → Said r → Holds (eqb (r .place) k) → Result r k
-  result r k e t = kept-at h r k t ∙ e
+  result r k e t = stored-T h ev (now s) r e k t
 
   result-none : (r : Change) → Said r → Holds (not (eqb (r .place) 1)) → Holds (not (eqb (r .place) 2)) → Holds (not (eqb (r .place) 3)) → Holds (not (eqb (r .place) 4)) → Result r 0
-  result-none r e n₁ n₂ n₃ n₄ = kept-nowhere h r n₁ n₂ n₃ n₄ ∙ e
+  result-none r e n₁ n₂ n₃ n₄ = stored-none-T h ev (now s) r e n₁ n₂ n₃ n₄
 
   exits : (r : Change) (k : ℕ) → Result r k → Is E.the-row ev (vE ev ∷ [])
       → ent 𝓤 (⋆ 𝓤 H A (‵ (fobs γ (T.the-row .coded .code (last r k))) ∷ ‵ (fbor κ (Body (mem T.the-row) b o γ)) ∷ ‵ (flft κ q) ∷ ‵ (flft κ′ q′) ∷ ‵ Sl ∷ ‵ (O.the-row .own (r .outcome) (vO (r .outcome) ∷ [])) ∷ [])) (Post (vO (r .outcome)))
@@ -238,21 +242,21 @@ module _ {M : Type 1} (𝓤 : URA M) (H : Heap 𝓤) (A : Atoms 𝓤) (W : Given
   unfolding vA vT vF
   last-0 r g f = LL.owes T.the-type T′.the-laws (last r 0) (f .0, LL.owed T.the-type T′.the-laws h _ g .1)
 
-  module _ (C : Calls 𝓤 H) (Λ : Loops 𝓤 H) (fm : FmC 𝓤 H (W .laws) C) (known : Triple 𝓤 (C #account·changes) (Changes 𝓤 H A at-mem run)) where
+  module _ (C : Calls 𝓤 H) (Λ : Loops 𝓤 H) (fm : FmC 𝓤 H (W .laws) C) (known : Triple 𝓤 (C #account·step) (ByValue 𝓤 H A at-mem run)) where
     walk : Is E.the-row ev (vE ev ∷ []) → Is (ShrSlice (named 1) κ′ u8) s (vS ∷ [])
         → ent 𝓤 (onEntry 𝓤 H A step-in.signature (κ, (κ′, tt)) (q, (q′, tt)) x at) (WpFn 𝓤 H C Λ code.function (vptr b o ∷ vE ev ∷ vS ∷ []) Post)
     walk is-event is-slice =
-        lent 𝓤 H A W C Λ fm S′.mir F′.mir E′.mir O′.mir (pointee (T.the-row .written)) account-name change-name #account·changes T.the-row vA tellsA (LL.makes T.the-type T′.the-plain 𝓤 H A)
+        lent 𝓤 H A W C Λ fm S′.mir F′.mir E′.mir O′.mir (pointee (T.the-row .written)) account-name change-name #account·step T.the-row vA tellsA (LL.makes T.the-type T′.the-plain 𝓤 H A)
         b o (W .laws .raw-at fullShare (accountTy S′.mir F′.mir account-name) b o) (W .laws .at-raw fullShare (accountTy S′.mir F′.mir account-name) b o) κ κ′ q q′ γ h (vT (h .status)) (vF (h .rate)) (vF (h .running)) (vF (h .dfinal)) (vF (h .efinal)) (parts h) (typed-account 𝓤 H A W h)
         (vE ev) vS (LL.lawful E.the-type E′.the-laws 𝓤 H A W .typed ev _ is-event .0) (shr-slice-lawful 𝓤 H A W (named 1) κ′ u8 .typed s (vS ∷ []) is-slice .0)
         (feq (List Val) (vptr b o ∷ []) (vptr b o ∷ [])) (owns (E.the-row ∷ ShrSlice (named 1) κ′ u8 ∷ []) (ev, (s, tt)) (vE ev ∷ [], (vS ∷ [], tt))) Sl
         Change (λ r. vO (r .outcome)) (λ r. vT (r .status)) (λ r. vF (r .charge)) (λ r. r .place) (λ r v. N.the-row .own r (v ∷ [])) (λ r. O.the-row .own (r .outcome) (vO (r .outcome) ∷ []))
-        Said (Fine 𝓤 H A W) (λ r. ensured 𝓤 H A changes.ended (changes.clauses 𝓤 H A at-mem run) (κ′, tt) (h, (ev, (s, tt))) tt r)
-        (Changes 𝓤 H A at-mem run .pre to-changes) (Changes 𝓤 H A at-mem run .post to-changes) (known to-changes) goes-changes (λ v. id⊢ 𝓤 _) said (taken-apart 𝓤 H A W)
+        Said (Fine 𝓤 H A W) (λ r. ensured 𝓤 H A step.ended (step.clauses 𝓤 H A at-mem run) (κ′, tt) (h, (ev, (s, tt))) tt r)
+        (ByValue 𝓤 H A at-mem run .pre to-step) (ByValue 𝓤 H A at-mem run .post to-step) (known to-step) goes-step (λ v. id⊢ 𝓤 _) said (taken-apart 𝓤 H A W)
         last last-1 last-2 last-3 last-4 last-0 Post Result result result-none (λ r k e. exits r k e is-event)
 
 module _ {M : Type 1} (𝓤 : URA M) (H : Heap 𝓤) (A : Atoms 𝓤) (W : Given 𝓤 H A) (at-mem : Memory → SProp 𝓤) (run : Routine → Fun 𝓤) where
-  step-in-walks : (C : Calls 𝓤 H) (Λ : Loops 𝓤 H) → FmC 𝓤 H (W .laws) C → Triple 𝓤 (C #account·changes) (Changes 𝓤 H A at-mem run)
+  step-in-walks : (C : Calls 𝓤 H) (Λ : Loops 𝓤 H) → FmC 𝓤 H (W .laws) C → Triple 𝓤 (C #account·step) (ByValue 𝓤 H A at-mem run)
       → Walks 𝓤 H A step-in.ended stayed (WpFn 𝓤 H C Λ code.function) (step-in.clauses 𝓤 H A at-mem run)
   step-in-walks C Λ fm known = walked 𝓤 H A step-in.ended stayed (step-in.clauses 𝓤 H A at-mem run) (WpFn 𝓤 H C Λ code.function)
       (λ κs. (ptr-vals, ((λ (d : Event). vE d ∷ []), (slice-vals, tt)))) (λ κs. (mut-tells (named 0) (κs .0) T.the-row, (tellsE, (shr-slice-tells (named 1) (κs .1 .0) u8, tt))))
@@ -261,7 +265,7 @@ module _ {M : Type 1} (𝓤 : URA M) (H : Heap 𝓤) (A : Atoms 𝓤) (W : Given
   goes : AllGo 𝓤 H A W 2 (step-in.signature .params) (step-in.ended .kept) stayed
   goes = (goes-ref 𝓤 H A W 2 0 tt (plain (λ _. T.the-row)), (goes-none 𝓤 H A W 2 (λ _. E.the-row) yes (λ κs x f. refl), (goes-none-slice 𝓤 H A W 2 (1 ∷ []) tt (plain (λ _. u8)) yes, tt)))
 
-step-in-meets : {M : Type 1} (𝓤 : URA M) (H : Heap 𝓤) (A : Atoms 𝓤) → Given 𝓤 H A → (at-mem : Memory → SProp 𝓤) (run : Routine → Fun 𝓤) (𝓣 : Tables 𝓤 H) → Triple 𝓤 (𝓣 .C #account·changes) (Changes 𝓤 H A at-mem run)
+step-in-meets : {M : Type 1} (𝓤 : URA M) (H : Heap 𝓤) (A : Atoms 𝓤) → Given 𝓤 H A → (at-mem : Memory → SProp 𝓤) (run : Routine → Fun 𝓤) (𝓣 : Tables 𝓤 H) → Triple 𝓤 (𝓣 .C #account·step) (ByValue 𝓤 H A at-mem run)
     → Meets 𝓤 H A step-in.signature (WpFn 𝓤 H (𝓣 .C) (𝓣 .Λ) code.function) (step-in.spec 𝓤 H A at-mem run)
 step-in-meets 𝓤 H A W at-mem run 𝓣 known = walk-meets 𝓤 H A step-in.ended stayed W (goes 𝓤 H A W at-mem run) (step-in.clauses 𝓤 H A at-mem run) (WpFn 𝓤 H (𝓣 .C) (𝓣 .Λ) code.function) (WpFn-mono 𝓤 H (W .laws) 𝓣 code.function)
     (step-in-walks 𝓤 H A W at-mem run (𝓣 .C) (𝓣 .Λ) (fmOf 𝓤 H (W .laws) 𝓣) known)
@@ -272,4 +276,4 @@ step-in-spec 𝓤 H 𝓜 𝓖 𝓡 =
     entered 𝓤 H (tripleOf 𝓤 H (𝓖 .A) step-in.signature (step-in.spec 𝓤 H (𝓖 .A) (𝓜 .mem) (𝓡 .run)))
     (tables 𝓤 H 𝓜 𝓡 code.env .C) (tables 𝓤 H 𝓜 𝓡 code.env .Λ) #account·step-in code.function (code.unfolded 𝓤 H 𝓜 𝓡)
     (step-in-meets 𝓤 H (𝓖 .A) (givenOf 𝓤 H 𝓜 𝓖) (𝓜 .mem) (𝓡 .run) (tablesOf 𝓤 H 𝓜 (tables 𝓤 H 𝓜 𝓡 code.env))
-    (cited 𝓤 H (Changes 𝓤 H (𝓖 .A) (𝓜 .mem) (𝓡 .run)) 𝓜 𝓡 code.env #account·changes changes-def.routine code.calls-account·changes (changes-thm.met 𝓤 H 𝓜 𝓖 𝓡)))
+    (cited 𝓤 H (ByValue 𝓤 H (𝓖 .A) (𝓜 .mem) (𝓡 .run)) 𝓜 𝓡 code.env #account·step step-def.routine code.calls-account·step (step-thm.met 𝓤 H 𝓜 𝓖 𝓡)))

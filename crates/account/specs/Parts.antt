@@ -1,0 +1,61 @@
+-- What the inner functions of the step do, by the numbers that they are handed. Each is tied to the definition that it serves by a lemma of proofs/Steps.antt.
+use Prim.Native.Nat.{ℕ}
+use mathlib.Core.Bool.{Bool, _&&_, _||_, cond}
+use lib.Dec.{eqb}
+use Rattle.types.specs.declared.Charge.{Charge}
+use Rattle.types.specs.declared.Answer.{Answer}
+use Rattle.values.specs.Sets.{has}
+use Rattle.account.specs.declared.Outcome.{Outcome}
+use Rattle.account.specs.declared.Account.{Account}
+use Rattle.account.specs.declared.Change.{Change}
+use Rattle.account.specs.Outcome.{Idle, Establishment, Active, Clearing, allowed, leadsTo, S, D, E}
+use Rattle.account.specs.Outcome.{outcome, noService, serviceOf, Requests, holderOf, firstFinal, judgeFailure, judgeFinal, judgeAnswer}
+use Rattle.account.specs.History.{was}
+use Rattle.account.specs.Step.{knownOf, noted, changeBy}
+
+-- the phase that an event leads to, and Idle where it is not allowed: nothing leads to Idle
+abbrev pub nextPhase : ℕ → ℕ → ℕ
+nextPhase kind phase = cond (allowed kind phase) (leadsTo kind phase) Idle
+
+-- ---- the outcome of a component but for comparing finals: one that is claimed is 22
+
+abbrev pub runsBy : ℕ → ℕ → ℕ → ℕ → Bool
+runsBy phase s kind total =
+    eqb s D && cond (eqb kind 1) (eqb phase Establishment || eqb phase Active) (eqb total 0 && eqb phase Active)
+
+abbrev pub closesBy : ℕ → ℕ → ℕ → ℕ → Bool
+closesBy phase s kind total = eqb phase Clearing && (eqb s E || (eqb kind 1 || eqb total 1))
+
+abbrev pub claimFigure : ℕ → ℕ → ℕ → ℕ → Outcome
+claimFigure phase s kind total =
+    cond (eqb s S) (outcome 20 s)
+    (cond (runsBy phase s kind total) (outcome 21 s)
+    (cond (closesBy phase s kind total) (outcome 22 s) (outcome 27 s)))
+
+abbrev pub claimInvoke : ℕ → Requests → ℕ → ℕ → ℕ → Outcome
+claimInvoke phase q operation kind total =
+    cond (eqb operation 30) (noService 32)
+    (cond (has (q .asked) (serviceOf operation)) (outcome 26 (serviceOf operation))
+    (cond (eqb kind 0) (outcome 23 (serviceOf operation))
+    (claimFigure phase (serviceOf operation) kind total)))
+
+abbrev pub fitsBy : ℕ → ℕ → Bool
+fitsBy s kind = cond (eqb s S) (eqb kind 4 || eqb kind 5) (eqb kind 0)
+
+abbrev pub claimResult : ℕ → ℕ → Outcome
+claimResult s kind = cond (eqb s 0) (noService 30) (cond (fitsBy s kind) (outcome 24 s) (outcome 31 s))
+
+unfoldable pub claimFrame : ℕ → Requests → ℕ → ℕ → ℕ → ℕ → ℕ → ℕ → Outcome
+claimFrame phase q frame operation unnamed id kind total =
+    cond (eqb frame 1) (claimInvoke phase q operation kind total)
+    (cond (eqb frame 2) (claimResult (holderOf q id) kind)
+    (cond (eqb unnamed 1) (noService 30) (judgeFailure (holderOf q id))))
+
+-- a final that is claimed is compared with the first one
+abbrev pub resolved : Account → Outcome → Charge → Outcome
+resolved a r c = cond (was 22 r) (judgeFinal (firstFinal (knownOf a) (r .service)) (r .service) c) r
+
+-- ---- what a component changes
+
+abbrev pub taken : Account → Answer → Change
+taken a x = changeBy (judgeAnswer (knownOf a) x) (noted (a .status) (judgeAnswer (knownOf a) x)) (x .value .charge)
