@@ -837,6 +837,11 @@ ALLOWED = {
 AFTER = {SETUP: ESTABLISHMENT, CONNECT: ACTIVE, CLEAR: CLEARING, RELEASED: ENDED}
 
 
+def same_currency(a, b):
+    """Trailing spaces are ignored; every other octet within the count matters."""
+    return bytes(a.octets[:a.count]).rstrip(b"\x20") == bytes(b.octets[:b.count]).rstrip(b"\x20")
+
+
 def same_final(a, b):
     """Billing and association are not compared."""
     if a.figure.kind != b.figure.kind:
@@ -845,7 +850,7 @@ def same_final(a, b):
         return True
     if a.figure.kind == AMOUNT:
         m, n = a.figure.money, b.figure.money
-        return (m.currency.octets[:m.currency.count] == n.currency.octets[:n.currency.count]
+        return (same_currency(m.currency, n.currency)
                 and thousandths(m.number, m.multiplier) == thousandths(n.number, n.multiplier))
     count = a.figure.count
     return (count == b.figure.count

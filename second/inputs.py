@@ -216,10 +216,18 @@ def text(rng, most, alphabet):
 
 CURRENCY_OCTETS = bytes(range(128))
 DIGIT_OCTETS = b"0123456789 "
+# Equal but for trailing spaces, and near to that: other white octets, and spaces elsewhere.
+PADDED = (b"EUR", b"EUR ", b"EUR       ", b" EUR", b"E R", b"ER", b"EUR\0", b"EUR\0 ", b"EUR \0", b"EUR\t",
+          b" ", b"   ", b"          ", b"\0", b"\0 ")
 
 
 def currency_text(rng):
-    return list(b"EUR") if rng.random() < 0.4 else text(rng, 10, CURRENCY_OCTETS)
+    chance = rng.random()
+    if chance < 0.35:
+        return list(b"EUR")
+    if chance < 0.5:
+        return list(rng.choice(PADDED))
+    return text(rng, 10, CURRENCY_OCTETS)
 
 
 def make_record(rng, form=None, sizes=None):
@@ -864,6 +872,8 @@ NEAR = (
     lambda: units((12, 0), (12, 0)), lambda: units((12, 0), (None, 12)), lambda: units((12, 1), (13, 0)),
     no_charge, no_charge)
 
+PADDED_NEAR = tuple(lambda text=text: amount(text, 500, 0) for text in PADDED) + (lambda: amount(b"EUR ", 501, 0),)
+
 
 def charge_component(rng, service, near):
     """An invoke of D or E with one of the figures near at hand."""
@@ -927,7 +937,7 @@ NEXT = {aoc.IDLE: "S", aoc.ESTABLISHMENT: "C", aoc.ACTIVE: "X", aoc.CLEARING: "L
 
 def account_input(rng, length):
     """A list of events that mostly keeps to the phases, at its own pace."""
-    near = rng.sample(NEAR, rng.choice((1, 2, 3, 6)))
+    near = rng.sample(PADDED_NEAR if rng.random() < 0.15 else NEAR, rng.choice((1, 2, 3, 6)))
     haste = rng.choice((0.15, 0.3, 0.5))
     # Little happens in Establishment, and finals need time in Clearing.
     pace = {aoc.ESTABLISHMENT: 1.6, aoc.ACTIVE: 1.0, aoc.CLEARING: rng.choice((0.1, 0.4, 0.9))}

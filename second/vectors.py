@@ -243,6 +243,35 @@ def lists():
     check("Setup again, 14 before 13", made.setup(1, 1, None), 14)
 
 
+# Request 2: the first final, the second, and the second's outcome; an amount is currency, number, multiplier.
+PADDED = (
+    ("45 55 52", 50, 1, "45 55 52 20", 50, 1, 28),
+    ("45 55 52 20 20", 50, 1, "45 55 52", 50, 1, 28),
+    ("45 55 52 20", 50, 1, "45 55 52 20 20 20 20 20 20 20", 500, 0, 28),
+    ("20", 50, 1, "20 20 20", 50, 1, 28),
+    ("20 20 20 20 20 20 20 20 20 20", 0, 0, "20", 0, 6, 28),
+    ("45 55 52 00", 50, 1, "45 55 52 00 20", 50, 1, 28),
+    ("45 55 52", 50, 1, "45 55 52 20", 501, 0, 29),
+    ("45 55 52", 50, 1, "20 45 55 52", 50, 1, 29),
+    ("45 20 52", 50, 1, "45 52", 50, 1, 29),
+    ("45 55 52", 50, 1, "65 75 72", 50, 1, 29),
+    ("45 55 52", 50, 1, "45 55 52 00", 50, 1, 29),
+    ("45 55 52", 50, 1, "45 55 52 20 00", 50, 1, 29),
+    ("20", 50, 1, "00", 50, 1, 29),
+    ("45 55 52", 50, 1, "45 55 52 09", 50, 1, 29))
+
+
+def padded():
+    for text1, number1, multiplier1, text2, number2, multiplier2, outcome in PADDED:
+        first, second = (inputs.lay(inputs.tree(aoc.Record(frame=1, id=7, operation=35,
+                                                           charge=inputs.amount(octets(text), number, multiplier))))
+                         for text, number, multiplier in ((text1, number1, multiplier1), (text2, number2, multiplier2)))
+        made, outcomes = account(NO_REQUEST, CLEAR, first, second, RELEASED)
+        check(f"{text1} and {text2}", outcomes, [0, 22, outcome, 0])
+        check("closing as received", bytes(made.closing.figure.money.currency.octets[:len(octets(text1))]), octets(text1))
+        check("its count", made.closing.figure.money.currency.count, len(octets(text1)))
+
+
 def line_program():
     given = (C3_LOOSE.hex(" ").upper() + "\nA1 80 02 01 05 02 01 1E 0A 01 01 00 00\n"
              + C7.hex(" ").lower() + "\n")
@@ -289,6 +318,7 @@ def main():
     components()
     unnumbered()
     lists()
+    padded()
     line_program()
     generated(count)
     print(f"{passed} passed, {failed} failed")

@@ -17,6 +17,8 @@ static const char *const C8 = "A1 09 02 01 06 02 01 20 02 01 0A";
 static const char *const TOTAL = "A1 1A 02 01 01 02 01 21 30 12 A1 0D 81 03 45 55 52 A2 06 81 01 32 82 01 01 82 01 01";
 static const char *const SAME_TOTAL =
     "A1 1E 02 01 01 02 01 21 30 16 A1 0E 81 03 45 55 52 A2 07 81 02 01 F4 82 01 00 82 01 01 83 01 01";
+static const char *const PADDED_TOTAL =
+    "A1 1D 02 01 01 02 01 21 30 15 A1 10 81 05 45 55 52 20 20 A2 07 81 02 01 F4 82 01 00 82 01 01";
 static const char *const D_ABSENT = "A1 08 02 01 03 02 01 21 05 00";
 static const char *const S_RESULT = "A2 0B 02 01 05 30 06 02 01 1E 02 01 01";
 static const char *const REJECT_5 = "A4 06 02 01 05 81 01 01";
@@ -159,6 +161,65 @@ static void test_lists(void)
     CHECK(closing.service == AOC_SERVICE_E && closing.charge.kind == AOC_CHARGE_FREE, "closing of E");
 }
 
+/* ------------------------------------------------------------------ padded currencies */
+
+/* An E final in a currency, given in hex: the octets of its component. */
+static size_t final_in(const char *currency, uint16_t number, uint8_t multiplier, uint8_t *to)
+{
+    uint8_t text[10], value[] = {0xA2, 7, 0x81, 2, (uint8_t)(number >> 8), (uint8_t)number, 0x82, 1, multiplier};
+    uint8_t n = (uint8_t)unhex(currency, text), k = 9;
+    if (number < 128) {
+        value[1] = 6, value[3] = 1, value[4] = (uint8_t)number, value[5] = 0x82, value[6] = 1, value[7] = multiplier, k = 8;
+    }
+    uint8_t size = (uint8_t)(2 + n + k);
+    uint8_t lead[] = {0xA1, (uint8_t)(size + 12), 2, 1, 7, 2, 1, 0x23, 0x30, (uint8_t)(size + 4), 0x30, (uint8_t)(size + 2), 0xA1, size, 0x81, n};
+    memcpy(to, lead, sizeof lead);
+    memcpy(to + sizeof lead, text, n);
+    memcpy(to + sizeof lead + n, value, k);
+    return sizeof lead + n + k;
+}
+
+static void test_padded(void)
+{
+    static const struct {
+        const char *text;
+        uint16_t number;
+        uint8_t multiplier;
+        const char *second_text;
+        uint16_t second_number;
+        uint8_t second_multiplier, outcome;
+    } cases[] = {
+        {"45 55 52", 50, 1, "45 55 52 20", 50, 1, AOC_OUTCOME_REPEATED},
+        {"45 55 52 20 20", 50, 1, "45 55 52", 50, 1, AOC_OUTCOME_REPEATED},
+        {"45 55 52 20", 50, 1, "45 55 52 20 20 20 20 20 20 20", 500, 0, AOC_OUTCOME_REPEATED},
+        {"20", 50, 1, "20 20 20", 50, 1, AOC_OUTCOME_REPEATED},
+        {"20 20 20 20 20 20 20 20 20 20", 0, 0, "20", 0, 6, AOC_OUTCOME_REPEATED},
+        {"45 55 52 00", 50, 1, "45 55 52 00 20", 50, 1, AOC_OUTCOME_REPEATED},
+        {"45 55 52", 50, 1, "45 55 52 20", 501, 0, AOC_OUTCOME_CONFLICT},
+        {"45 55 52", 50, 1, "20 45 55 52", 50, 1, AOC_OUTCOME_CONFLICT},
+        {"45 20 52", 50, 1, "45 52", 50, 1, AOC_OUTCOME_CONFLICT},
+        {"45 55 52", 50, 1, "65 75 72", 50, 1, AOC_OUTCOME_CONFLICT},
+        {"45 55 52", 50, 1, "45 55 52 00", 50, 1, AOC_OUTCOME_CONFLICT},
+        {"45 55 52", 50, 1, "45 55 52 20 00", 50, 1, AOC_OUTCOME_CONFLICT},
+        {"20", 50, 1, "00", 50, 1, AOC_OUTCOME_CONFLICT},
+        {"45 55 52", 50, 1, "45 55 52 09", 50, 1, AOC_OUTCOME_CONFLICT},
+    };
+    for (size_t i = 0; i < sizeof cases / sizeof *cases; i++) {
+        uint8_t octets[64], text[10];
+        size_t n = final_in(cases[i].text, cases[i].number, cases[i].multiplier, octets);
+        start();
+        setup(-1, -1, -1);
+        aoc_clear(&call.account);
+        STEP(aoc_component(&call.account, lend(octets, n), n), AOC_OUTCOME_FINAL, AOC_SERVICE_E);
+        n = final_in(cases[i].second_text, cases[i].second_number, cases[i].second_multiplier, octets);
+        STEP(aoc_component(&call.account, lend(octets, n), n), cases[i].outcome, AOC_SERVICE_E);
+        aoc_released(&call.account);
+        aoc_closing closing = aoc_closing_of(&call.account);
+        n = unhex(cases[i].text, text);
+        CHECK(closing.charge.money.currency.count == n && !memcmp(closing.charge.money.currency.octets, text, n), "as received");
+    }
+}
+
 /* ------------------------------------------------------------------ refusals */
 
 static void to_phase(int phase)
@@ -244,14 +305,23 @@ static uint64_t value_of(const aoc_money *m)
     return value;
 }
 
+/* How many octets a currency has before its trailing spaces; a count past its places counts them all. */
+static size_t text_of(const aoc_currency *c)
+{
+    size_t n = c->count < sizeof c->octets ? c->count : sizeof c->octets;
+    while (n && c->octets[n - 1] == 0x20)
+        n--;
+    return n;
+}
+
 /* Whether a final is the same as the first, which may be nonsense. */
 static int same(const aoc_charge *first, const aoc_charge *c)
 {
     if (first->kind != c->kind)
         return 0;
     if (c->kind == AOC_CHARGE_MONEY)
-        return first->money.currency.count == c->money.currency.count && value_of(&first->money) == value_of(&c->money) &&
-               !memcmp(first->money.currency.octets, c->money.currency.octets, c->money.currency.count);
+        return text_of(&first->money.currency) == text_of(&c->money.currency) && value_of(&first->money) == value_of(&c->money) &&
+               !memcmp(first->money.currency.octets, c->money.currency.octets, text_of(&c->money.currency));
     if (c->kind == AOC_CHARGE_UNITS)
         return first->count == c->count && !memcmp(first->numbers, c->numbers, 4 * c->count) &&
                !memcmp(first->octets, c->octets, 2 * c->count);
@@ -383,10 +453,11 @@ static void check_read_off(void)
 
 static void test_nonsense(void)
 {
-    static const char *const finals[] = {C2, C2_13, C6, C7, TOTAL, SAME_TOTAL, C4, C5, S_RESULT, REJECT_5};
+    static const char *const finals[] = {C2, C2_13, C6, C7, TOTAL, SAME_TOTAL, PADDED_TOTAL, C4, C5, S_RESULT, REJECT_5};
+    enum { FINALS = sizeof finals / sizeof *finals };
     for (long turn = 0; turn < 100000; turn++) {
         uint8_t octets[300], *a = (uint8_t *)&call.account;
-        size_t n = unhex(chance() & 1 ? finals[chance() % 10] : valid[chance() % VALID].hex, octets);
+        size_t n = unhex(chance() & 1 ? finals[chance() % FINALS] : valid[chance() % VALID].hex, octets);
         start();
         if (turn % 4 == 0) {
             /* all of it nonsense */
@@ -397,7 +468,7 @@ static void test_nonsense(void)
             call.account.phase = AOC_PHASE_CLEARING;
             call.account.d_final = call.account.e_final = read_octets(octets, n).record.charge;
             if (chance() & 1)
-                n = unhex(finals[chance() % 10], octets);
+                n = unhex(finals[chance() % FINALS], octets);
             for (int k = (int)(chance() % 4); k > 0; k--)
                 a[chance() % sizeof call.account] = (uint8_t)(chance() >> 40);
             if (chance() & 1)
@@ -431,6 +502,7 @@ int main(void)
     aoc_account fresh = aoc_fresh();
     CHECK(all(&fresh, sizeof fresh, 0), "fresh");
     test_lists();
+    test_padded();
     test_refusals();
     test_nonsense();
     return report("calls");

@@ -1,4 +1,4 @@
--- When two finals are the same: both free; or equal currency octets and thousandths; or equal unit lists, entry by entry.
+-- When two finals are the same: both free; or equal currencies and thousandths; or equal unit lists, entry by entry.
 -- Billing and association are not compared.
 use Prim.Native.Nat.{ℕ, zero, suc, _*_}
 use mathlib.Core.Bool.{Bool, true, _&&_, cond}
@@ -6,10 +6,10 @@ use lib.ListN.{getD}
 use lib.Dec.{eqb, leb}
 use Rattle.values.specs.Amounts.{powers}
 use Rattle.types.specs.Entries.{unitAt, sameUnits}
-use Rattle.types.specs.declared.Currency.{Currency}
 use Rattle.types.specs.declared.Money.{Money}
 use Rattle.types.specs.declared.Entries.{Entries}
 use Rattle.types.specs.declared.Charge.{Charge}
+use Rattle.same.specs.Currency.{equalCurrency}
 
 -- a test passes at each number below n
 abbrev pub each : ℕ → (ℕ → Bool) → Bool
@@ -24,22 +24,17 @@ upTo most n = cond (leb n most) n most
 abbrev pub thousandths : Money → ℕ
 thousandths m = m .number * getD powers (m .multiplier) 0
 
--- equal counts, and equal octets over the count
-unfoldable pub sameCurrency : Currency → Currency → Bool
-sameCurrency c d =
-    eqb (c .count) (d .count) && each (upTo 10 (c .count)) (λ i. eqb (getD (c .octets) i 0) (getD (d .octets) i 0))
-
-unfoldable pub sameMoney : Money → Money → Bool
-sameMoney m n = eqb (thousandths m) (thousandths n) && sameCurrency (m .currency) (n .currency)
+unfoldable pub equalMoney : Money → Money → Bool
+equalMoney m n = eqb (thousandths m) (thousandths n) && equalCurrency (m .currency) (n .currency)
 
 -- equal entries over a count
-unfoldable pub sameEntries : Entries → Entries → ℕ → Bool
-sameEntries e f n = each (upTo 32 n) (λ i. sameUnits (unitAt e i) (unitAt f i))
+unfoldable pub equalUnits : Entries → Entries → ℕ → Bool
+equalUnits e f n = each (upTo 32 n) (λ i. sameUnits (unitAt e i) (unitAt f i))
 
 -- kinds: 1 free, 2 money, 3 units
 unfoldable pub sameOf : Charge → Charge → Bool
 sameOf a b =
     eqb (a .figure .kind) (b .figure .kind)
     && cond (eqb (a .figure .kind) 1) true
-    (cond (eqb (a .figure .kind) 2) (sameMoney (a .figure .money) (b .figure .money))
-    (eqb (a .figure .kind) 3 && (eqb (a .figure .count) (b .figure .count) && sameEntries (a .entries) (b .entries) (a .figure .count))))
+    (cond (eqb (a .figure .kind) 2) (equalMoney (a .figure .money) (b .figure .money))
+    (eqb (a .figure .kind) 3 && (eqb (a .figure .count) (b .figure .count) && equalUnits (a .entries) (b .entries) (a .figure .count))))

@@ -4,8 +4,10 @@ use types::Currency;
 use types::Entries;
 use types::Money;
 ghost use mathlib.Core.Path.{_≡_};
-ghost use Prim.Native.Nat.{_≤_};
-ghost use Rattle.same.specs.Same.{upTo, sameCurrency, sameMoney, sameEntries, sameOf};
+ghost use Prim.Native.Nat.{_≤_, _<_};
+ghost use lib.ListN.{getD};
+ghost use Rattle.same.specs.Currency.{counted, equalCurrency};
+ghost use Rattle.same.specs.Same.{upTo, equalMoney, equalUnits, sameOf};
 
 // How many places a count uses, of those there are.
 fn places(count: u8, most: usize) -> usize
@@ -15,16 +17,25 @@ fn places(count: u8, most: usize) -> usize
     if n <= most { n } else { most }
 }
 
-fn same_currency(a: Currency, b: Currency) -> bool
-    ensures { λ r. ⌜ r ≡ sameCurrency a b ⌝ }
+// The octet at a place of a currency; past its count spaces go on.
+fn letter(c: Currency, i: usize) -> u8
+    requires { ⌜ i < 10 ⌝ }
+    ensures { λ r. ⌜ r ≡ getD (counted c) i 0x20 ⌝ }
 {
-    if a.count != b.count {
-        return false;
+    let n = c.count as usize;
+    if i < n {
+        return c.octets[i];
     }
-    let n = places(a.count, 10);
+    0x20
+}
+
+// Whether two currencies are equal, whatever spaces trail.
+pub fn same_currency(a: Currency, b: Currency) -> bool
+    ensures { λ r. ⌜ r ≡ equalCurrency a b ⌝ }
+{
     let mut i: usize = 0;
-    while i < n {
-        if a.octets[i] != b.octets[i] {
+    while i < 10 {
+        if letter(a, i) != letter(b, i) {
             return false;
         }
         i += 1;
@@ -33,7 +44,7 @@ fn same_currency(a: Currency, b: Currency) -> bool
 }
 
 fn same_money(a: Money, b: Money) -> bool
-    ensures { λ r. ⌜ r ≡ sameMoney a b ⌝ }
+    ensures { λ r. ⌜ r ≡ equalMoney a b ⌝ }
 {
     let x = values::thousandths(a.number, a.multiplier);
     let y = values::thousandths(b.number, b.multiplier);
@@ -47,7 +58,7 @@ fn same_money(a: Money, b: Money) -> bool
 
 // The first entries of two lists of units.
 fn same_entries(a: Entries, b: Entries, count: u8) -> bool
-    ensures { λ r. ⌜ r ≡ sameEntries a b count ⌝ }
+    ensures { λ r. ⌜ r ≡ equalUnits a b count ⌝ }
 {
     let n = places(count, 32);
     let mut i: usize = 0;

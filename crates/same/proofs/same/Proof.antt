@@ -14,19 +14,35 @@ returns-2 c = simp (eq-eqb _ _ (c .before .before .if1 .left), eq-eqb _ _ (c .if
 
 returns-3 : tie.Need-returns-3
 unfolding sameOf
-returns-3 c = simp (eq-eqb _ _ (c .before .before .before .before .before .before .before .if1 .left), ne-eqb _ _ (c .before .before .before .before .before .if2 .left), eq-eqb _ _ (c .before .before .before .if3 .taken)) (c .same-money .ensures)
+returns-3 c =
+    let three = c .before .before .before in
+    let two = three .before .before in
+    simp (eq-eqb _ _ (two .before .before .if1 .left), ne-eqb _ _ (two .if2 .left), eq-eqb _ _ (three .if3 .taken)) (c .same-money .ensures)
 
 returns-4 : tie.Need-returns-4
 unfolding sameOf
-returns-4 c = simp (eq-eqb _ _ (c .before .before .before .before .before .before .before .before .before .if1 .left), ne-eqb _ _ (c .before .before .before .before .before .before .before .if2 .left), ne-eqb _ _ (c .before .before .before .before .before .if3 .left), eq-eqb _ _ (c .before .before .before .if4 .taken), ne-eqb _ _ (c .if5 .taken))
+returns-4 c =
+    let four = c .before .before .before in
+    let three = four .before .before in
+    let two = three .before .before in
+    simp (eq-eqb _ _ (two .before .before .if1 .left), ne-eqb _ _ (two .if2 .left), ne-eqb _ _ (three .if3 .left), eq-eqb _ _ (four .if4 .taken), ne-eqb _ _ (c .if5 .taken))
 
 returns-5 : tie.Need-returns-5
 unfolding sameOf
-returns-5 c = simp (eq-eqb _ _ (c .before .before .before .before .before .before .before .before .before .before .before .before .if1 .left), ne-eqb _ _ (c .before .before .before .before .before .before .before .before .before .before .if2 .left), ne-eqb _ _ (c .before .before .before .before .before .before .before .before .if3 .left), eq-eqb _ _ (c .before .before .before .before .before .before .if4 .taken), eq-eqb _ _ (c .before .before .before .if5 .left)) (c .same-entries .ensures)
+returns-5 c =
+    let five = c .before .before .before in
+    let four = five .before .before .before in
+    let three = four .before .before in
+    let two = three .before .before in
+    simp (eq-eqb _ _ (two .before .before .if1 .left), ne-eqb _ _ (two .if2 .left), ne-eqb _ _ (three .if3 .left), eq-eqb _ _ (four .if4 .taken), eq-eqb _ _ (five .if5 .left))
+    (c .same-entries .ensures)
 
 returns-6 : tie.Need-returns-6
 unfolding sameOf
-returns-6 c = simp (eq-eqb _ _ (c .before .before .before .before .before .before .if1 .left), ne-eqb _ _ (c .before .before .before .before .if2 .left), ne-eqb _ _ (c .before .before .if3 .left), ne-eqb _ _ (c .if4 .left))
+returns-6 c =
+    let three = c .before .before in
+    let two = three .before .before in
+    simp (eq-eqb _ _ (two .before .before .if1 .left), ne-eqb _ _ (two .if2 .left), ne-eqb _ _ (three .if3 .left), ne-eqb _ _ (c .if4 .left))
 
 pub same-spec : {M : Type 1} → statement M
 same-spec =

@@ -1,77 +1,48 @@
-use Prim.Native.Nat.{ℕ, _≤_, _-_}
-use mathlib.Core.Path.{_≡_, refl, sym}
-use mathlib.Core.Bool.{Bool, true}
+use Prim.Native.Nat.{ℕ, _≤_, _<_, _-_}
+use mathlib.Core.Path.{_≡_, sym, _∙_}
 use native.Mathlib.Omega.{arith}
-use lib.Dec.{eqb}
-use lib.ListN.{getD}
-use borrow.Author.Tests.{eq-eqb, ne-eqb}
+use lib.ListN.{length, getD}
+use borrow.Author.Count.{below-more}
 use borrow.Author.Needs.{needs}
 use Rattle.types.specs.declared.Currency.{Currency}
-use Rattle.same.specs.Same.{each, upTo, sameCurrency}
-use Rattle.same.proofs.Each.{each-fails, each-more}
+use Rattle.same.specs.Currency.{counted}
+use Rattle.same.proofs.Currencies.{differ, agree, few}
 use Rattle.same.proofs.same_currency.Statement.{statement}
 use Rattle.same.proofs.same_currency.Tie as tie
 
-abbrev test : Currency → Currency → ℕ → Bool
-test a b k = eqb (getD (a .octets) k 0) (getD (b .octets) k 0)
-
-tested : (a b : Currency) (n : ℕ) (t : Bool) → a .count ≡ b .count → n ≡ upTo 10 (a .count) → each n (test a b) ≡ t → sameCurrency a b ≡ t
-unfolding sameCurrency
-tested a b n t q e h = simp (eq-eqb _ _ q) (rw (← e) h)
+abbrev At : Currency → Currency → ℕ → Type 0
+At a b k = getD (counted a) k 0x20 ≡ getD (counted b) k 0x20
 
 abbrev Inv-loop : tie.InvT-loop
-Inv-loop a b n i₀ i = (i ≤ n) × (each i (test a b) ≡ true)
+Inv-loop a b i₀ i = (i ≤ 10) × ((k : ℕ) → k < i → At a b k)
 
 abbrev μ-loop : tie.MeasureT-loop
-μ-loop a b n i₀ i = n - i
-
-returns : tie.Need-returns Inv-loop μ-loop
-unfolding sameCurrency
-returns c = simp (ne-eqb _ _ (c .if1 .taken))
-
-places-requires : tie.Need-places-requires Inv-loop μ-loop
-places-requires c κs = search needs
+μ-loop a b i₀ i = 10 - i
 
 loop-holds : tie.Need-loop-holds Inv-loop μ-loop
-loop-holds c = (omega arith, refl)
+loop-holds c = (omega arith, λ k l. absurd (omega arith))
 
-element-copy-out-if2 : tie.Need-element-copy-out-if2 Inv-loop μ-loop
-element-copy-out-if2 c = omega arith
-
-element-copy-out-if2-2 : tie.Need-element-copy-out-if2-2 Inv-loop μ-loop
-element-copy-out-if2-2 c = omega arith
-
-returns-2 : tie.Need-returns-2 Inv-loop μ-loop
-returns-2 c = sym (tested (c .before .before .before .before .before .before .before .args .t1) (c .before .before .before .before .before .before .before .args .t2) _ _ (c .before .before .before .before .before .before .if1 .left) (c .before .before .before .before .before .places .ensures .0) (each-fails (c .before .before .before .before .before .places .result) _ (c .before .before .before .before .loop .i) (omega arith) (ne-eqb _ _ (c .if2 .taken))))
-
-add-i : tie.Need-add-i Inv-loop μ-loop
-add-i c = omega arith
-
-loop-less : tie.Need-loop-less Inv-loop μ-loop
-loop-less c = omega arith
+returns : tie.Need-returns Inv-loop μ-loop
+returns c =
+    let s = c .before .before .before in
+    let a = s .before .before .args in
+    sym (differ (a .a) (a .b) (s .before .loop .i) (λ e. c .if1 .taken (c .before .before .letter .ensures ∙ (e ∙ sym (c .before .letter2 .ensures)))))
 
 loop-again : tie.Need-loop-again Inv-loop μ-loop
-loop-again c = (omega arith, each-more (c .before .before .before .before .loop .i) (test (c .before .before .before .before .before .before .before .args .t1) (c .before .before .before .before .before .before .before .args .t2)) (c .before .before .before .before .loop .inv .1) (eq-eqb _ _ (c .if2 .left)))
+loop-again c =
+    let s = c .before .before .before in
+    let a = s .before .before .args in
+    let l = s .before .loop in
+    (omega arith, below-more (At (a .a) (a .b)) (l .i) (l .inv .1) (sym (c .before .before .letter .ensures) ∙ (c .if1 .left ∙ c .before .letter2 .ensures)))
 
-done : (c : tie.After-loop Inv-loop μ-loop) → c .before .loop .i ≡ c .before .before .places .result
-done c = omega arith
-
-returns-3 : tie.Need-returns-3 Inv-loop μ-loop
-returns-3 c = sym (tested (c .before .before .before .before .args .t1) (c .before .before .before .before .args .t2) _ _ (c .before .before .before .if1 .left) (c .before .before .places .ensures .0) (rw (done c) at (c .before .loop .inv .1)))
+returns-2 : tie.Need-returns-2 Inv-loop μ-loop
+returns-2 c =
+    let a = c .before .before .args in
+    let p : length (a .a .octets) ≡ 10 = search needs in
+    let q : length (a .b .octets) ≡ 10 = search needs in
+    sym (agree (a .a) (a .b) 10 (few (a .a) 10 (omega arith)) (few (a .b) 10 (omega arith)) (λ k l. c .before .loop .inv .1 k (omega arith)))
 
 pub same-currency-spec : {M : Type 1} → statement M
 same-currency-spec =
     tie.close
-    (tie.spec
-    Inv-loop
-    μ-loop
-    returns
-    places-requires
-    loop-holds
-    element-copy-out-if2
-    element-copy-out-if2-2
-    returns-2
-    add-i
-    loop-less
-    loop-again
-    returns-3)
+    (tie.spec Inv-loop μ-loop loop-holds (λ c κs. omega arith) (λ c κs. omega arith) returns (λ c. omega arith) (λ c. omega arith) loop-again returns-2)

@@ -1,16 +1,16 @@
 use mathlib.Core.Path.{sym, _∙_}
 use borrow.Author.Tests.{eq-eqb, ne-eqb}
-use Rattle.same.specs.Same.{sameMoney}
+use Rattle.same.specs.Same.{equalMoney}
 use borrow.Author.Needs.{needs}
 use Rattle.same.proofs.same_money.Statement.{statement}
 use Rattle.same.proofs.same_money.Tie as tie
 
 returns : tie.Need-returns
-unfolding sameMoney
+unfolding equalMoney
 returns c = simp (ne-eqb _ _ (λ z. c .if1 .taken (c .before .before .thousandths .ensures .0 ∙ z ∙ sym (c .before .thousandths2 .ensures .0))))
 
 returns-2 : tie.Need-returns-2
-unfolding sameMoney
+unfolding equalMoney
 returns-2 c = simp (eq-eqb _ _ (sym (c .before .before .before .before .before .thousandths .ensures .0) ∙ c .before .before .before .if1 .left ∙ c .before .before .before .before .thousandths2 .ensures .0)) (c .same-currency .ensures)
 
 pub same-money-spec : {M : Type 1} → statement M
