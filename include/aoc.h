@@ -46,13 +46,22 @@ extern "C" {
     ROW(AOC_REFUSED_BAD_FRAME, 6, "a failure outside the argument or result")                          \
     ROW(AOC_REFUSED_UNKNOWN_OPERATION, 7, "an unknown operation")                                      \
     ROW(AOC_REFUSED_UNKNOWN_ERROR, 8, "an unknown error")                                              \
-    ROW(AOC_REFUSED_BAD_ARGUMENT, 9, "a failure in the argument or result")                            \
     ROW(AOC_REFUSED_BAD_RECORD, 10, "a field out of its range, or not zero where it is not used")      \
     ROW(AOC_REFUSED_LONG_RECORD, 11, "a record whose shortest form has over 254 octets")               \
     ROW(AOC_REFUSED_NO_ROOM, 12, "the buffer is too short")                                            \
     ROW(AOC_REFUSED_BAD_SETUP, 13, "two requests with one identifier")                                 \
     ROW(AOC_REFUSED_WRONG_PHASE, 14, "an event that is not allowed in this phase")                     \
-    ROW(AOC_REFUSED_BAD_ELEMENT, 15, "a malformed Facility element")
+    ROW(AOC_REFUSED_BAD_ELEMENT, 15, "a malformed Facility element")                                   \
+    AOC_ARGUMENT_REFUSALS(ROW)
+
+/* Those of an argument or result: reading gives them with the offset of an octet. */
+#define AOC_ARGUMENT_REFUSALS(ROW)                                                                     \
+    ROW(AOC_REFUSED_MISSING, 40, "an element is missing, or a list is empty")                          \
+    ROW(AOC_REFUSED_UNEXPECTED, 41, "an unexpected tag, or something left over")                       \
+    ROW(AOC_REFUSED_LACKING, 42, "length octets, contents or end marker are missing")                  \
+    ROW(AOC_REFUSED_NOT_SHORTEST, 43, "contents that are not shortest, or empty")                      \
+    ROW(AOC_REFUSED_BAD_CONTENTS, 44, "contents that are not allowed")                                 \
+    ROW(AOC_REFUSED_PAST_LIMIT, 45, "an entry past its list's limit")
 
 typedef enum { AOC_ACCEPTED = 0, AOC_REFUSALS(AOC_ROW_NAME) } aoc_refusal;
 
@@ -350,7 +359,8 @@ typedef struct {
 } aoc_record;
 
 typedef struct {
-    uint32_t refusal;           /* AOC_ACCEPTED, or 1 to 9 */
+    uint32_t refusal;           /* AOC_ACCEPTED, 1 to 8, or 40 to 45 */
+    uint32_t offset;            /* with 40 to 45, which octet, the first as 0; else 0 */
     aoc_record record;
 } aoc_answer;
 
@@ -430,7 +440,9 @@ typedef struct {
 /* ------------------------------------------------------------------ components */
 
 /* Inline, over a proved function. Reads one component into an answer, whatever it holds. The record is what the octets mean,
- * each length in any of its forms; or the refusal is the first of 1 to 9, and the record is zero. It returns the refusal. */
+ * each length in any of its forms; or the refusal is that of the first failure, and the record is zero. It returns the refusal.
+ * With AOC_REFUSED_MISSING the offset is where the enclosing element's contents end, with 41 to 45 the place of the failing
+ * element's tag: at least 8, and at most the length. */
 static inline aoc_refusal aoc_read(const uint8_t *octets, size_t length, aoc_answer *answer);
 
 /* Inline, over a proved function. Writes a record's shortest form: its octets are the first `count` of the buffer, at most
@@ -496,7 +508,7 @@ bool aoc_has_service(aoc_services set, uint8_t service);
 aoc_account aoc_fresh(void);
 
 /* Proved. Takes one event and updates the account. The octets are those of AOC_EVENT_COMPONENT; other events leave them
- * unread. A refused event (1 to 9, 13, 14) leaves the account as it was. Of an account that started fresh and went through
+ * unread. A refused event (aoc_is_refusal) leaves the account as it was. Of an account that started fresh and went through
  * any list of events, the outcome and all that can be read off are what the specification picks out of that list. */
 aoc_outcome aoc_step(aoc_account *account, aoc_event event, const uint8_t *octets, size_t length);
 

@@ -10,7 +10,7 @@
 /* ------------------------------------------------------------------ a record in parts */
 
 /* Numbers go by value and arrays are lent, so that no list is copied. Of what is passed, the front is the record's first 8
- * octets, the figure its charge's first 48, and a short answer an answer's first 60. */
+ * octets, the figure its charge's first 48, and a short answer an answer's first 64. */
 typedef struct {
     uint8_t frame, unnamed;
     uint16_t id;
@@ -24,7 +24,7 @@ typedef struct {
 } aoc_figure;
 
 typedef struct {
-    uint32_t refusal;
+    uint32_t refusal, offset;
     aoc_front front;
     aoc_figure figure;
 } aoc_short_answer;
@@ -206,11 +206,12 @@ AOC_LAYOUT(offsetof(aoc_charge, octets) == 176 && offsetof(aoc_charge, units) ==
 AOC_LAYOUT(offsetof(aoc_charge, rates) == 176);
 AOC_LAYOUT(sizeof(aoc_record) == 376 && offsetof(aoc_record, id) == 2 && offsetof(aoc_record, operation) == 4);
 AOC_LAYOUT(offsetof(aoc_record, detail) == 7 && offsetof(aoc_record, charge) == 8);
-AOC_LAYOUT(sizeof(aoc_answer) == 380 && offsetof(aoc_answer, record) == 4);
+AOC_LAYOUT(sizeof(aoc_answer) == 384 && offsetof(aoc_answer, offset) == 4 && offsetof(aoc_answer, record) == 8);
 AOC_LAYOUT(sizeof(aoc_front) == offsetof(aoc_record, charge) && offsetof(aoc_front, detail) == offsetof(aoc_record, detail));
 AOC_LAYOUT(sizeof(aoc_figure) == offsetof(aoc_charge, numbers) && offsetof(aoc_figure, count) == offsetof(aoc_charge, count));
 AOC_LAYOUT(sizeof(aoc_outline) == 14 && offsetof(aoc_outline, count) == 13);
-AOC_LAYOUT(sizeof(aoc_short_answer) == 60 && offsetof(aoc_short_answer, figure) == 12);
+AOC_LAYOUT(sizeof(aoc_short_answer) == 64 && offsetof(aoc_short_answer, front) == 8);
+AOC_LAYOUT(offsetof(aoc_short_answer, figure) == 16);
 AOC_LAYOUT(sizeof(aoc_written) == 8 && offsetof(aoc_written, count) == 4);
 AOC_LAYOUT(sizeof(aoc_starts) == 129 && offsetof(aoc_starts, starts) == 2);
 AOC_LAYOUT(sizeof(aoc_services) == 3 && sizeof(aoc_identifiers) == 6 && sizeof(aoc_outcome) == 2);

@@ -1,6 +1,6 @@
 """The second program's answers: one line of standard input, one line of standard output.
 
-R <hex>                  read             <number> <packed record>
+R <hex>                  read             <number> <offset> <packed record>
 W <room> <packed record> write            <number> <count> <hex>
 E <hex>                  Facility element <number> <count> <starts, comma separated>
 J <room> <hex>           reject in reply  <number> <count> <hex>
@@ -19,8 +19,8 @@ NO_RECORD = "00" * 376
 
 
 def answer_read(rest):
-    number, record = aoc.read(bytes.fromhex(rest))
-    return f"{number} {aoc.pack(record).hex() if record else NO_RECORD}"
+    number, offset, record = aoc.locate(bytes.fromhex(rest))
+    return f"{number} {offset} {aoc.pack(record).hex() if record else NO_RECORD}"
 
 
 def answer_write(rest):

@@ -9,9 +9,11 @@ from dataclasses import dataclass, field
 
 # The numbers of 01's table.
 CUT, LENGTH_FORM, TOO_LONG, UNKNOWN_COMPONENT, TRAILING = 1, 2, 3, 4, 5
-BAD_FRAME, UNKNOWN_OPERATION, UNKNOWN_ERROR, BAD_ARGUMENT = 6, 7, 8, 9
+BAD_FRAME, UNKNOWN_OPERATION, UNKNOWN_ERROR = 6, 7, 8
 BAD_RECORD, LONG_RECORD, NO_ROOM = 10, 11, 12
 BAD_SETUP, WRONG_PHASE, BAD_ELEMENT = 13, 14, 15
+# Those of 02's request 8, in place of 01's 9.
+MISSING, UNEXPECTED, LACKING, NOT_SHORTEST, BAD_CONTENTS, PAST_LIMIT = range(40, 46)
 
 LONGEST = 254
 NUMBER_MAX = 16_777_215
@@ -22,6 +24,7 @@ ERRORS = (0, 3, 4, 7, 26)
 PROBLEMS = {0x80: 2, 0x81: 7, 0x82: 2, 0x83: 4}  # problem's tag: its highest value
 PLANS = (0, 1, 2, 3, 4, 6)
 DIGITS = frozenset(b"0123456789 ")
+CURRENCY_OCTETS = frozenset(range(0x80))
 CONSTRUCTED = 0x20  # the bit of a tag that tells elements made of elements
 END_MARKER = b"\0\0"
 
@@ -130,8 +133,23 @@ def unpack(octets):
 # ---------------------------------------------------------------- reading
 
 class Refused(Exception):
-    def __init__(self, number):
-        self.number = number
+    """A refusal, and with 40 to 45 the offset of the octet that it names."""
+
+    def __init__(self, number, offset=0):
+        self.number, self.offset = number, offset
+
+
+# What a failure in a part is called: 1 in the component's own element, 6 in its frame, in the argument or result by its kind.
+def of_component(kind, place):
+    return Refused(CUT)
+
+
+def of_frame(kind, place):
+    return Refused(BAD_FRAME)
+
+
+def of_argument(kind, place):
+    return Refused(kind, place)
 
 
 def peek(octets, place, end):
@@ -139,13 +157,14 @@ def peek(octets, place, end):
     return octets[place] if place < end else None
 
 
-def length(octets, place, end, part):
+def length(octets, place, end, part, tag):
     """The length octets at place: the contents' start, and how many they are; None for 80.
 
-    Only the enclosing element's octets are looked at: a form beyond its end is not seen.
+    Only the enclosing element's octets are looked at: a form beyond its end is not seen. What they lack is the failure of
+    the element whose tag stands at tag.
     """
     if place >= end:
-        raise Refused(part)
+        raise part(LACKING, tag)
     first = octets[place]
     place += 1
     if first <= 0x80:
@@ -154,25 +173,25 @@ def length(octets, place, end, part):
         raise Refused(LENGTH_FORM)
     wide = first - 0x80
     if place + wide > end:
-        raise Refused(part)
+        raise part(LACKING, tag)
     return place + wide, int.from_bytes(octets[place:place + wide], "big")
 
 
 def contents(octets, place, end, part):
     """The element whose tag stands, already judged, at place: its contents' start and end, and where it ends."""
-    start, size = length(octets, place + 1, end, part)
+    start, size = length(octets, place + 1, end, part, place)
     if size is None:
         if not octets[place] & CONSTRUCTED:
             raise Refused(LENGTH_FORM)
-        stop = end_marker(octets, start, end, part)
+        stop = end_marker(octets, start, end, part, place)
         return start, stop, stop + len(END_MARKER)
     if start + size > end:
-        raise Refused(part)
+        raise part(LACKING, place)
     return start, start + size, start + size
 
 
-def end_marker(octets, place, end, part):
-    """Where the end marker stands of contents without a number that begin at place.
+def end_marker(octets, place, end, part, sought):
+    """Where the end marker stands of contents without a number that begin at place; their element's tag is at sought.
 
     Elements are gone over one by one: a numbered one whole, another up to the end of its own marker. How many
     elements without a number are open is counted, since each of their markers ends the innermost one.
@@ -186,57 +205,73 @@ def end_marker(octets, place, end, part):
             place += len(END_MARKER)
             continue
         if place >= end:
-            raise Refused(part)
+            raise part(LACKING, sought)
         tag = octets[place]
-        place, size = length(octets, place + 1, end, part)
+        place, size = length(octets, place + 1, end, part, sought)
         if size is not None:
             place += size
             if place > end:
-                raise Refused(part)
+                raise part(LACKING, sought)
         elif tag & CONSTRUCTED:
             depth += 1
         else:
             raise Refused(LENGTH_FORM)
 
 
+def no_tag(place, end, part):
+    """No tag that is expected stands at place: none at all, at the enclosing end, or another."""
+    return part(MISSING, end) if place >= end else part(UNEXPECTED, place)
+
+
 def expect(octets, place, end, tag, part):
     # The tag is judged before its length: a wrong tag hides a bad form after it.
     if peek(octets, place, end) != tag:
-        raise Refused(part)
+        raise no_tag(place, end, part)
     return contents(octets, place, end, part)
 
 
-def whole(octets, start, stop, part):
+def whole(octets, start, stop, part, tag):
     """Two's complement contents, not empty and shortest, of any width."""
     size = stop - start
     if size == 0:
-        raise Refused(part)
+        raise part(NOT_SHORTEST, tag)
     if size > 1:
         first_nine = octets[start] << 1 | octets[start + 1] >> 7
         if first_nine in (0, 0x1FF):
-            raise Refused(part)
+            raise part(NOT_SHORTEST, tag)
     return int.from_bytes(octets[start:stop], "big", signed=True)
 
 
-def integer(octets, place, end, tag, low, high, part=BAD_ARGUMENT):
+def integer(octets, place, end, tag, low, high, part=of_argument):
     start, stop, after = expect(octets, place, end, tag, part)
-    value = whole(octets, start, stop, part)
+    value = whole(octets, start, stop, part, place)
     if not low <= value <= high:
-        raise Refused(part)
+        raise part(BAD_CONTENTS, place)
     return value, after
 
 
-def empty(octets, place, end, tag, part=BAD_ARGUMENT):
+def empty(octets, place, end, tag, part=of_argument):
     """NULL and its like: no contents, in any length form."""
     start, stop, after = expect(octets, place, end, tag, part)
     if start != stop:
-        raise Refused(part)
+        raise part(BAD_CONTENTS, place)
     return after
 
 
-def finish(place, end, part=BAD_ARGUMENT):
+def string(octets, place, end, tag, most, allowed):
+    """1 to most octets, each allowed."""
+    start, stop, after = expect(octets, place, end, tag, of_argument)
+    text = octets[start:stop]
+    if not text:
+        raise of_argument(NOT_SHORTEST, place)
+    if len(text) > most or not allowed.issuperset(text):
+        raise of_argument(BAD_CONTENTS, place)
+    return text, after
+
+
+def finish(place, end, part=of_argument):
     if place != end:
-        raise Refused(part)
+        raise part(UNEXPECTED, place)
 
 
 def component(octets):
@@ -246,13 +281,14 @@ def component(octets):
         raise Refused(CUT)
     if not 0xA1 <= octets[0] <= 0xA4:
         raise Refused(UNKNOWN_COMPONENT)
-    start, stop, after = contents(octets, 0, len(octets), CUT)
-    finish(after, len(octets), TRAILING)
+    start, stop, after = contents(octets, 0, len(octets), of_component)
+    if after != len(octets):
+        raise Refused(TRAILING)
     return FRAMES[octets[0]](octets, start, stop)
 
 
 def identifier(octets, place, end):
-    value, place = integer(octets, place, end, 0x02, -32768, 32767, BAD_FRAME)
+    value, place = integer(octets, place, end, 0x02, -32768, 32767, of_frame)
     return value & 0xFFFF, place
 
 
@@ -260,10 +296,10 @@ def code(octets, place, end, known, unknown):
     """An operation or error value. Unknown is said at once, before what follows."""
     if peek(octets, place, end) == 0x06:
         raise Refused(unknown)
-    start, stop, after = expect(octets, place, end, 0x02, BAD_FRAME)
+    start, stop, after = expect(octets, place, end, 0x02, of_frame)
+    value = whole(octets, start, stop, of_frame, place)
     if stop - start > 4:
         raise Refused(BAD_FRAME)
-    value = whole(octets, start, stop, BAD_FRAME)
     if value not in known:
         raise Refused(unknown)
     return value, after
@@ -279,14 +315,14 @@ def invoke(octets, place, end):
         place = empty(octets, place, end, 0x05)
     else:
         place = ARGUMENTS[record.operation](octets, place, end, record.charge)
-    finish(place, end, BAD_FRAME)
+    finish(place, end, of_frame)
     return record
 
 
 def return_result(octets, place, end):
     record = Record(frame=RESULT)
     record.id, place = identifier(octets, place, end)
-    inner, stop, after = expect(octets, place, end, 0x30, BAD_FRAME)
+    inner, stop, after = expect(octets, place, end, 0x30, of_frame)
     record.operation, inner = code(octets, inner, stop, (30,), UNKNOWN_OPERATION)
     tag = peek(octets, inner, stop)
     if tag == 0x30:
@@ -295,8 +331,8 @@ def return_result(octets, place, end):
         inner = special_arrangement(octets, inner, stop, record.charge)
     else:
         inner = empty(octets, inner, stop, 0x05)
-    finish(inner, stop, BAD_FRAME)
-    finish(after, end, BAD_FRAME)
+    finish(inner, stop, of_frame)
+    finish(after, end, of_frame)
     return record
 
 
@@ -304,14 +340,14 @@ def return_error(octets, place, end):
     record = Record(frame=ERROR)
     record.id, place = identifier(octets, place, end)
     record.error, place = code(octets, place, end, ERRORS, UNKNOWN_ERROR)
-    finish(place, end, BAD_FRAME)
+    finish(place, end, of_frame)
     return record
 
 
 def reject(octets, place, end):
     record = Record(frame=REJECT)
     if peek(octets, place, end) == 0x05:
-        place = empty(octets, place, end, 0x05, BAD_FRAME)
+        place = empty(octets, place, end, 0x05, of_frame)
         record.unnamed = 1
     else:
         record.id, place = identifier(octets, place, end)
@@ -319,8 +355,8 @@ def reject(octets, place, end):
     if tag not in PROBLEMS:
         raise Refused(BAD_FRAME)
     record.problem = tag
-    record.detail, place = integer(octets, place, end, tag, 0, PROBLEMS[tag], BAD_FRAME)
-    finish(place, end, BAD_FRAME)
+    record.detail, place = integer(octets, place, end, tag, 0, PROBLEMS[tag], of_frame)
+    finish(place, end, of_frame)
     return record
 
 
@@ -329,7 +365,7 @@ FRAMES = {0xA1: invoke, 0xA2: return_result, 0xA3: return_error, 0xA4: reject}
 
 def scaled(octets, place, end, tag):
     """An amount or a time: 81 number, 82 multiplier or scale."""
-    inner, stop, after = expect(octets, place, end, tag, BAD_ARGUMENT)
+    inner, stop, after = expect(octets, place, end, tag, of_argument)
     number, inner = integer(octets, inner, stop, 0x81, 0, NUMBER_MAX)
     scale, inner = integer(octets, inner, stop, 0x82, 0, 6)
     finish(inner, stop)
@@ -337,16 +373,12 @@ def scaled(octets, place, end, tag):
 
 
 def currency(octets, place, end):
-    start, stop, after = expect(octets, place, end, 0x81, BAD_ARGUMENT)
-    text = octets[start:stop]
-    if not 1 <= len(text) <= CURRENCY_MAX or max(text) >= 0x80:
-        raise Refused(BAD_ARGUMENT)
-    return text, after
+    return string(octets, place, end, 0x81, CURRENCY_MAX, CURRENCY_OCTETS)
 
 
 def rate_list(octets, place, end, charge):
     """31's list: 30 with 1 to 10 entries."""
-    place, stop, after = expect(octets, place, end, 0x30, BAD_ARGUMENT)
+    place, stop, after = expect(octets, place, end, 0x30, of_argument)
     charge.figure.kind = RATES
     charge.figure.count = entries(octets, place, stop, RATES_MAX, rate, charge.list)
     return after
@@ -358,10 +390,9 @@ def entries(octets, place, end, limit, entry, into):
     while True:
         if place == end and count > 0:
             return count
-        # Covers both the empty list (a missing entry) and the entry past the limit.
         if count == limit:
-            raise Refused(BAD_ARGUMENT)
-        start, stop, after = expect(octets, place, end, 0x30, BAD_ARGUMENT)
+            raise of_argument(PAST_LIMIT if octets[place] == 0x30 else UNEXPECTED, place)
+        start, stop, after = expect(octets, place, end, 0x30, of_argument)
         finish(entry(octets, start, stop, into, count), stop)
         place, count = after, count + 1
 
@@ -374,7 +405,7 @@ def rate(octets, place, end, into, i):
     tag = peek(octets, place, end)
     if tag in (0xA1, 0xA2, 0xA3):
         kind = tag - 0xA0
-        inner, stop, place = contents(octets, place, end, BAD_ARGUMENT)
+        inner, stop, place = contents(octets, place, end, of_argument)
         text, inner = currency(octets, inner, stop)
         number, multiplier, inner = scaled(octets, inner, stop, 0xA2)
         if kind == DURATION:
@@ -393,7 +424,7 @@ def rate(octets, place, end, into, i):
         kind = RATE_FREE if tag == 0x84 else RATE_UNKNOWN
         place = empty(octets, place, end, tag)
     else:
-        raise Refused(BAD_ARGUMENT)
+        raise no_tag(place, end, of_argument)
     into.numbers[3 * i:3 * i + 3] = (number, time, step)
     into.octets[18 * i:18 * i + 18] = (
         item, kind, detail, stepped, scale, step_scale, multiplier, len(text),
@@ -409,7 +440,7 @@ def special_arrangement(octets, place, end, charge):
 
 def amount_figure(octets, place, end, charge):
     """The A1 of 33 and 35."""
-    inner, stop, after = expect(octets, place, end, 0xA1, BAD_ARGUMENT)
+    inner, stop, after = expect(octets, place, end, 0xA1, of_argument)
     charge.figure.kind = AMOUNT
     money = charge.figure.money
     text, inner = currency(octets, inner, stop)
@@ -422,7 +453,7 @@ def amount_figure(octets, place, end, charge):
 
 def units_figure(octets, place, end, charge):
     """The A1 of 34 and 36."""
-    place, stop, after = expect(octets, place, end, 0xA1, BAD_ARGUMENT)
+    place, stop, after = expect(octets, place, end, 0xA1, of_argument)
     charge.figure.kind = UNITS
     charge.figure.count = entries(octets, place, stop, UNITS_MAX, unit, charge.list)
     return after
@@ -453,7 +484,7 @@ def during_call(figure_of):
         if peek(octets, place, end) == 0x81:
             charge.figure.kind = FREE
             return empty(octets, place, end, 0x81)
-        inner, stop, after = expect(octets, place, end, 0x30, BAD_ARGUMENT)
+        inner, stop, after = expect(octets, place, end, 0x30, of_argument)
         inner = figure_of(octets, inner, stop, charge)
         charge.figure.total, inner = integer(octets, inner, stop, 0x82, 0, 1)
         inner = billing(octets, inner, stop, 0x83, 2, charge.figure)
@@ -465,12 +496,12 @@ def during_call(figure_of):
 def end_of_call(figure_of):
     """35 and 36: one level deeper than 33 and 34, and an association may follow."""
     def read_it(octets, place, end, charge):
-        place, stop, after = expect(octets, place, end, 0x30, BAD_ARGUMENT)
+        place, stop, after = expect(octets, place, end, 0x30, of_argument)
         if peek(octets, place, stop) == 0x81:
             charge.figure.kind = FREE
             place = empty(octets, place, stop, 0x81)
         else:
-            inner, inner_stop, place = expect(octets, place, stop, 0x30, BAD_ARGUMENT)
+            inner, inner_stop, place = expect(octets, place, stop, 0x30, of_argument)
             inner = figure_of(octets, inner, inner_stop, charge)
             inner = billing(octets, inner, inner_stop, 0x82, 7, charge.figure)
             finish(inner, inner_stop)
@@ -487,26 +518,24 @@ def association(octets, place, end, into):
         value, place = integer(octets, place, end, 0x02, -32768, 32767)
         into.id = value & 0xFFFF
         return place
-    inner, stop, after = expect(octets, place, end, 0xA0, BAD_ARGUMENT)
+    inner, stop, after = expect(octets, place, end, 0xA0, of_argument)
     if peek(octets, inner, stop) == 0x80:
         into.kind = BY_NUMBER
         inner = digits(octets, inner, stop, 0x80, into)
     else:
         into.kind = BY_PUBLIC_NUMBER
-        start, inner_stop, inner = expect(octets, inner, stop, 0xA1, BAD_ARGUMENT)
+        start, inner_stop, inner = expect(octets, inner, stop, 0xA1, of_argument)
+        plan = start
         into.plan, start = integer(octets, start, inner_stop, 0x0A, 0, 6)
         if into.plan not in PLANS:
-            raise Refused(BAD_ARGUMENT)
+            raise of_argument(BAD_CONTENTS, plan)
         finish(digits(octets, start, inner_stop, 0x12, into), inner_stop)
     finish(inner, stop)
     return after
 
 
 def digits(octets, place, end, tag, into):
-    start, stop, after = expect(octets, place, end, tag, BAD_ARGUMENT)
-    text = octets[start:stop]
-    if not 1 <= len(text) <= DIGITS_MAX or not DIGITS.issuperset(text):
-        raise Refused(BAD_ARGUMENT)
+    text, after = string(octets, place, end, tag, DIGITS_MAX, DIGITS)
     into.count = len(text)
     into.digits[:len(text)] = text
     return after
@@ -522,12 +551,18 @@ ARGUMENTS = {
 }
 
 
-def read(octets):
-    """(0, record) or (the refusal 1 to 9, None)."""
+def locate(octets):
+    """(0, 0, record), or the refusal 1 to 8 or 40 to 45, its offset, and None."""
     try:
-        return 0, component(octets)
+        return 0, 0, component(octets)
     except Refused as refusal:
-        return refusal.number, None
+        return refusal.number, refusal.offset, None
+
+
+def read(octets):
+    """The same without the offset."""
+    number, _, record = locate(octets)
+    return number, record
 
 
 # ---------------------------------------------------------------- writing
@@ -776,7 +811,7 @@ def element(octets):
         starts.append(place)
         try:
             # A tile's tag may be any; its length has the component's forms.
-            _, _, place = contents(octets, place, end, BAD_ELEMENT)
+            _, _, place = contents(octets, place, end, of_component)
         except Refused:
             return BAD_ELEMENT, []
     return 0, starts
@@ -790,9 +825,9 @@ def reply(octets, room):
     if number == 0 or octets[:1] == b"\xA4":
         return 0, b""
     answer = Record(frame=REJECT)
-    if number in (UNKNOWN_OPERATION, UNKNOWN_ERROR, BAD_ARGUMENT):
-        # These three come after the identifier, so it was read without failure.
-        start, stop, _ = contents(octets, 0, len(octets), CUT)
+    if number in (UNKNOWN_OPERATION, UNKNOWN_ERROR) or number >= MISSING:
+        # These come after the identifier, so it was read without failure.
+        start, stop, _ = contents(octets, 0, len(octets), of_component)
         answer.id, _ = identifier(octets, start, stop)
         if number == UNKNOWN_ERROR:
             answer.problem, answer.detail = 0x83, 2

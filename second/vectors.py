@@ -77,14 +77,9 @@ def components():
         check(name + " in reply", aoc.reply(given, 0), (0, b""))
     check("C1 thousandths", aoc.thousandths(50, 1), 500)
     check("most thousandths", aoc.thousandths(16_777_215, 6), 16_777_215_000_000)
-    check("C6 with 23 for 21", aoc.read(C6[:7] + b"\x23" + C6[8:]), (9, None))
-    check("C8 with 0B", aoc.read(C8[:-1] + b"\x0B"), (9, None))
 
     number, most = aoc.read(units_in("02 04 00 FF FF FF"))
     check("16,777,215 units", (number, most and most.charge.list.numbers[0]), (0, 16_777_215))
-    check("16,777,216 units", aoc.read(units_in("02 04 01 00 00 00")), (9, None))
-    check("-1 units", aoc.read(units_in("02 03 FF FF FF")), (9, None))
-    check("05 in two octets", aoc.read(units_in("02 02 00 05")), (9, None))
     number, typed = aoc.read(units_in("05 00 02 01 07"))
     check("type after NULL", (number, typed and typed.charge.list.octets[:2]), (0, [0, 7]))
 
@@ -152,6 +147,55 @@ UNNUMBERED = (
     ("A1 80 (30 80) × 62 (00 00) × 63", "6"),
     ("A1 80 02 01 05 (30 80) × 62 (00 00) × 63", "3"),
 )
+# Which field is refused (request 8 of document 02): a component, and its refusal with the offset of the octet that it names, if any.
+FIELDS = (
+    ("A1 06 02 01 01 02 01 21", "40@8"),
+    ("A2 08 02 01 05 30 03 02 01 1E", "40@10"),
+    ("A2 0A 02 01 05 30 03 02 01 1E 05 00", "40@10"),
+    ("A1 08 02 01 01 02 01 21 30 00", "40@10"),
+    ("A1 0D 02 01 01 02 01 21 30 05 A1 03 81 01 45", "40@15"),
+    ("A1 0F 02 01 01 02 01 21 30 07 A1 02 81 00 82 01 00", "43@12"),
+    ("A1 10 02 01 01 02 01 21 30 08 A1 03 81 01 45 82 01 00", "40@15"),
+    ("A1 08 02 01 01 02 01 1F 30 00", "40@10"),
+    ("A1 0A 02 01 01 02 01 22 30 02 A1 00", "40@12"),
+    ("A1 08 02 01 03 02 01 23 81 00", "41@8"),
+    ("A1 09 02 01 05 02 01 1E 02 01 01", "41@8"),
+    ("A1 09 02 01 05 02 01 1E 02 80 01", "41@8"),
+    ("A1 16 02 01 01 02 01 21 30 0E A1 0C 81 02 44 4D A2 06 82 01 01 81 01 32", "41@18"),
+    ("A1 1A 02 01 01 02 01 21 30 12 A1 0D 81 03 45 55 52 A2 06 81 01 32 82 01 01 83 01 00", "41@25"),
+    ("A1 1D 02 01 01 02 01 21 30 15 A1 0D 81 03 45 55 52 A2 06 81 01 32 82 01 01 82 01 00 82 01 00", "41@28"),
+    ("A1 0C 02 01 04 02 01 23 30 04 81 00 05 00", "41@12"),
+    ("A1 0C 02 01 04 02 01 23 30 02 81 00 05 00", "6"),
+    ("A1 0E 02 01 04 02 01 23 30 06 81 00 A0 02 81 00", "41@14"),
+    ("A1 07 02 01 05 02 01 1E 0A", "42@8"),
+    ("A1 09 02 01 05 02 01 1E 0A 82 01", "42@8"),
+    ("A1 09 02 01 05 02 01 1E 0A 02 01", "42@8"),
+    ("A1 0A 02 01 04 02 01 23 30 02 81 01", "42@10"),
+    ("A1 0A 02 01 04 02 01 23 30 03 81 00", "42@8"),
+    ("A1 09 02 01 05 02 01 1E 0A 83 01", "2"),
+    ("A1 08 02 01 06 02 01 20 02 00", "43@8"),
+    ("A1 12 02 01 02 02 01 24 30 0A 30 08 A1 06 30 04 02 02 00 05", "43@16"),
+    ("A1 13 02 01 02 02 01 24 30 0B 30 09 A1 07 30 05 02 03 FF FF FF", "43@16"),
+    ("A1 11 02 01 02 02 01 24 30 09 30 07 A1 05 30 03 02 01 FF", "44@16"),
+    ("A1 14 02 01 02 02 01 24 30 0C 30 0A A1 08 30 06 02 04 01 00 00 00", "44@16"),
+    ("A1 0A 02 01 06 02 01 20 02 02 00 0B", "43@8"),
+    ("A1 09 02 01 06 02 01 20 02 01 0B", "44@8"),
+    ("A1 09 02 01 05 02 01 1E 05 01 00", "41@8"),
+    ("A1 09 02 01 05 02 01 21 05 01 00", "44@8"),
+    ("A1 0B 02 01 04 02 01 23 30 03 81 01 00", "44@10"),
+    ("A1 1A 02 01 01 02 01 21 30 12 A1 0D 81 03 45 55 D2 A2 06 81 01 32 82 01 01 82 01 00", "44@12"),
+    ("A1 10 02 01 04 02 01 23 30 08 81 00 A0 04 80 02 31 41", "44@14"),
+    ("A1 0E 02 01 04 02 01 23 30 06 81 00 A0 02 80 00", "43@14"),
+    ("A1 14 02 01 04 02 01 23 30 0C 81 00 A0 08 A1 06 0A 01 05 12 01 37", "44@16"),
+    ("A1 55 02 01 01 02 01 1F 30 4D (30 05 0A 01 00 84 00) × 11", "45@80"),
+    ("A1 50 02 01 01 02 01 1F 30 48 (30 05 0A 01 00 84 00) × 10 05 00", "41@80"),
+    ("A1 50 02 01 01 02 01 1F 30 48 (30 05 0A 01 00 84 00) × 10 30 80", "45@80"),
+    ("A1 52 02 01 01 02 01 1F 30 80 (30 05 0A 01 00 84 00) × 10 30 83 00 00", "2"),
+    ("A1 81 93 02 01 01 02 01 22 30 81 8A A1 81 84 (30 02 05 00) × 33 82 01 00", "45@143"),
+    ("A1 07 02 01 05 02 01 25 05", "7"),
+    ("A1 81 08 02 01 03 02 01 23 81 00", "41@9"),
+    ("A1 80 02 01 01 02 01 21 30 80 00 00 00 00", "40@10"),
+)
 # Facility elements, and their starts or the refusal.
 TILINGS = (
     ("1C 0E 91 A1 80 02 01 05 02 01 1E 0A 01 01 00 00", (0, [3])),
@@ -170,19 +214,32 @@ def repeated(text):
 
 
 def refusal(text):
-    """The number of a refusal. 40 to 45 tell finer why an argument or result is refused 9."""
-    number = int(text.partition("@")[0])
-    return 9 if 40 <= number <= 45 else number
+    """A refusal's number, its offset (0 for none), and no record."""
+    number, _, offset = text.partition("@")
+    return int(number), int(offset or 0), None
+
+
+def fields():
+    for i, (given, wanted) in enumerate(FIELDS, 1):
+        check(f"F{i}", aoc.locate(repeated(given)), refusal(wanted))
+    # 01's cases with 9, and units at their tag.
+    check("C6 with 23 for 21", aoc.locate(C6[:7] + b"\x23" + C6[8:]), (41, 8, None))
+    check("C8 with 0B", aoc.locate(C8[:-1] + b"\x0B"), (44, 8, None))
+    for entry, number in (("02 04 01 00 00 00", 44), ("02 03 FF FF FF", 43), ("02 02 00 05", 43)):
+        check("units " + entry, aoc.locate(units_in(entry)), (number, 16, None))
+    # Rejects sent remain the same.
+    check("41 in reply", aoc.reply(C6[:7] + b"\x23" + C6[8:], 254), (0, octets("A4 06 02 01 03 81 01 02")))
+    check("40 of a result in reply", aoc.reply(octets("A2 08 02 01 05 30 03 02 01 1E"), 254), (0, octets("A4 06 02 01 05 82 01 02")))
 
 
 def unnumbered():
     for i, (given, wanted) in enumerate(UNNUMBERED, 1):
-        number, record = aoc.read(repeated(given))
+        number, offset, record = aoc.locate(repeated(given))
         if " " in wanted:
             check(f"L{i}", (number, aoc.write(record, 254)), (0, (0, octets(wanted))))
             check(f"L{i}, the same with numbers", record, aoc.read(octets(wanted))[1])
         else:
-            check(f"L{i}", (number, record), (refusal(wanted), None))
+            check(f"L{i}", (number, offset, record), refusal(wanted))
     for given, wanted in TILINGS:
         check(given, aoc.element(octets(given)), wanted)
         # A component of an element that was cut rightly is whole: it has its end, and nothing after it.
@@ -299,9 +356,10 @@ def generated(count):
     source = inputs.component_source(rng)
     for _ in range(count):
         given = next(source)
-        number, found = aoc.read(given)
+        number, offset, found = aoc.locate(given)
         if number:
-            check("a refusal 1 to 9", (number in range(1, 10), found), (True, None))
+            inside = 8 <= offset <= len(given) if number in range(40, 46) else number in range(1, 9) and offset == 0
+            check("a refusal 1 to 8, or 40 to 45 with an offset", (inside, found), (True, None))
             continue
         written_number, written = aoc.write(found, 254)
         check("written", (written_number, len(written) <= len(given)), (0, True))
@@ -317,6 +375,7 @@ def main():
     count = int(sys.argv[1]) if len(sys.argv) > 1 else 3000
     components()
     unnumbered()
+    fields()
     lists()
     padded()
     line_program()

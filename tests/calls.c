@@ -240,9 +240,23 @@ static void test_refusals(void)
 {
     static const uint8_t allowed[6] = {0, 1 << AOC_PHASE_IDLE, 1 << AOC_PHASE_ESTABLISHMENT, 1 << AOC_PHASE_ESTABLISHMENT | 1 << AOC_PHASE_ACTIVE,
                                        1 << AOC_PHASE_CLEARING, 1 << AOC_PHASE_ESTABLISHMENT | 1 << AOC_PHASE_ACTIVE | 1 << AOC_PHASE_CLEARING};
-    static const char *const bad[] = {
-        "", "A1 83", "", "A5", "A1 00 00", "A1 00", "A1 09 02 01 07 02 01 25 0A 01 01", "A3 06 02 01 05 02 01 01",
-        "A1 08 02 01 03 02 01 23 81 00",
+    static const struct {
+        uint8_t number;
+        const char *hex;
+    } bad[] = {
+        {1, ""},
+        {2, "A1 FF"},
+        {3, ""},
+        {4, "A5"},
+        {5, "A1 00 00"},
+        {6, "A1 00"},
+        {7, "A1 09 02 01 07 02 01 25 0A 01 01"},
+        {8, "A3 06 02 01 05 02 01 01"},
+        {40, "A1 06 02 01 01 02 01 21"},
+        {41, "A1 08 02 01 03 02 01 23 81 00"},
+        {42, "A1 07 02 01 05 02 01 1E 0A"},
+        {43, "A1 08 02 01 06 02 01 20 02 00"},
+        {44, "A1 09 02 01 06 02 01 20 02 01 0B"},
     };
     static const aoc_services all_three = {1, 1, 1};
     for (int phase = AOC_PHASE_IDLE; phase <= AOC_PHASE_ENDED; phase++) {
@@ -256,9 +270,10 @@ static void test_refusals(void)
             if (o.number)
                 CHECK(!memcmp(&before, &call.account, sizeof before), "a refused event");
         }
-        for (uint8_t number = 1; number <= 9; number++) {
+        for (size_t i = 0; i < sizeof bad / sizeof *bad; i++) {
             uint8_t octets[300] = {0};
-            size_t n = number == 3 ? 255 : unhex(bad[number - 1], octets);
+            uint8_t number = bad[i].number;
+            size_t n = number == 3 ? 255 : unhex(bad[i].hex, octets);
             to_phase(phase);
             aoc_account before = call.account;
             int heard = phase >= AOC_PHASE_ESTABLISHMENT && phase <= AOC_PHASE_CLEARING;

@@ -52,7 +52,7 @@ static void answer_read(const char *rest)
     aoc_answer a;
     memset(&a, MARK, sizeof a);
     aoc_read(octets, unhex(rest, octets), &a);
-    printf("%u ", (unsigned)a.refusal);
+    printf("%u %u ", (unsigned)a.refusal, (unsigned)a.offset);
     put_hex(&a.record, sizeof a.record);
 }
 

@@ -21,9 +21,14 @@ static aoc_record record_of(const char *name)
     return read_octets(NULL, 0).record;
 }
 
+static int refused_at(aoc_answer a, uint32_t number, uint32_t offset)
+{
+    return a.refusal == number && a.offset == offset && all(&a.record, sizeof a.record, 0);
+}
+
 static int refused(aoc_answer a, uint32_t number)
 {
-    return a.refusal == number && all(&a.record, sizeof a.record, 0);
+    return refused_at(a, number, 0);
 }
 
 /* ------------------------------------------------------------------ reading */
@@ -162,20 +167,6 @@ static void test_refusals(void)
         {8, "A3 06 02 01 05 02 01 01"},
         {8, "A3 06 02 01 05 02 01 FF"},
         {8, "A3 05 02 01 05 06 80"},
-        {9, "A1 06 02 01 05 02 01 1E"},
-        {9, "A1 09 02 01 05 02 01 1E 0A 01 03"},
-        {9, "A1 09 02 01 05 02 01 1E 2A 01 01"},
-        {9, "A1 08 02 01 03 02 01 23 81 00"},
-        {9, "A1 09 02 01 06 02 01 20 02 01 0B"},
-        {9, "A1 14 02 01 02 02 01 24 30 0C 30 0A A1 08 30 06 02 04 01 00 00 00"},
-        {9, "A1 13 02 01 02 02 01 24 30 0B 30 09 A1 07 30 05 02 03 FF FF FF"},
-        {9, "A1 12 02 01 02 02 01 24 30 0A 30 08 A1 06 30 04 02 02 00 05"},
-        {9, "A1 0C 02 01 02 02 01 24 30 04 30 02 A1 00"},
-        {9, "A2 08 02 01 05 30 03 02 01 1E"},
-        {9, "A1 0B 02 01 04 02 01 23 30 80 81 00 00"},
-        {9, "A1 80 02 01 04 02 01 23 30 04 30 80 A1 00 00 00"},
-        {9, "A1 80 02 01 04 02 01 23 30 02 83 FF 00 00"},
-        {9, "A1 80 02 01 01 02 01 1F 30 80 00 00 00 00"},
     };
     for (size_t i = 0; i < sizeof cases / sizeof *cases; i++)
         CHECK(refused(read_hex(cases[i].hex), cases[i].number), cases[i].hex);
@@ -188,6 +179,68 @@ static void test_refusals(void)
         CHECK(refused(read_octets(lend(octets, n), n), AOC_REFUSED_TOO_LONG), "over 254 octets");
     memset(octets, 0, sizeof octets);
     CHECK(refused(read_octets(lend(octets, 255), 255), AOC_REFUSED_TOO_LONG), "255 zeros");
+}
+
+/* Every number of an argument or result, and its offset. */
+static void test_offsets(void)
+{
+    static const struct {
+        uint32_t number, offset;
+        const char *hex;
+    } cases[] = {
+        {40, 8, "A1 06 02 01 01 02 01 21"},
+        {40, 10, "A2 08 02 01 05 30 03 02 01 1E"},
+        {40, 10, "A2 0A 02 01 05 30 03 02 01 1E 05 00"},
+        {40, 10, "A1 08 02 01 01 02 01 21 30 00"},
+        {40, 15, "A1 0D 02 01 01 02 01 21 30 05 A1 03 81 01 45"},
+        {43, 12, "A1 0F 02 01 01 02 01 21 30 07 A1 02 81 00 82 01 00"},
+        {40, 15, "A1 10 02 01 01 02 01 21 30 08 A1 03 81 01 45 82 01 00"},
+        {40, 10, "A1 08 02 01 01 02 01 1F 30 00"},
+        {40, 12, "A1 0A 02 01 01 02 01 22 30 02 A1 00"},
+        {41, 8, "A1 08 02 01 03 02 01 23 81 00"},
+        {41, 8, "A1 09 02 01 05 02 01 1E 02 01 01"},
+        {41, 8, "A1 09 02 01 05 02 01 1E 02 80 01"},
+        {41, 18, "A1 16 02 01 01 02 01 21 30 0E A1 0C 81 02 44 4D A2 06 82 01 01 81 01 32"},
+        {41, 25, "A1 1A 02 01 01 02 01 21 30 12 A1 0D 81 03 45 55 52 A2 06 81 01 32 82 01 01 83 01 00"},
+        {41, 28, "A1 1D 02 01 01 02 01 21 30 15 A1 0D 81 03 45 55 52 A2 06 81 01 32 82 01 01 82 01 00 82 01 00"},
+        {41, 12, "A1 0C 02 01 04 02 01 23 30 04 81 00 05 00"},
+        {41, 14, "A1 0E 02 01 04 02 01 23 30 06 81 00 A0 02 81 00"},
+        {42, 8, "A1 07 02 01 05 02 01 1E 0A"},
+        {42, 8, "A1 09 02 01 05 02 01 1E 0A 82 01"},
+        {42, 8, "A1 09 02 01 05 02 01 1E 0A 02 01"},
+        {42, 10, "A1 0A 02 01 04 02 01 23 30 02 81 01"},
+        {42, 8, "A1 0A 02 01 04 02 01 23 30 03 81 00"},
+        {43, 8, "A1 08 02 01 06 02 01 20 02 00"},
+        {43, 16, "A1 12 02 01 02 02 01 24 30 0A 30 08 A1 06 30 04 02 02 00 05"},
+        {43, 16, "A1 13 02 01 02 02 01 24 30 0B 30 09 A1 07 30 05 02 03 FF FF FF"},
+        {44, 16, "A1 11 02 01 02 02 01 24 30 09 30 07 A1 05 30 03 02 01 FF"},
+        {44, 16, "A1 14 02 01 02 02 01 24 30 0C 30 0A A1 08 30 06 02 04 01 00 00 00"},
+        {43, 8, "A1 0A 02 01 06 02 01 20 02 02 00 0B"},
+        {44, 8, "A1 09 02 01 06 02 01 20 02 01 0B"},
+        {41, 8, "A1 09 02 01 05 02 01 1E 05 01 00"},
+        {44, 8, "A1 09 02 01 05 02 01 21 05 01 00"},
+        {44, 10, "A1 0B 02 01 04 02 01 23 30 03 81 01 00"},
+        {44, 12, "A1 1A 02 01 01 02 01 21 30 12 A1 0D 81 03 45 55 D2 A2 06 81 01 32 82 01 01 82 01 00"},
+        {44, 14, "A1 10 02 01 04 02 01 23 30 08 81 00 A0 04 80 02 31 41"},
+        {43, 14, "A1 0E 02 01 04 02 01 23 30 06 81 00 A0 02 80 00"},
+        {44, 16, "A1 14 02 01 04 02 01 23 30 0C 81 00 A0 08 A1 06 0A 01 05 12 01 37"},
+        {41, 9, "A1 81 08 02 01 03 02 01 23 81 00"},
+        {40, 10, "A1 80 02 01 01 02 01 21 30 80 00 00 00 00"},
+        {44, 8, "A1 09 02 01 05 02 01 1E 0A 01 03"},
+        {41, 8, "A1 09 02 01 05 02 01 1E 2A 01 01"},
+    };
+    for (size_t i = 0; i < sizeof cases / sizeof *cases; i++)
+        CHECK(refused_at(read_hex(cases[i].hex), cases[i].number, cases[i].offset), cases[i].hex);
+
+    /* one entry more than a list may have, judged at its tag */
+    static const uint8_t rates[] = {0xA1, 0x55, 2, 1, 1, 2, 1, 0x1F, 0x30, 0x4D}, rate[] = {0x30, 5, 0x0A, 1, 0, 0x84, 0};
+    uint8_t octets[87];
+    memcpy(octets, rates, sizeof rates);
+    for (size_t i = 0; i < 11; i++)
+        memcpy(octets + sizeof rates + i * sizeof rate, rate, sizeof rate);
+    CHECK(refused_at(read_octets(lend(octets, sizeof octets), sizeof octets), AOC_REFUSED_PAST_LIMIT, 80), "eleven rates");
+    octets[80] = 5;
+    CHECK(refused_at(read_octets(lend(octets, sizeof octets), sizeof octets), AOC_REFUSED_UNEXPECTED, 80), "ten rates and another tag");
 }
 
 /* ------------------------------------------------------------------ writing */
@@ -615,7 +668,9 @@ static void test_noise(void)
             octets[chance() % n] = (uint8_t)(chance() >> 30);
         const uint8_t *lent = lend(octets, n);
         aoc_answer a = read_octets(lent, n);
-        CHECK(a.refusal <= AOC_REFUSED_BAD_ARGUMENT && (!a.refusal || all(&a.record, sizeof a.record, 0)), "any octets");
+        int in_argument = a.refusal >= AOC_REFUSED_MISSING && a.refusal <= AOC_REFUSED_PAST_LIMIT;
+        CHECK((in_argument || a.refusal <= AOC_REFUSED_UNKNOWN_ERROR) && (!a.refusal || all(&a.record, sizeof a.record, 0)), "any octets");
+        CHECK(in_argument ? a.offset >= 8 && a.offset <= n : a.offset == 0, "any octets");
         CHECK(!memcmp(lent, octets, n), "any octets");
         uint8_t *buffer = make_room(AOC_LIMIT_REPLY_OCTETS);
         aoc_written reply = aoc_reply(lent, n, buffer, AOC_LIMIT_REPLY_OCTETS);
@@ -639,6 +694,7 @@ int main(void)
     test_valid();
     test_fields();
     test_refusals();
+    test_offsets();
     test_rooms();
     test_out_of_range();
     test_long_records();

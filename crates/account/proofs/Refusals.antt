@@ -3,11 +3,12 @@ use Prim.Native.Nat.{ℕ, _≤_, _<_}
 use mathlib.Core.Path.{_≡_, refl, sym, _∙_, ap}
 use mathlib.Core.List.{List, [], _∷_}
 use mathlib.Core.Bool.{Bool, true, false, not, _&&_, _||_}
+use mathlib.Core.Logic.{_⊎_, inl, inr}
 use lib.Dec.{eqb, leb}
 use native.Mathlib.Omega.{arith}
-use borrow.Author.Tests.{not-true, not-false, leb-true}
+use borrow.Author.Tests.{not-true, not-false, leb-true, le-leb, lt-leb}
 use Rattle.types.specs.Frames.{readOf}
-use Rattle.types.proofs.Theorems.{refusal-small}
+use Rattle.types.proofs.Theorems.{refusal}
 use Rattle.same.specs.Same.{each}
 use Rattle.same.proofs.Each.{each-fails}
 use Rattle.account.specs.Outcome.{among, refusals, isRefusal}
@@ -29,14 +30,21 @@ fails t (n ∷ l) q k m =
 
 -- ---- what is read is accepted, or refused by one of these numbers
 
-below-ten : (n : ℕ) → n ≤ 9 → (eqb n 0 || isRefusal n) ≡ true
+abbrev decoding : ℕ → Bool
+decoding n = leb n 8 || (leb 40 n && leb n 45)
+
+in-list : (n : ℕ) → n ≤ 45 → (not (decoding n) || (eqb n 0 || isRefusal n)) ≡ true
 unfolding isRefusal
-below-ten n h =
-    by-test (eqb n 0 || isRefusal n) (λ t. t)
-    (λ f. never (sym (each-fails 10 (λ m. eqb m 0 || isRefusal m) n (omega arith) f)))
+in-list n h =
+    by-test (not (decoding n) || (eqb n 0 || isRefusal n)) (λ t. t)
+    (λ f. never (sym (each-fails 46 (λ m. not (decoding m) || (eqb m 0 || isRefusal m)) n (omega arith) f)))
 
 pub decoding-refusal : (o : List ℕ) → eqb (readOf o .number) 0 ≡ false → isRefusal (readOf o .number) ≡ true
-decoding-refusal o q = rw q at (below-ten (readOf o .number) (refusal-small o))
+decoding-refusal o q = rw q at (go (readOf o .number) (refusal o))
+  where
+    go : (n : ℕ) → (n ≤ 8) ⊎ ((40 ≤ n) × (n ≤ 45)) → (eqb n 0 || isRefusal n) ≡ true
+    go n (inl l) = rw (le-leb n 8 l) at (in-list n (omega (arith, l)))
+    go n (inr h) = rw (lt-leb n 8 (omega (arith, h .0)), le-leb 40 n (h .0), le-leb n 45 (h .1)) at (in-list n (h .1))
 
 -- so its number fits an octet
 pub number-fits : (o : List ℕ) → readOf o .number ≤ 255

@@ -95,7 +95,7 @@ among n [] = false
 among n (x ∷ l) = eqb n x || among n l
 
 abbrev pub refusals : List ℕ
-refusals = 1 ∷ 2 ∷ 3 ∷ 4 ∷ 5 ∷ 6 ∷ 7 ∷ 8 ∷ 9 ∷ 13 ∷ 14 ∷ []
+refusals = 1 ∷ 2 ∷ 3 ∷ 4 ∷ 5 ∷ 6 ∷ 7 ∷ 8 ∷ 40 ∷ 41 ∷ 42 ∷ 43 ∷ 44 ∷ 45 ∷ 13 ∷ 14 ∷ []
 
 unfoldable pub isRefusal : ℕ → Bool
 isRefusal n = among n refusals

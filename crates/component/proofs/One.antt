@@ -11,6 +11,7 @@ use Rattle.component.specs.Whole.{wholeAnswer}
 abbrev main : Answer → MainAnswer
 main a = record {
   number = a .number;
+  offset = a .offset;
   value = record {
     frame = a .value .frame;
     unnamed = a .value .unnamed;

@@ -1,10 +1,11 @@
 -- What is left to read after a head: an argument or result, and then the ends.
 -- Assumes nothing.
-use Prim.Native.Nat.{ℕ, _≤_, _<_}
+use Prim.Native.Nat.{ℕ, _%_, _≤_, _<_}
 use native.Mathlib.Omega.{arith}
 use mathlib.Core.Path.{_≡_, refl, ap, sym, _∙_}
 use mathlib.Core.Bool.{Bool, true, false, not, _&&_, _||_, true≢false, cond}
 use mathlib.Core.List.{List}
+use lib.ListN.{length}
 use lib.Dec.{leb, eqb}
 use borrow.Author.Tests.{leb-false, le-leb, lt-leb, eqb-true, eqb-false, ne-eqb}
 use Rattle.coding.specs.Reader.{Ans, choice, tagged}
@@ -19,31 +20,32 @@ use Rattle.types.specs.declared.Entries.{Entries}
 use Rattle.types.specs.declared.Charge.{Charge}
 use Rattle.types.specs.Entries.{noEntries}
 use Rattle.types.specs.Arguments.{noCharge, available, chargeOf}
-use Rattle.types.specs.Frames.{inArgument, sameRecord, request, carrying, argument, accepted, refused}
+use Rattle.types.specs.Frames.{inArgument, sameRecord, request, carrying, argument, readOf}
+use Rattle.types.proofs.Theorems.{offset-small}
 use Rattle.heads.specs.declared.Head.{Head}
-use Rattle.heads.specs.Heads.{argumentCode, numberCode, headRecord, tailOf, restOf}
+use Rattle.heads.specs.Heads.{argumentCode, faultBy, headRecord, tailOf, restOf}
 use Rattle.heads.proofs.Answers.{goes-in, refuses-in, ends, leaves, twice, over-in}
 use Rattle.component.specs.declared.MainAnswer.{MainAnswer}
 use Rattle.component.specs.Whole.{withEntries}
-use Rattle.component.specs.Ways.{isRequest, isPlain, mayList, plainAnswer, listOf}
+use Rattle.component.specs.Ways.{isRequest, isPlain, mayList, held, plainAnswer, listOf}
 
 module _ {A : Type 0} (to : A → Record) (from : Record → A) (g : Run A) (h : Head) (s : List ℕ) (z : A) {k p n : ℕ} {v : A}
     (e : (k, p, v, n) ≡ shown z (g .read s (h .at) (h .stop))) where
-  pub tail-fault : (k ≡ 0 → ⊥) → refused (numberCode (argumentCode k)) ≡ tailOf (canonical to from sameRecord (marked inArgument g)) h s
+  pub tail-fault : {j : ℕ} → j ≡ argumentCode k → (k ≡ 0 → ⊥) → halt (faultBy j) p ≡ tailOf (canonical to from sameRecord (marked inArgument g)) h s
   unfolding tailOf canonical over marked
-  tail-fault k0 = simp flat (refuses-in _ _ z e k0)
+  tail-fault q k0 = rw q (simp flat (refuses-in _ _ z e k0))
 
-  pub tail-over : k ≡ 0 → (n ≡ h .stop → ⊥) → refused 6 ≡ tailOf (canonical to from sameRecord (marked inArgument g)) h s
+  pub tail-over : k ≡ 0 → (n ≡ h .stop → ⊥) → halt (faultBy 41) n ≡ tailOf (canonical to from sameRecord (marked inArgument g)) h s
   unfolding tailOf canonical over marked
-  tail-over k0 ne = simp flat (goes-in _ _ z e k0 (over-in _ _ _ _ _ ne))
+  tail-over k0 ne = simp flat (goes-in _ _ z e k0 (over-in _ _ _ _ _ _ ne))
 
-  pub tail-more : k ≡ 0 → n ≡ h .stop → (h .next ≡ h .end → ⊥) → refused 6 ≡ tailOf (canonical to from sameRecord (marked inArgument g)) h s
+  pub tail-more : k ≡ 0 → n ≡ h .stop → (h .next ≡ h .end → ⊥) → halt (faultBy 41) (h .next) ≡ tailOf (canonical to from sameRecord (marked inArgument g)) h s
   unfolding tailOf canonical over marked
-  tail-more k0 eq ne = simp flat (goes-in _ _ z e k0 (twice _ _ _ _ _ eq (leaves _ _ _ _ ne)))
+  tail-more k0 eq ne = simp flat (goes-in _ _ z e k0 (twice _ _ _ _ _ _ eq (leaves _ _ _ _ ne)))
 
-  pub tail-done : k ≡ 0 → n ≡ h .stop → h .next ≡ h .end → accepted (to v) ≡ tailOf (canonical to from sameRecord (marked inArgument g)) h s
+  pub tail-done : k ≡ 0 → n ≡ h .stop → h .next ≡ h .end → got (to v) (length s) ≡ tailOf (canonical to from sameRecord (marked inArgument g)) h s
   unfolding tailOf canonical over marked
-  tail-done k0 eq en = simp flat (goes-in _ _ z e k0 (twice _ _ _ _ _ eq (ends _ _ _ _ en)))
+  tail-done k0 eq en = simp flat (goes-in _ _ z e k0 (twice _ _ _ _ _ _ eq (ends _ _ _ _ en)))
 
 -- where 05 does not come next, the charge is available
 pub untagged : (o : ℕ) (s : List ℕ) (at end : ℕ) → tagged s at end 0x05 ≡ false → (available o) .read s at end ≡ (chargeOf o) .read s at end
@@ -65,17 +67,23 @@ none-left m q = ap (withEntries m) (ap (listOf (m .number)) q ∙ none (eqb (m .
     none true = refl
     none false = refl
 
-pub refused-left : (m : MainAnswer) (e : Entries) {n : ℕ} → (n ≡ 0 → ⊥) → plainAnswer m ≡ refused n → withEntries m (listOf (m .number) e) ≡ refused n
-refused-left m e n0 q = rw (ne-eqb (m .number) 0 (λ z. n0 (sym (ap (λ (a : Answer). a .number) q) ∙ z))) q
+pub refused-left : (m : MainAnswer) (e : Entries) {a : Answer} → plainAnswer m ≡ a → (a .number ≡ 0 → ⊥) → withEntries m (listOf (m .number) e) ≡ a
+refused-left m e q n0 = rw (ne-eqb (m .number) 0 (λ z. n0 (sym (ap (λ (a : Answer). a .number) q) ∙ z))) q
+
+-- an offset that is given has one octet
+pub held-read : (s : List ℕ) → held (readOf s) ≡ readOf s
+held-read s =
+    let few : readOf s .offset % 256 ≡ readOf s .offset = omega (arith, offset-small s) in
+    ap (λ o. record { number = readOf s .number; offset = o; value = readOf s .value }) few
 
 -- ---- what is left, by the head
 
 module _ (h : Head) (s : List ℕ) where
-  pub rest-refused : h .frame ≡ 0 → refused (h .number) ≡ restOf h s
+  pub rest-refused : h .frame ≡ 0 → halt (faultBy (h .fault)) (h .at) ≡ restOf h s
   unfolding restOf
   rest-refused e = rw e
 
-  pub rest-whole : (h .frame ≡ 0 → ⊥) → 3 ≤ h .frame → accepted (headRecord h) ≡ restOf h s
+  pub rest-whole : (h .frame ≡ 0 → ⊥) → 3 ≤ h .frame → got (headRecord h) (length s) ≡ restOf h s
   unfolding restOf
   rest-whole n l = rw (ne-eqb _ _ n, le-leb _ _ l)
 

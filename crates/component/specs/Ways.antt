@@ -1,5 +1,5 @@
 -- Which way the reader takes after a head, and what its inner functions answer.
-use Prim.Native.Nat.{ℕ}
+use Prim.Native.Nat.{ℕ, _%_}
 use mathlib.Core.Path.{_≡_}
 use mathlib.Core.List.{List}
 use mathlib.Core.Bool.{Bool, not, _&&_, _||_, cond}
@@ -30,6 +30,10 @@ mayList h s =
     not (eqb (h .frame) 0) && (not (leb 3 (h .frame)) && (not (isRequest h) && (not (isPlain (h .operation)) && not (tagged s (h .at) (h .stop) 0x05))))
 
 -- ---- an answer and its list
+
+-- the offset's low octet is kept; an offset has no other (`offset-small`)
+abbrev pub held : Answer → Answer
+held a = record { number = a .number; offset = a .offset % 256; value = a .value }
 
 -- no list
 abbrev pub plainAnswer : MainAnswer → Answer

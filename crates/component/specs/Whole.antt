@@ -13,6 +13,7 @@ entries numbers rows = record { numbers = numbers; octets = rows }
 abbrev pub withEntries : MainAnswer → Entries → Answer
 withEntries m e = record {
   number = m .number;
+  offset = m .offset;
   value = record {
     frame = m .value .frame;
     unnamed = m .value .unnamed;

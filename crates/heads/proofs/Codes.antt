@@ -7,7 +7,7 @@ use mathlib.Core.Bool.{Bool, true, false, _||_, true≢false, cond}
 use mathlib.Core.List.{List, [], _∷_}
 use lib.ListN.{length}
 use lib.Dec.{ltb, eqb}
-use borrow.Author.Tests.{lt-ltb, le-ltb, ltb-true, ltb-false, eqb-true, ne-eqb}
+use borrow.Author.Tests.{lt-ltb, le-ltb, lt-leb, le-leb, ltb-true, ltb-false, eqb-true, ne-eqb}
 use Rattle.coding.specs.Reader.{Fault, code}
 use Rattle.coding.specs.Reader.Fault.{missing, unexpected, cut, form, shortest, contents, limit, named}
 use Rattle.coding.specs.Contents.{negative, numberFrom}
@@ -16,8 +16,8 @@ use Rattle.coding.specs.Codec.{has, all}
 use Rattle.coding.specs.Leaves.{listing}
 use Rattle.coding.specs.Shown.{verdict}
 use Rattle.coding.proofs.Basic.{and-left, and-right}
-use Rattle.types.specs.Frames.{outside, inArgument, numberOf, namedNumber, operations, errors}
-use Rattle.heads.specs.Heads.{outsideCode, argumentCode, numberCode, knownIn}
+use Rattle.types.specs.Frames.{outside, inArgument, numberOf, operations, errors}
+use Rattle.heads.specs.Heads.{outsideCode, argumentCode, faultBy, knownIn}
 
 pub outside-code : (w : Fault) → outsideCode (code w) ≡ code (outside w)
 outside-code missing = refl
@@ -27,8 +27,7 @@ outside-code form = refl
 outside-code shortest = refl
 outside-code contents = refl
 outside-code limit = refl
-outside-code (named n) =
-    simp (ne-eqb (100 + n) 40 (λ h. omega arith), ne-eqb (100 + n) 41 (λ h. omega arith), ne-eqb (100 + n) 42 (λ h. omega arith))
+outside-code (named n) = let l : 100 ≤ 100 + n = omega arith in simp (le-leb 100 (100 + n) l)
 
 pub argument-code : (w : Fault) → argumentCode (code w) ≡ code (inArgument w)
 argument-code missing = refl
@@ -38,22 +37,32 @@ argument-code form = refl
 argument-code shortest = refl
 argument-code contents = refl
 argument-code limit = refl
-argument-code (named n) =
-    let l : 100 ≤ 100 + n = omega arith in
-    simp (ne-eqb (100 + n) 2 (λ h. omega arith), le-ltb (100 + n) 100 l)
+argument-code (named n) = let l : 100 ≤ 100 + n = omega arith in simp (le-ltb (100 + n) 100 l)
 
-pub number-code : (w : Fault) → numberCode (code w) ≡ numberOf w
-number-code missing = refl
-number-code unexpected = refl
-number-code cut = refl
-number-code form = refl
-number-code shortest = refl
-number-code contents = refl
-number-code limit = refl
-number-code (named n) =
+pub told-by : (w : Fault) → faultBy (code w) ≡ w
+told-by missing = refl
+told-by unexpected = refl
+told-by cut = refl
+told-by form = refl
+told-by shortest = refl
+told-by contents = refl
+told-by limit = refl
+told-by (named n) =
     let l : 100 ≤ 100 + n = omega arith in
     let e : 100 + n - 100 ≡ n = omega arith in
-    simp (le-ltb (100 + n) 100 l) (ap namedNumber e)
+    simp (le-leb 100 (100 + n) l) (ap named e)
+
+-- a fault that is told by no number of its own is the frame's
+pub number-low : (k : ℕ) → k < 100 → (k ≡ 2 → ⊥) → 6 ≡ numberOf (faultBy k)
+number-low k l n = rw (lt-leb 100 k l, ne-eqb k 2 n) (go (eqb k 40) (eqb k 41) (eqb k 42) (eqb k 43) (eqb k 45))
+  where
+    go : (a b c d e : Bool) → 6 ≡ numberOf (cond a missing (cond b unexpected (cond c cut (cond d shortest (cond e limit contents)))))
+    go true b c d e = refl
+    go false true c d e = refl
+    go false false true d e = refl
+    go false false false true e = refl
+    go false false false false true = refl
+    go false false false false false = refl
 
 -- ---- values of a list
 

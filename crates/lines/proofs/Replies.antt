@@ -12,19 +12,20 @@ use borrow.Author.Tests.{le-leb, ne-eqb}
 use Rattle.coding.proofs.Laws.{Octets}
 use Rattle.types.specs.declared.Answer.{Answer}
 use Rattle.types.specs.Frames.{component, readOf, accepted}
-use Rattle.types.proofs.Theorems.{answers, read-fits}
+use Rattle.types.proofs.Theorems.{refusal, no-offset, read-fits}
 use Rattle.writer.specs.declared.Written.{Written}
 use Rattle.writer.specs.Outcome.{writeOf, leftOf, done}
 use Rattle.lines.specs.Text.{hexText, refusedText}
 use Rattle.lines.specs.Lines.{replyTo}
 
 module _ (s : List ℕ) (a : Answer) (e : a ≡ readOf s) where
-  -- a refusal's number has one digit
-  pub number-below : a .number < 10
+  -- a refusal's number has two digits at most
+  pub number-below : a .number < 100
   number-below =
-      elim (answers s) [
-        | inl x ↦ let f : a .number ≡ 0 = ap (λ (z : Answer). z .number) (e ∙ x .1) in omega arith
-        | inr x ↦ let f : a .number ≡ x .0 = ap (λ (z : Answer). z .number) (e ∙ x .3) in omega (arith, x .2)
+      let f : a .number ≡ readOf s .number = ap (λ (z : Answer). z .number) e in
+      elim (refusal s) [
+        | inl x ↦ omega (arith, x)
+        | inr x ↦ omega (arith, x .1)
       ]
 
   pub reply-refused : (a .number ≡ 0 → ⊥) → refusedText (a .number) ≡ replyTo s
@@ -37,7 +38,10 @@ module _ (s : List ℕ) (a : Answer) (e : a ≡ readOf s) where
 
   -- the record that was read is the answer's
   read-value : a .number ≡ 0 → readOf s ≡ accepted (a .value)
-  read-value h = sym e ∙ ap (λ (n : ℕ). record { number = n; value = a .value }) h
+  read-value h =
+      let f : a .number ≡ readOf s .number = ap (λ (z : Answer). z .number) e in
+      let o : a .offset ≡ 0 = ap (λ (z : Answer). z .offset) e ∙ no-offset s (omega arith) in
+      sym e ∙ (λ i. record { number = h i; offset = o i; value = a .value })
 
   -- and the writer never refuses it
   module _ (o : Octets s) (h : a .number ≡ 0) (w : Written) (p q : List ℕ) (k : 254 ≤ length p)

@@ -1,3 +1,4 @@
 pub mod Ids
 pub mod Silence
 pub mod Replies
+pub mod Before

@@ -84,7 +84,7 @@ replies n first i s =
     (when (eqb n 8) _ _ (named-valid 0x83 2 refl (omega arith) i s, named-few 0x83 2 refl (omega arith) i s)
     (when (eqb n 7) _ _ (when (eqb first 0xa2) _ _ (named-valid 0x82 2 refl (omega arith) i s, named-few 0x82 2 refl (omega arith) i s)
     (named-valid 0x81 1 refl (omega arith) i s, named-few 0x81 1 refl (omega arith) i s))
-    (when (eqb n 9) _ _ (when (eqb first 0xa2) _ _ (named-valid 0x82 2 refl (omega arith) i s, named-few 0x82 2 refl (omega arith) i s)
+    (when (leb 40 n) _ _ (when (eqb first 0xa2) _ _ (named-valid 0x82 2 refl (omega arith) i s, named-few 0x82 2 refl (omega arith) i s)
     (named-valid 0x81 2 refl (omega arith) i s, named-few 0x81 2 refl (omega arith) i s))
     (null-valid 0x80 2 refl (omega arith), null-few 0x80 2 refl (omega arith))))))
 

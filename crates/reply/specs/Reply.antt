@@ -4,7 +4,7 @@ use mathlib.Core.List.{List, [], _∷_}
 use mathlib.Core.Bool.{Bool, _||_, cond}
 use mathlib.Core.Logic.{inl, inr}
 use lib.ListN.{length, getD}
-use lib.Dec.{eqb}
+use lib.Dec.{leb, eqb}
 use Rattle.coding.specs.Reader.{Ans, after, enteredAny}
 use Rattle.coding.specs.Reader.Ans.{got, halt}
 use Rattle.coding.specs.Reader.Fault.{named}
@@ -33,14 +33,14 @@ unfoldable pub isSilent : List ℕ → Bool
 isSilent s = eqb (readOf s .number) 0 || eqb (firstOf s) 0xa4
 
 -- with NULL: refusals 1, 2, 3, 5 general 2; 4 general 0; 6 general 1
--- with the identifier: 7 invoke 1 (in a result: result 2); 8 error 2; 9 invoke 2 (in a result: result 2)
+-- with the identifier: 7 invoke 1 (in a result: result 2); 8 error 2; 40 to 45 invoke 2 (in a result: result 2)
 abbrev pub replyBy : ℕ → ℕ → ℕ → Record
 replyBy n first i =
     cond (eqb n 4) (rejects (inl tt) 0x80 0)
     (cond (eqb n 6) (rejects (inl tt) 0x80 1)
     (cond (eqb n 8) (rejects (inr i) 0x83 2)
     (cond (eqb n 7) (cond (eqb first 0xa2) (rejects (inr i) 0x82 2) (rejects (inr i) 0x81 1))
-    (cond (eqb n 9) (cond (eqb first 0xa2) (rejects (inr i) 0x82 2) (rejects (inr i) 0x81 2))
+    (cond (leb 40 n) (cond (eqb first 0xa2) (rejects (inr i) 0x82 2) (rejects (inr i) 0x81 2))
     (rejects (inl tt) 0x80 2)))))
 
 unfoldable pub replyTo : List ℕ → Record

@@ -105,7 +105,7 @@ fn reject_for(number: u32, first: u8, id: u16) -> types::Record
         }
         return named(id, 0x81, 1);
     }
-    if number == 9 {
+    if 40 <= number {
         if first == 0xa2 {
             return named(id, 0x82, 2);
         }

@@ -3,5 +3,7 @@ pub mod UnitLaws
 pub mod RateLaws
 pub mod ArgumentLaws
 pub mod FrameLaws
+pub mod Places
+pub mod Faults
 pub mod Theorems
 pub mod Tiles

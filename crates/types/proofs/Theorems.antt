@@ -8,90 +8,119 @@ use mathlib.Core.Logic.{_⊎_, inl, inr, _↔_}
 use native.Mathlib.Omega.{arith}
 use lib.ListN.{length}
 use lib.Dec.{ltb, leb, eqb}
-use borrow.Author.Tests.{ltb-true, ltb-false, lt-ltb, le-ltb, eqb-false}
+use borrow.Author.Tests.{ltb-true, ltb-false, lt-ltb, le-ltb, lt-leb, le-leb}
 use Rattle.coding.specs.Reader.{Ans, Fault}
 use Rattle.coding.specs.Reader.Ans.{got, halt}
 use Rattle.coding.specs.Reader.Fault.{missing, unexpected, cut, form, shortest, contents, limit, named}
-use Rattle.coding.specs.Codec.{has, apart}
-use Rattle.coding.proofs.Basic.{picked, unpicked, apart-has}
+use Rattle.coding.proofs.Basic.{never, picked, unpicked}
 use Rattle.coding.proofs.Laws.{Octets}
 use Rattle.coding.proofs.Whole.{Encodes, reads-meaning, one-meaning, means-itself, no-longer}
 use Rattle.coding.proofs.Whole as Whole
 use Rattle.coding.proofs.Frames.{frames-ends}
 use Rattle.types.specs.declared.Record.{Record}
 use Rattle.types.specs.declared.Answer.{Answer}
-use Rattle.types.specs.Frames.{outside, namedNumber, numberOf, noRecord, frame, component, accepted, refused, answered, readOf}
+use Rattle.types.specs.Frames.{outside, numberOf, noRecord, frame, component, readWhole, accepted, refusedAt, refused, answered, readOf}
 use Rattle.types.proofs.FrameLaws.{componentLaws}
+use Rattle.types.proofs.Places.{Ends}
+use Rattle.types.proofs.Faults.{Told, whole-told}
 
 -- ---- refusals
 
-abbrev Refusal : ℕ → Type 0
-Refusal n = (1 ≤ n) × (n ≤ 9)
-
--- those that are told by their own number
-abbrev numbered : List ℕ
-numbered = 1 ∷ 4 ∷ 5 ∷ 7 ∷ 8 ∷ []
-
-named-refusal : (n : ℕ) → Refusal (namedNumber n)
-unfolding apart
-named-refusal n = go (leb 40 n) (has numbered n) refl
-  where
-    go : (b d : Bool) → has numbered n ≡ d → Refusal (cond b 9 (cond d n 6))
-    go true d q = (omega arith, omega arith)
-    go false true q =
-        let some = eqb-false n 0 (apart-has numbered (λ k. eqb k 0) n refl q) in
-        (omega (arith, some), ltb-false 9 n (apart-has numbered (λ k. ltb 9 k) n refl q))
-    go false false q = (omega arith, omega arith)
-
--- every fault's number is one of 1 to 9
-pub refusal : (w : Fault) → (1 ≤ numberOf w) × (numberOf w ≤ 9)
-refusal missing = (omega arith, omega arith)
-refusal unexpected = (omega arith, omega arith)
-refusal cut = (omega arith, omega arith)
-refusal form = (omega arith, omega arith)
-refusal shortest = (omega arith, omega arith)
-refusal contents = (omega arith, omega arith)
-refusal limit = (omega arith, omega arith)
-refusal (named n) = named-refusal n
-
--- no fault has the number 0
-pub refused-some : (w : Fault) → numberOf w ≡ 0 → ⊥
-refused-some w e = omega (arith, refusal w .0)
-
 -- over 254 octets are refused with 3, and others are read
-pub read-long : (s : List ℕ) → 254 < length s → readOf s ≡ refused 3
-unfolding readOf
+pub read-long : (s : List ℕ) → 254 < length s → readWhole s ≡ halt (named 3) 0
+unfolding readWhole
 read-long s h = picked _ _ (lt-ltb _ (length s) (omega (arith, h)))
 
-pub read-short : (s : List ℕ) → length s ≤ 254 → readOf s ≡ answered (component .read s 0 (length s))
-unfolding readOf
+pub read-short : (s : List ℕ) → length s ≤ 254 → readWhole s ≡ component .read s 0 (length s)
+unfolding readWhole
 read-short s h = unpicked _ _ (le-ltb _ (length s) (omega (arith, h)))
 
--- octets are accepted with a record, or refused by a number from 1 to 9 with no record
-pub answers : (s : List ℕ) → ((x : Record) × (readOf s ≡ accepted x)) ⊎ ((n : ℕ) × (1 ≤ n) × (n ≤ 9) × (readOf s ≡ refused n))
-answers s = go (ltb 254 (length s)) refl (component .read s 0 (length s)) (read-short s)
-  where
-    go : (t : Bool) → ltb 254 (length s) ≡ t → (a : Ans Record) → (length s ≤ 254 → readOf s ≡ answered a)
-        → ((x : Record) × (readOf s ≡ accepted x)) ⊎ ((n : ℕ) × (1 ≤ n) × (n ≤ 9) × (readOf s ≡ refused n))
-    go true q a e = inr (3, omega arith, omega arith, read-long s (ltb-true 254 (length s) q))
-    go false q (got x n) e = inl (x, e (ltb-false 254 (length s) q))
-    go false q (halt w p) e = inr (numberOf w, refusal w .0, refusal w .1, e (ltb-false 254 (length s) q))
+-- the number that a fault was given
+abbrev number-of : Ans Record → ℕ
+number-of (got x n) = 0
+number-of (halt w p) = numberOf w
 
--- the number of an answer is at most 9
-pub refusal-small : (s : List ℕ) → readOf s .number ≤ 9
-refusal-small s =
-    elim (answers s) [
-      | inl a ↦ let e : readOf s .number ≡ 0 = ap (λ (z : Answer). z .number) (a .1) in omega arith
-      | inr r ↦ let e : readOf s .number ≡ r .0 = ap (λ (z : Answer). z .number) (r .3) in omega (arith, r .2)
-    ]
+-- octets are accepted with a record; or refused, with no record, by 1 to 8 and no offset; or by 40 to 45 and an offset that lies inside the octets or
+-- at their end, and not before the eighth
+pub data Answers (s : List ℕ) : Type 0 where
+  taken : (x : Record) → readOf s ≡ accepted x → Answers s
+  framed : (n : ℕ) → 1 ≤ n → n ≤ 8 → readOf s ≡ refused n → Answers s
+  argued : (n p : ℕ) → 40 ≤ n → n ≤ 45 → 8 ≤ p → p ≤ length s → length s ≤ 254 → readOf s ≡ refusedAt n p → Answers s
+
+told : (s : List ℕ) (n p : ℕ) → ((1 ≤ n) × (n ≤ 8)) ⊎ ((40 ≤ n) × (n ≤ 45) × (8 ≤ p)) → p ≤ length s → readWhole s ≡ halt (named n) p → Answers s
+unfolding readOf
+told s n p (inl l) i e = framed n (l .0) (l .1) (rw (e, lt-leb 40 n (omega (arith, l .1))))
+told s n p (inr h) i e = argued n p (h .0) (h .1) (h .2) i (short (ltb 254 (length s)) refl) (rw (e, le-leb 40 n (h .0)))
+  where
+    short : (t : Bool) → ltb 254 (length s) ≡ t → length s ≤ 254
+    short true q =
+        let z : _≡_ {A = ℕ} n 3 = ap number-of (sym e ∙ read-long s (ltb-true 254 (length s) q)) in
+        absurd (omega (arith, h .0, z))
+    short false q = ltb-false 254 (length s) q
+
+by-fault : (s : List ℕ) (w : Fault) (p : ℕ) → Told w p → p ≤ length s → readWhole s ≡ halt w p → Answers s
+unfolding readOf
+by-fault s missing p h i e = framed 6 (omega arith) (omega arith) (ap answered e)
+by-fault s unexpected p h i e = framed 6 (omega arith) (omega arith) (ap answered e)
+by-fault s cut p h i e = framed 6 (omega arith) (omega arith) (ap answered e)
+by-fault s form p h i e = framed 2 (omega arith) (omega arith) (ap answered e)
+by-fault s shortest p h i e = framed 6 (omega arith) (omega arith) (ap answered e)
+by-fault s contents p h i e = framed 6 (omega arith) (omega arith) (ap answered e)
+by-fault s limit p h i e = framed 6 (omega arith) (omega arith) (ap answered e)
+by-fault s (named n) p h i e = told s n p h i e
+
+pub answers : (s : List ℕ) → Answers s
+unfolding readOf
+answers s = go (readWhole s) refl (whole-told s)
+  where
+    go : (a : Ans Record) → readWhole s ≡ a → Ends Told 0 (length s) a → Answers s
+    go (got x n) e h = taken x (ap answered e)
+    go (halt w p) e h = by-fault s w p (h .0) (h .2) e
+
+-- the number of an answer: 0, or 1 to 8, or 40 to 45
+pub refusal : (s : List ℕ) → (readOf s .number ≤ 8) ⊎ ((40 ≤ readOf s .number) × (readOf s .number ≤ 45))
+refusal s = go (answers s)
+  where
+    go : Answers s → (readOf s .number ≤ 8) ⊎ ((40 ≤ readOf s .number) × (readOf s .number ≤ 45))
+    go (taken x e) = inl (rw e (omega arith))
+    go (framed n a b e) = inl (rw e b)
+    go (argued n p a b c d f e) = inr (rw e (a, b))
+
+-- an offset is given with 40 to 45 alone
+pub no-offset : (s : List ℕ) → readOf s .number < 40 → readOf s .offset ≡ 0
+no-offset s l = go (answers s)
+  where
+    go : Answers s → readOf s .offset ≡ 0
+    go (taken x e) = rw e
+    go (framed n a b e) = rw e
+    go (argued n p a b c d f e) = absurd (omega (arith, a, l, ap (λ (z : Answer). z .number) e))
+
+-- and one that is given lies inside the octets or at their end, and is never 0
+pub offset-inside : (s : List ℕ) → 40 ≤ readOf s .number → (8 ≤ readOf s .offset) × (readOf s .offset ≤ length s) × (length s ≤ 254)
+offset-inside s l = go (answers s)
+  where
+    go : Answers s → (8 ≤ readOf s .offset) × (readOf s .offset ≤ length s) × (length s ≤ 254)
+    go (taken x e) = absurd (omega (arith, l, ap (λ (z : Answer). z .number) e))
+    go (framed n a b e) = absurd (omega (arith, b, l, ap (λ (z : Answer). z .number) e))
+    go (argued n p a b c d f e) = rw e (c, d, f)
+
+-- so it is an octet
+pub offset-small : (s : List ℕ) → readOf s .offset ≤ 254
+offset-small s = go (answers s)
+  where
+    go : Answers s → readOf s .offset ≤ 254
+    go (taken x e) = rw e (omega arith)
+    go (framed n a b e) = rw e (omega arith)
+    go (argued n p a b c d f e) = rw e (omega (arith, d, f))
 
 -- a refusal leaves no record
 pub no-record : (s : List ℕ) → (readOf s .number ≡ 0 → ⊥) → readOf s .value ≡ noRecord
-no-record s h =
-    elim (answers s) [
-      | inl a ↦ absurd (h (ap (λ (z : Answer). z .number) (a .1)))
-      | inr r ↦ ap (λ (z : Answer). z .value) (r .3)
-    ]
+no-record s h = go (answers s)
+  where
+    go : Answers s → readOf s .value ≡ noRecord
+    go (taken x e) = absurd (h (ap (λ (z : Answer). z .number) e))
+    go (framed n a b e) = ap (λ (z : Answer). z .value) e
+    go (argued n p a b c d f e) = ap (λ (z : Answer). z .value) e
 
 -- ---- reading and meaning
 
@@ -100,25 +129,36 @@ component-ends : (s : List ℕ) (a e n : ℕ) (x : Record) → component .read s
 unfolding component
 component-ends = frames-ends _ (λ r. 0xa0 + r .frame) outside (named 5) frame
 
-answered-got : (a : Ans Record) (x : Record) → answered a ≡ accepted x → (n : ℕ) × (a ≡ got x n)
-answered-got (got y n) x e = (n, ap (λ (z : Answer). got (z .value) n) e)
-answered-got (halt w p) x e = absurd (refused-some w (ap (λ (z : Answer). z .number) e))
+-- no fault that is met has the number 0
+some-number : (w : Fault) (p : ℕ) → Told w p → 1 ≤ numberOf w
+some-number missing p h = omega arith
+some-number unexpected p h = omega arith
+some-number cut p h = omega arith
+some-number form p h = omega arith
+some-number shortest p h = omega arith
+some-number contents p h = omega arith
+some-number limit p h = omega arith
+some-number (named n) p (inl h) = h .0
+some-number (named n) p (inr h) = omega (arith, h .0)
+
+answered-got : (a : Ans Record) (x : Record) (e : ℕ) → Ends Told 0 e a → answered a ≡ accepted x → (n : ℕ) × (a ≡ got x n)
+answered-got (got y n) x l h e = (n, ap (λ (z : Answer). got (z .value) n) e)
+answered-got (halt w p) x l h e = absurd (omega (arith, some-number w p (h .0), ap (λ (z : Answer). z .number) e))
 
 -- octets are accepted with a record exactly where they are at most 254 and, whole, mean it
 pub reads : (s : List ℕ) (x : Record) → Octets s → (readOf s ≡ accepted x) ↔ ((length s ≤ 254) × Encodes component x s)
+unfolding readOf
 reads s x os = (
-  λ e. there (ltb 254 (length s)) refl e,
-  λ p. read-short s (p .0) ∙ ap answered (reads-meaning component componentLaws s x os .1 (p .1)),
+  λ e. let g = answered-got (readWhole s) x (length s) (whole-told s) e in there (ltb 254 (length s)) refl (g .0) (g .1),
+  λ p. ap answered (read-short s (p .0) ∙ reads-meaning component componentLaws s x os .1 (p .1)),
 )
   where
-    there : (t : Bool) → ltb 254 (length s) ≡ t → readOf s ≡ accepted x → (length s ≤ 254) × Encodes component x s
-    there true q e =
-        let z : _≡_ {A = ℕ} 3 0 = ap (λ (a : Answer). a .number) (sym (read-long s (ltb-true 254 (length s) q)) ∙ e) in absurd (omega arith)
-    there false q e =
+    there : (t : Bool) → ltb 254 (length s) ≡ t → (n : ℕ) → readWhole s ≡ got x n → (length s ≤ 254) × Encodes component x s
+    there true q n e = absurd (never (sym (read-long s (ltb-true 254 (length s) q)) ∙ e))
+    there false q n e =
         let l = ltb-false 254 (length s) q in
-        let g = answered-got (component .read s 0 (length s)) x (sym (read-short s l) ∙ e) in
-        let n = component-ends s 0 (length s) (g .0) x (g .1) in
-        (l, reads-meaning component componentLaws s x os .0 (g .1 ∙ ap (got x) n))
+        let g = sym (read-short s l) ∙ e in
+        (l, reads-meaning component componentLaws s x os .0 (g ∙ ap (got x) (component-ends s 0 (length s) n x g)))
 
 -- octets mean at most one record
 pub one-record : (s : List ℕ) (x y : Record) → Octets s → Encodes component x s → Encodes component y s → x ≡ y
@@ -132,7 +172,8 @@ written-means x v l = means-itself component componentLaws x v (omega arith)
 
 -- and is read back
 pub reads-back : (x : Record) → component .valid x ≡ true → length (component .write x) ≤ 254 → readOf (component .write x) ≡ accepted x
-reads-back x v l = read-short (component .write x) l ∙ ap answered (Whole.reads-back component componentLaws x v (omega arith))
+unfolding readOf
+reads-back x v l = ap answered (read-short (component .write x) l ∙ Whole.reads-back component componentLaws x v (omega arith))
 
 -- a record that is read is valid, and what is written of it is no longer than what was read, so it always fits
 pub read-fits : (s : List ℕ) (x : Record) → Octets s → readOf s ≡ accepted x

@@ -1,6 +1,6 @@
 -- Octets to try: what reading them answers, the answer's amount in thousandths, and what is written of it. One statement over one table.
 use mathlib.Core.Bool.{cond}
-use Prim.Native.Nat.{ℕ, _*_, _^_}
+use Prim.Native.Nat.{ℕ, zero, suc, _*_, _^_}
 use mathlib.Core.Path.{_≡_, refl}
 use mathlib.Core.List.{List, [], _∷_, map}
 use lib.ListN.{replicate}
@@ -18,7 +18,7 @@ use Rattle.types.specs.Charges.{scaled, currencyLeaf, currency, money, d
 use Rattle.types.specs.Entries.{unit}
 use Rattle.types.specs.Rates.{duration, flatRate, volume, coded, plainRate, price, rate}
 use Rattle.types.specs.Arguments.{plain, bare, noCharge, moneyFigure, listFigure, arranged, sign, inMoney, inUnits, during, subtotals, ending, settled, finals, rates, arrangement, available, chargeOf}
-use Rattle.types.specs.Frames.{value, carries, carrying, asks, request, argument, invoke, returnResult, fails, failed, returnError, caller, problem, problems, reject, frame, component, accepted, refused, readOf}
+use Rattle.types.specs.Frames.{value, carries, carrying, asks, request, argument, invoke, returnResult, fails, failed, returnError, caller, problem, problems, reject, frame, component, accepted, refusedAt, refused, readWhole, readOf}
 
 pub record Case : Type 0 where
   pub octets : List ℕ
@@ -56,7 +56,7 @@ c5 = 0xa3 ∷ 0x06 ∷ 0x02 ∷ 0x01 ∷ 0x05 ∷ 0x02 ∷ 0x01 ∷ 0x1a ∷ []
 unfoldable pub c6 : List ℕ
 c6 = 0xa1 ∷ 0x08 ∷ 0x02 ∷ 0x01 ∷ 0x03 ∷ 0x02 ∷ 0x01 ∷ 0x21 ∷ 0x81 ∷ 0x00 ∷ []
 
--- the same contents for operation 35: bad argument
+-- the same contents for operation 35: another tag is expected
 unfoldable pub c6-ending : List ℕ
 c6-ending = 0xa1 ∷ 0x08 ∷ 0x02 ∷ 0x01 ∷ 0x03 ∷ 0x02 ∷ 0x01 ∷ 0x23 ∷ 0x81 ∷ 0x00 ∷ []
 
@@ -108,6 +108,59 @@ plain-endless = 0xa1 ∷ 0x80 ∷ 0x02 ∷ 0x01 ∷ 0x05 ∷ 0x02 ∷ 0x01 ∷ 0
 unfoldable pub inner-cut : List ℕ
 inner-cut = 0xa1 ∷ 0x0a ∷ 0x02 ∷ 0x01 ∷ 0x04 ∷ 0x02 ∷ 0x01 ∷ 0x23 ∷ 0x30 ∷ 0x80 ∷ 0x81 ∷ 0x00 ∷ []
 
+-- no argument
+unfoldable pub missing-argument : List ℕ
+missing-argument = 0xa1 ∷ 0x06 ∷ 0x02 ∷ 0x01 ∷ 0x01 ∷ 0x02 ∷ 0x01 ∷ 0x21 ∷ []
+
+-- no amount: the end of the A1 that it belongs in, though an octet follows
+unfoldable pub missing-amount : List ℕ
+missing-amount = 0xa1 ∷ 0x10 ∷ 0x02 ∷ 0x01 ∷ 0x01 ∷ 0x02 ∷ 0x01 ∷ 0x21 ∷ 0x30 ∷ 0x08 ∷ 0xa1 ∷ 0x03 ∷ 0x81 ∷ 0x01 ∷ 0x45 ∷ 0x82 ∷ 0x01 ∷ 0x00 ∷ []
+
+-- the enclosing end is the place of the end marker
+unfoldable pub missing-marked : List ℕ
+missing-marked = 0xa1 ∷ 0x80 ∷ 0x02 ∷ 0x01 ∷ 0x01 ∷ 0x02 ∷ 0x01 ∷ 0x21 ∷ 0x30 ∷ 0x80 ∷ 0x00 ∷ 0x00 ∷ 0x00 ∷ 0x00 ∷ []
+
+-- 82 twice: the second is left over
+unfoldable pub twice-total : List ℕ
+twice-total = 0xa1 ∷ 0x1d ∷ 0x02 ∷ 0x01 ∷ 0x01 ∷ 0x02 ∷ 0x01 ∷ 0x21 ∷ 0x30 ∷ 0x15 ∷ 0xa1 ∷ 0x0d ∷ 0x81 ∷ 0x03 ∷ 0x45 ∷ 0x55 ∷ 0x52 ∷ 0xa2 ∷ 0x06 ∷ 0x81 ∷ 0x01 ∷ 0x32 ∷ 0x82 ∷ 0x01 ∷ 0x01 ∷ 0x82 ∷ 0x01 ∷ 0x00 ∷ 0x82 ∷ 0x01 ∷ 0x00 ∷ []
+
+-- offsets count the octets as they were given
+unfoldable pub longer-length : List ℕ
+longer-length = 0xa1 ∷ 0x81 ∷ 0x08 ∷ 0x02 ∷ 0x01 ∷ 0x03 ∷ 0x02 ∷ 0x01 ∷ 0x23 ∷ 0x81 ∷ 0x00 ∷ []
+
+-- contents beyond the 30: the element inside it fails
+unfoldable pub beyond-inner : List ℕ
+beyond-inner = 0xa1 ∷ 0x0a ∷ 0x02 ∷ 0x01 ∷ 0x04 ∷ 0x02 ∷ 0x01 ∷ 0x23 ∷ 0x30 ∷ 0x02 ∷ 0x81 ∷ 0x01 ∷ []
+
+-- contents beyond the A1: the 30 itself fails
+unfoldable pub beyond-outer : List ℕ
+beyond-outer = 0xa1 ∷ 0x0a ∷ 0x02 ∷ 0x01 ∷ 0x04 ∷ 0x02 ∷ 0x01 ∷ 0x23 ∷ 0x30 ∷ 0x03 ∷ 0x81 ∷ 0x00 ∷ []
+
+-- a currency without an octet
+unfoldable pub empty-currency : List ℕ
+empty-currency = 0xa1 ∷ 0x0f ∷ 0x02 ∷ 0x01 ∷ 0x01 ∷ 0x02 ∷ 0x01 ∷ 0x21 ∷ 0x30 ∷ 0x07 ∷ 0xa1 ∷ 0x02 ∷ 0x81 ∷ 0x00 ∷ 0x82 ∷ 0x01 ∷ 0x00 ∷ []
+
+-- units FF FF FF: not shortest, which comes before the range
+unfoldable pub units-padded : List ℕ
+units-padded = 0xa1 ∷ 0x13 ∷ 0x02 ∷ 0x01 ∷ 0x02 ∷ 0x02 ∷ 0x01 ∷ 0x24 ∷ 0x30 ∷ 0x0b ∷ 0x30 ∷ 0x09 ∷ 0xa1 ∷ 0x07 ∷ 0x30 ∷ 0x05 ∷ 0x02 ∷ 0x03 ∷ 0xff ∷ 0xff ∷ 0xff ∷ []
+
+-- units FF: -1, shortest and out of range
+unfoldable pub units-below : List ℕ
+units-below = 0xa1 ∷ 0x11 ∷ 0x02 ∷ 0x01 ∷ 0x02 ∷ 0x02 ∷ 0x01 ∷ 0x24 ∷ 0x30 ∷ 0x09 ∷ 0x30 ∷ 0x07 ∷ 0xa1 ∷ 0x05 ∷ 0x30 ∷ 0x03 ∷ 0x02 ∷ 0x01 ∷ 0xff ∷ []
+
+-- so many free rates, and then what follows
+unfoldable pub freeRates : ℕ → List ℕ → List ℕ
+freeRates zero xs = xs
+freeRates (suc n) xs = 0x30 ∷ 0x05 ∷ 0x0a ∷ 0x01 ∷ 0x00 ∷ 0x84 ∷ 0x00 ∷ freeRates n xs
+
+-- an eleventh rate, whose length is not looked at
+unfoldable pub eleven-rates : List ℕ
+eleven-rates = 0xa1 ∷ 0x50 ∷ 0x02 ∷ 0x01 ∷ 0x01 ∷ 0x02 ∷ 0x01 ∷ 0x1f ∷ 0x30 ∷ 0x48 ∷ freeRates 10 (0x30 ∷ 0x80 ∷ [])
+
+-- another tag there is left over
+unfoldable pub ten-rates-over : List ℕ
+ten-rates-over = 0xa1 ∷ 0x50 ∷ 0x02 ∷ 0x01 ∷ 0x01 ∷ 0x02 ∷ 0x01 ∷ 0x1f ∷ 0x30 ∷ 0x48 ∷ freeRates 10 (0x05 ∷ 0x00 ∷ [])
+
 -- ---- what they say; frame 1 is an invoke, 2 a return result
 
 -- EUR, 50 times ten
@@ -125,6 +178,10 @@ took s x m w = record { octets = s; answer = accepted x; thousandths = m; writte
 abbrev no : ℕ → List ℕ → Case
 no n s = record { octets = s; answer = refused n; thousandths = 0; written = [] }
 
+-- refused in the argument or result, at an offset
+abbrev noAt : ℕ → ℕ → List ℕ → Case
+noAt n p s = record { octets = s; answer = refusedAt n p; thousandths = 0; written = [] }
+
 unfoldable pub cases : List Case
 cases =
     took c1 (carries 1 1 33 (plain (moneyFigure halfEuro))) 500 c1
@@ -134,10 +191,10 @@ cases =
     ∷ took c4 (carries 2 5 30 noCharge) 0 c4
     ∷ took c5 (fails 5 26) 0 c5
     ∷ took c6 (carries 1 3 33 (bare 1)) 0 c6
-    ∷ no 9 c6-ending
+    ∷ noAt 41 8 c6-ending
     ∷ took c7 (carries 1 4 35 (bare 1)) 0 c7
     ∷ took c8 (carries 1 6 32 (arranged 10)) 0 c8
-    ∷ no 9 c8-eleven
+    ∷ noAt 44 8 c8-eleven
     ∷ took c1-endless (carries 1 1 33 (plain (moneyFigure halfEuro))) 500 c1
     ∷ took c3-endless (asks 5 1) 0 c3
     ∷ took c7-endless (carries 1 4 35 (bare 1)) 0 c7
@@ -146,13 +203,25 @@ cases =
     ∷ no 1 one-marker
     ∷ no 5 over-marker
     ∷ no 2 plain-endless
-    ∷ no 9 inner-cut
+    ∷ noAt 42 8 inner-cut
+    ∷ noAt 40 8 missing-argument
+    ∷ noAt 40 15 missing-amount
+    ∷ noAt 40 10 missing-marked
+    ∷ noAt 41 28 twice-total
+    ∷ noAt 41 9 longer-length
+    ∷ noAt 42 10 beyond-inner
+    ∷ noAt 42 8 beyond-outer
+    ∷ noAt 43 12 empty-currency
+    ∷ noAt 43 16 units-padded
+    ∷ noAt 44 16 units-below
+    ∷ noAt 45 80 eleven-rates
+    ∷ noAt 41 80 ten-rates-over
     ∷ []
 
 -- ---- the same table by the definitions
 
 unfoldable pub answerOf : List ℕ → Answer
-unfolding after tagged neither choice extent numberedAt endless marker turn searched findEnd spanned lengthAt opened blamed closed constructed enteredAny part mapped narrowed judged primitive optional entries listOf numberFrom negative shortest natural every text null has prim cons nothing pair alt over maybe some·more leafOver leads barring marked sort frames shape canonical pad padded number string nullLeaf signed16 identifier listing listed only given rows table scaled currencyLeaf currency money digitsLeaf identified publicParty plainParty party unassociated association unit duration flatRate volume coded plainRate price rate sign inMoney inUnits during subtotals ending settled finals rates arrangement available chargeOf value carrying request argument invoke returnResult failed returnError caller problem problems reject frame component readOf
+unfolding after tagged neither choice extent numberedAt endless marker turn searched findEnd spanned lengthAt opened blamed closed constructed enteredAny part mapped narrowed judged primitive optional entries listOf numberFrom negative shortest natural every text null has prim cons nothing pair alt over maybe some·more leafOver leads barring marked sort frames shape canonical pad padded number string nullLeaf signed16 identifier listing listed only given rows table scaled currencyLeaf currency money digitsLeaf identified publicParty plainParty party unassociated association unit duration flatRate volume coded plainRate price rate sign inMoney inUnits during subtotals ending settled finals rates arrangement available chargeOf value carrying request argument invoke returnResult failed returnError caller problem problems reject frame component readWhole readOf
 answerOf s = readOf s
 
 unfoldable pub amountOf : Answer → ℕ
@@ -166,5 +235,5 @@ unfoldable pub tried : Case → Case
 tried c = let a : Answer = answerOf (c .octets) in record { octets = c .octets; answer = a; thousandths = amountOf a; written = writtenOf a }
 
 pub cases-right : map tried cases ≡ cases
-unfolding cases tried answerOf amountOf writtenOf c1 c2 c3 c3-long c4 c5 c6 c6-ending c7 c8 c8-eleven c1-endless c3-endless c7-endless c7-mixed no-marker one-marker over-marker plain-endless inner-cut
+unfolding cases tried answerOf amountOf writtenOf c1 c2 c3 c3-long c4 c5 c6 c6-ending c7 c8 c8-eleven c1-endless c3-endless c7-endless c7-mixed no-marker one-marker over-marker plain-endless inner-cut missing-argument missing-amount missing-marked twice-total longer-length beyond-inner beyond-outer empty-currency units-padded units-below freeRates eleven-rates ten-rates-over
 cases-right = refl

@@ -8,50 +8,52 @@ use lib.Dec.{ltb, leb, eqb}
 use Rattle.coding.specs.Reader.{Ans, Fault}
 use Rattle.coding.specs.Reader.Ans.{got, halt}
 use Rattle.coding.specs.Reader.Fault.{missing, unexpected, cut, form, shortest, contents, limit, named}
-use Rattle.coding.specs.Codec.{Run, has, prim, cons, alt, canonical, sort, frames, leads, barring, marked, pickRun}
+use Rattle.coding.specs.Codec.{Run, prim, cons, alt, canonical, sort, frames, leads, barring, marked, pickRun}
 use Rattle.coding.specs.Leaves.{number, nullLeaf, identifier, listed}
 use Rattle.types.specs.declared.Charge.{Charge}
 use Rattle.types.specs.declared.Record.{Record}
 use Rattle.types.specs.declared.Answer.{Answer}
 use Rattle.types.specs.Arguments.{noCharge, sameCharge, chargeOf}
 
--- ---- where a fault is
+-- ---- the number of a fault, by the part that it is in
 
--- the component's own element: no first octet 1, its value 4, length octets missing or contents beyond the end 1, length form 2
+-- the component's own element, its argument or result, or the frame between the two
+pub data Part : Type 0 where
+  ofComponent ofFrame ofArgument : Part
+
+abbrev pub byPart : Part → ℕ → ℕ → ℕ → ℕ
+byPart ofComponent c f a = c
+byPart ofFrame c f a = f
+byPart ofArgument c f a = a
+
+-- the component: no first octet 1, its value 4, length octets, contents or end marker missing 1
+-- the frame: 6
+-- the argument or result: 40 missing, 41 unexpected tag or something left over, 42 length octets, contents or end marker missing,
+-- 43 contents not shortest, or empty where some are needed, 44 any other bad contents, 45 an entry past its list's limit
+-- everywhere: length form 2, and what was given its number keeps it
+abbrev pub numberIn : Part → Fault → ℕ
+numberIn p missing = byPart p 1 6 40
+numberIn p unexpected = byPart p 4 6 41
+numberIn p cut = byPart p 1 6 42
+numberIn p form = 2
+numberIn p shortest = byPart p 6 6 43
+numberIn p contents = byPart p 6 6 44
+numberIn p limit = byPart p 6 6 45
+numberIn p (named n) = n
+
+-- what leaves a part is told by its number
 abbrev pub outside : Fault → Fault
-outside missing = named 1
-outside unexpected = named 4
-outside cut = named 1
-outside form = form
-outside shortest = shortest
-outside contents = contents
-outside limit = limit
-outside (named n) = named n
+outside w = named (numberIn ofComponent w)
 
--- in the argument or result: kept with its kind
 abbrev pub inArgument : Fault → Fault
-inArgument missing = named 40
-inArgument unexpected = named 41
-inArgument cut = named 42
-inArgument form = form
-inArgument shortest = named 43
-inArgument contents = named 44
-inArgument limit = named 45
-inArgument (named n) = named n
-
--- the number given: those that are named, 9 in the argument or result, 2 for the form, and 6 for all else
-abbrev pub namedNumber : ℕ → ℕ
-namedNumber n = cond (leb 40 n) 9 (cond (has (1 ∷ 4 ∷ 5 ∷ 7 ∷ 8 ∷ []) n) n 6)
+inArgument w = named (numberIn ofArgument w)
 
 abbrev pub numberOf : Fault → ℕ
-numberOf missing = 6
-numberOf unexpected = 6
-numberOf cut = 6
-numberOf form = 2
-numberOf shortest = 6
-numberOf contents = 6
-numberOf limit = 6
-numberOf (named n) = namedNumber n
+numberOf w = numberIn ofFrame w
+
+-- the offset is given with 40 to 45 alone
+abbrev pub offsetOf : ℕ → ℕ → ℕ
+offsetOf n p = cond (leb 40 n) p 0
 
 -- ---- the record
 
@@ -151,15 +153,21 @@ component = frames (0xa1 ∷ 0xa2 ∷ 0xa3 ∷ 0xa4 ∷ []) (λ r. 0xa0 + r .fra
 
 -- ---- what reading octets answers: over 254 octets are 3
 
+unfoldable pub readWhole : List ℕ → Ans Record
+readWhole s = cond (ltb 254 (length s)) (halt (named 3) 0) (component .read s 0 (length s))
+
 abbrev pub accepted : Record → Answer
-accepted x = record { number = 0; value = x }
+accepted x = record { number = 0; offset = 0; value = x }
+
+abbrev pub refusedAt : ℕ → ℕ → Answer
+refusedAt n p = record { number = n; offset = p; value = noRecord }
 
 abbrev pub refused : ℕ → Answer
-refused n = record { number = n; value = noRecord }
+refused n = refusedAt n 0
 
 abbrev pub answered : Ans Record → Answer
 answered (got x n) = accepted x
-answered (halt w p) = refused (numberOf w)
+answered (halt w p) = refusedAt (numberOf w) (offsetOf (numberOf w) p)
 
 unfoldable pub readOf : List ℕ → Answer
-readOf s = cond (ltb 254 (length s)) (refused 3) (answered (component .read s 0 (length s)))
+readOf s = answered (readWhole s)

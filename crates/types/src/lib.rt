@@ -101,10 +101,11 @@ pub struct Record {
     pub charge: Charge,
 }
 
-// What reading octets answers: 0 and the record, or the refusal's number and zeros.
+// What reading octets answers: 0 and the record; or the refusal's number, with 40 to 45 the offset of the octet at which reading stopped, and zeros.
 #[repr(C)]
 pub struct Answer {
     pub number: u32,
+    pub offset: u32,
     pub value: Record,
 }
 

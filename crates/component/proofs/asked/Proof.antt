@@ -1,63 +1,39 @@
+-- `component::asked` meets its contract: each return by what is left to read.
 use borrow.Author.Needs.{needs}
-use mathlib.Core.Path.{_∙_}
-use Rattle.types.specs.Frames.{request}
+use mathlib.Core.Path.{_∙_, ap}
+use Rattle.types.specs.Frames.{request, answered}
+use Rattle.component.specs.Ways.{held}
 use Rattle.component.proofs.Tails.{tail-fault, tail-over, tail-more, tail-done}
 use Rattle.component.proofs.asked.Statement.{statement}
 use Rattle.component.proofs.asked.Tie as tie
 
-natural-at-requires : tie.Need-natural-at-requires
-natural-at-requires c κs = search needs
-
-inner-requires : tie.Need-inner-requires
-inner-requires c κs = search needs
-
-number-of-requires : tie.Need-number-of-requires
-number-of-requires c κs = search needs
-
-no-main-requires : tie.Need-no-main-requires
-no-main-requires c κs = search needs
-
 returns : tie.Need-returns
 unfolding request
 returns c =
-    c .no-main .ensures ∙ rw (c .before .number-of .ensures, c .before .before .inner .ensures) (tail-fault _ _ _ _ _ _ (c .before .before .before .before .before .natural-at .ensures .0) (c .before .before .before .if1 .taken))
-
-no-main-requires-2 : tie.Need-no-main-requires-2
-no-main-requires-2 c κs = search needs
+    let read = c .before .before .before .before in
+    c .no-main .ensures ∙ ap (λ x. held (answered x)) (tail-fault _ _ _ _ _ _ (read .natural-at .ensures .0) (c .before .inner .ensures) (c .before .before .if1 .taken))
 
 returns-2 : tie.Need-returns-2
 unfolding request
 returns-2 c =
-    c .no-main2 .ensures ∙ tail-over _ _ _ _ _ _ (c .before .before .before .before .before .before .natural-at .ensures .0) (c .before .before .before .before .if1 .left) (c .before .if2 .taken)
-
-no-main-requires-3 : tie.Need-no-main-requires-3
-no-main-requires-3 c κs = search needs
+    let good = c .before .before .before .before in
+    c .no-main2 .ensures ∙ ap (λ x. held (answered x)) (tail-over _ _ _ _ _ _ (good .before .before .natural-at .ensures .0) (good .if1 .left) (c .before .if2 .taken))
 
 returns-3 : tie.Need-returns-3
 unfolding request
 returns-3 c =
-    c .no-main3 .ensures ∙ tail-more _ _ _ _ _ _ (c .before .before .before .before .before .before .before .before .natural-at .ensures .0) (c .before .before .before .before .before .before .if1 .left) (c .before .before .before .if2 .left) (c .before .if3 .taken)
-
-cast-detail : tie.Need-cast-detail
-cast-detail c = search needs
+    let whole = c .before .before .before in
+    let good = whole .before .before .before in
+    c .no-main3 .ensures ∙ ap (λ x. held (answered x)) (tail-more _ _ _ _ _ _ (good .before .before .natural-at .ensures .0) (good .if1 .left) (whole .if2 .left) (c .before .if3 .taken))
 
 returns-4 : tie.Need-returns-4
 unfolding request
 returns-4 c =
-    tail-done _ _ _ _ _ _ (c .before .before .before .before .before .before .before .before .natural-at .ensures .0) (c .before .before .before .before .before .before .if1 .left) (c .before .before .before .if2 .left) (c .before .if3 .left)
+    let whole = c .before .before .before in
+    let good = whole .before .before .before in
+    ap (λ x. held (answered x)) (tail-done _ _ _ _ _ _ (good .before .before .natural-at .ensures .0) (good .if1 .left) (whole .if2 .left) (c .before .if3 .left))
 
 pub asked-spec : {M : Type 1} → statement M
 asked-spec =
     tie.close
-    (tie.spec
-    natural-at-requires
-    inner-requires
-    number-of-requires
-    no-main-requires
-    returns
-    no-main-requires-2
-    returns-2
-    no-main-requires-3
-    returns-3
-    cast-detail
-    returns-4)
+    (tie.spec (search needs) (search needs) (search needs) returns (search needs) returns-2 (search needs) returns-3 (search needs) returns-4)

@@ -3,7 +3,9 @@ use borrow.Author.Needs.{needs}
 use mathlib.Core.Path.{_∙_, ap}
 use Rattle.coding.specs.Shown.{shown}
 use Rattle.types.specs.Arguments.{noCharge}
+use Rattle.types.specs.Frames.{answered}
 use Rattle.component.specs.Whole.{withEntries}
+use Rattle.component.specs.Ways.{held}
 use Rattle.component.proofs.Tails.{untagged, rest-carried, may-list, not-plain}
 use Rattle.component.proofs.listed.Statement.{statement}
 use Rattle.component.proofs.listed.Tie as tie
@@ -27,7 +29,7 @@ returns c =
     let ended = c .before .before .before .ended in
     ap (withEntries (ended .result)) (c .clear-refused .ensures)
     ∙ ended .ensures _ (c .before .before .before .before .charge-into .ensures ∙ ap (shown noCharge) (untagged _ _ _ _ (m .given)))
-    ∙ rest-carried _ _ (m .some) (m .carries) (m .answers)
+    ∙ ap (λ x. held (answered x)) (rest-carried _ _ (m .some) (m .carries) (m .answers))
 
 pub listed-spec : {M : Type 1} → statement M
 listed-spec =

@@ -15,7 +15,7 @@ returns c =
 returns-2 : tie.Need-returns-2
 unfolding restOf
 returns-2 c =
-    (rw (c .no-head2 .ensures, c .before .number-of .ensures) (read-refused _ (c .before .before .before .before .before .if1 .left) _ (c .before .before .before .before .enter .ensures .0) (c .before .before .if2 .taken)), rw (c .no-head2 .ensures) (omega arith))
+    (rw (c .no-head2 .ensures) (read-refused _ (c .before .before .before .before .if1 .left) _ (c .before .before .before .enter .ensures .0) (c .before .if2 .taken)), rw (c .no-head2 .ensures) (omega arith))
 
 shared-slice-read-tag : tie.Need-shared-slice-read-tag
 shared-slice-read-tag c = omega (arith, c .before .before .before .enter .ensures .1 .0 (c .before .if2 .left))
@@ -39,4 +39,4 @@ returns-6 c =
 pub head-of-spec : {M : Type 1} → statement M
 head-of-spec =
     tie.close
-    (tie.spec (search needs) returns (search needs) (search needs) (search needs) returns-2 shared-slice-read-tag (search needs) returns-3 (search needs) returns-4 (search needs) returns-5 (search needs) returns-6)
+    (tie.spec (search needs) returns (search needs) (search needs) returns-2 shared-slice-read-tag (search needs) returns-3 (search needs) returns-4 (search needs) returns-5 (search needs) returns-6)

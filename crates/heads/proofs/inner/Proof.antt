@@ -1,21 +1,14 @@
+-- `heads::inner` meets its contract.
 use borrow.Author.Needs.{needs}
-use borrow.Author.Tests.{eq-eqb, ne-eqb, lt-ltb, le-ltb}
+use borrow.Author.Tests.{lt-ltb, le-ltb}
 use Rattle.heads.proofs.inner.Statement.{statement}
 use Rattle.heads.proofs.inner.Tie as tie
 
 returns : tie.Need-returns
-returns c =
-    simp (eq-eqb _ _ (c .if1 .taken))
+returns c = simp (lt-ltb _ _ (c .if1 .taken))
 
 returns-2 : tie.Need-returns-2
-returns-2 c =
-    simp (ne-eqb _ _ (c .before .if1 .left), lt-ltb _ _ (c .if2 .taken))
-
-returns-3 : tie.Need-returns-3
-returns-3 c =
-    simp (ne-eqb _ _ (c .before .if1 .left), le-ltb _ _ (c .if2 .left))
+returns-2 c = simp (le-ltb _ _ (c .if1 .left))
 
 pub inner-spec : {M : Type 1} → statement M
-inner-spec =
-    tie.close
-    (tie.spec returns (search needs) returns-2 returns-3)
+inner-spec = tie.close (tie.spec (search needs) returns returns-2)

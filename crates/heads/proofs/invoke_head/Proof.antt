@@ -1,40 +1,27 @@
+-- `heads::invoke_head` meets its contract: each return by what was read so far.
 use borrow.Author.Needs.{needs}
 use native.Mathlib.Omega.{arith}
-use mathlib.Core.Path.{refl}
 use Rattle.coding.specs.Codec.{leads}
 use Rattle.coding.proofs.Reading.{flat}
 use Rattle.types.specs.Frames.{invoke}
 use Rattle.heads.specs.Heads.{contentsOf, restOf}
-use Rattle.heads.proofs.Answers.{goes, refuses, tail-one}
+use Rattle.heads.proofs.Answers.{heading, tail-one}
 use Rattle.heads.proofs.invoke_head.Statement.{statement}
 use Rattle.heads.proofs.invoke_head.Tie as tie
 
 returns : tie.Need-returns
 unfolding restOf contentsOf invoke leads
-returns c = (
-  rw (c .no-head .ensures, c .before .number-of .ensures)
-      (simp flat (refuses _ _ _ (c .before .before .before .before .identifier-at .ensures .0) (c .before .before .if1 .taken))),
-  rw (c .no-head .ensures) (omega arith),
-)
+returns c = (rw (c .no-head .ensures) (simp flat (search heading)), rw (c .no-head .ensures) (omega arith))
 
 returns-2 : tie.Need-returns-2
 unfolding restOf contentsOf invoke leads
-returns-2 c = (
-  rw (c .no-head2 .ensures, c .before .number-of2 .ensures)
-      (simp flat (goes _ _ _ (c .before .before .before .before .before .before .before .identifier-at .ensures .0) (c .before .before .before .before .before .if1 .left)
-      (refuses _ _ _ (c .before .before .before .before .value-at .ensures .0) (c .before .before .if2 .taken)))),
-  rw (c .no-head2 .ensures) (omega arith),
-)
+returns-2 c = (rw (c .no-head2 .ensures) (simp flat (search heading)), rw (c .no-head2 .ensures) (omega arith))
 
 returns-3 : tie.Need-returns-3
 unfolding restOf contentsOf invoke leads
-returns-3 c = (
-  simp flat (goes _ _ _ (c .before .before .before .before .before .before .before .identifier-at .ensures .0) (c .before .before .before .before .before .if1 .left)
-      (goes _ _ _ (c .before .before .before .before .value-at .ensures .0) (c .before .before .if2 .left) (tail-one _ _ _ _ refl refl refl))),
-  omega arith,
-)
+returns-3 c = (simp flat (search (heading, tail-one)), omega arith)
 
 pub invoke-head-spec : {M : Type 1} → statement M
 invoke-head-spec =
     tie.close
-    (tie.spec (search needs) (search needs) (search needs) returns (search needs) (search needs) (search needs) returns-2 (search needs) (search needs) returns-3)
+    (tie.spec (search needs) (search needs) returns (search needs) (search needs) returns-2 (search needs) (search needs) returns-3)

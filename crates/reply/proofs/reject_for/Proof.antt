@@ -1,5 +1,5 @@
 use borrow.Author.Needs.{needs}
-use borrow.Author.Tests.{eq-eqb, ne-eqb}
+use borrow.Author.Tests.{eq-eqb, ne-eqb, le-leb, lt-leb}
 use Rattle.reply.proofs.reject_for.Statement.{statement}
 use Rattle.reply.proofs.reject_for.Tie as tie
 
@@ -43,21 +43,21 @@ named-requires-4 c κs = search needs
 
 returns-6 : tie.Need-returns-6
 returns-6 c =
-    simp (eq-eqb _ _ (c .before .if7 .taken), eq-eqb _ _ (c .before .before .if6 .taken), ne-eqb _ _ (c .before .before .before .if4 .left), ne-eqb _ _ (c .before .before .before .before .if3 .left), ne-eqb _ _ (c .before .before .before .before .before .if2 .left), ne-eqb _ _ (c .before .before .before .before .before .before .if1 .left)) (c .named4 .ensures)
+    simp (eq-eqb _ _ (c .before .if7 .taken), le-leb _ _ (c .before .before .if6 .taken), ne-eqb _ _ (c .before .before .before .if4 .left), ne-eqb _ _ (c .before .before .before .before .if3 .left), ne-eqb _ _ (c .before .before .before .before .before .if2 .left), ne-eqb _ _ (c .before .before .before .before .before .before .if1 .left)) (c .named4 .ensures)
 
 named-requires-5 : tie.Need-named-requires-5
 named-requires-5 c κs = search needs
 
 returns-7 : tie.Need-returns-7
 returns-7 c =
-    simp (ne-eqb _ _ (c .before .if7 .left), eq-eqb _ _ (c .before .before .if6 .taken), ne-eqb _ _ (c .before .before .before .if4 .left), ne-eqb _ _ (c .before .before .before .before .if3 .left), ne-eqb _ _ (c .before .before .before .before .before .if2 .left), ne-eqb _ _ (c .before .before .before .before .before .before .if1 .left)) (c .named5 .ensures)
+    simp (ne-eqb _ _ (c .before .if7 .left), le-leb _ _ (c .before .before .if6 .taken), ne-eqb _ _ (c .before .before .before .if4 .left), ne-eqb _ _ (c .before .before .before .before .if3 .left), ne-eqb _ _ (c .before .before .before .before .before .if2 .left), ne-eqb _ _ (c .before .before .before .before .before .before .if1 .left)) (c .named5 .ensures)
 
 unnamed-requires-3 : tie.Need-unnamed-requires-3
 unnamed-requires-3 c κs = search needs
 
 returns-8 : tie.Need-returns-8
 returns-8 c =
-    simp (ne-eqb _ _ (c .before .if6 .left), ne-eqb _ _ (c .before .before .if4 .left), ne-eqb _ _ (c .before .before .before .if3 .left), ne-eqb _ _ (c .before .before .before .before .if2 .left), ne-eqb _ _ (c .before .before .before .before .before .if1 .left)) (c .unnamed3 .ensures)
+    simp (lt-leb _ _ (c .before .if6 .left), ne-eqb _ _ (c .before .before .if4 .left), ne-eqb _ _ (c .before .before .before .if3 .left), ne-eqb _ _ (c .before .before .before .before .if2 .left), ne-eqb _ _ (c .before .before .before .before .before .if1 .left)) (c .unnamed3 .ensures)
 
 pub reject-for-spec : {M : Type 1} → statement M
 reject-for-spec =

@@ -1,0 +1,40 @@
+-- Rejects sent remain the same: 40 to 45 are answered as 9 was.
+-- Assumes nothing.
+use Prim.Native.Nat.{ℕ, _≤_}
+use mathlib.Core.Path.{_≡_}
+use mathlib.Core.Bool.{false, cond}
+use mathlib.Core.List.{List}
+use mathlib.Core.Logic.{_⊎_, inl, inr}
+use lib.Dec.{leb, eqb}
+use borrow.Author.Tests.{le-leb, lt-leb, ne-eqb}
+use native.Mathlib.Omega.{arith}
+use Rattle.types.specs.declared.Record.{Record}
+use Rattle.types.specs.Frames.{rejects, readOf}
+use Rattle.types.proofs.Theorems.{refusal}
+use Rattle.reply.specs.Reply.{firstOf, identifierOf, replyBy, replyTo}
+
+-- the one number that 40 to 45 have in document 01
+abbrev pub coarse : ℕ → ℕ
+coarse n = cond (leb 40 n) 9 n
+
+-- the reject for a refusal, by document 01
+abbrev pub rejectBy : ℕ → ℕ → ℕ → Record
+rejectBy n first i =
+    cond (eqb n 4) (rejects (inl tt) 0x80 0)
+    (cond (eqb n 6) (rejects (inl tt) 0x80 1)
+    (cond (eqb n 8) (rejects (inr i) 0x83 2)
+    (cond (eqb n 7) (cond (eqb first 0xa2) (rejects (inr i) 0x82 2) (rejects (inr i) 0x81 1))
+    (cond (eqb n 9) (cond (eqb first 0xa2) (rejects (inr i) 0x82 2) (rejects (inr i) 0x81 2))
+    (rejects (inl tt) 0x80 2)))))
+
+module _ (n first i : ℕ) where
+  as-before : (n ≤ 8) ⊎ ((40 ≤ n) × (n ≤ 45)) → replyBy n first i ≡ rejectBy (coarse n) first i
+  as-before (inl l) = simp (lt-leb 40 n (omega (arith, l)), ne-eqb n 9 (λ e. omega (arith, l, e)))
+  as-before (inr h) =
+      let other : (k : ℕ) → k ≤ 8 → eqb n k ≡ false = λ k l. ne-eqb n k (λ e. omega (arith, h .0, l, e)) in
+      simp (le-leb 40 n (h .0), other 4 (omega arith), other 6 (omega arith), other 8 (omega arith), other 7 (omega arith))
+
+-- the reply to any octets is the one that document 01 gives for their coarse number
+pub same-reject : (s : List ℕ) → replyTo s ≡ rejectBy (coarse (readOf s .number)) (firstOf s) (identifierOf s)
+unfolding replyTo
+same-reject s = as-before (readOf s .number) (firstOf s) (identifierOf s) (refusal s)
