@@ -18,17 +18,16 @@ use Rattle.coding.proofs.Header.{element-read, element-range}
 use Rattle.coding.proofs.Faults.{Among, Told, Tells, Judges, after-told, cond-told, closed-told, primTells, consTells, maybeTells, someTells, barringTells, sortTells, pickTells, markedTells, nothingTells, pairTells, altTells, shapeTells, canonicalTells, leadsTells, leafOverJudges, onlyJudges, numberJudges, stringJudges, nullJudges, identifierJudges, listedJudges, givenTells}
 use Rattle.types.specs.declared.Charge.{Charge}
 use Rattle.types.specs.declared.Record.{Record}
-use Rattle.types.specs.declared.Answer.{Answer}
 use Rattle.types.specs.Charges.{scaled, currencyLeaf, currency, money, digitsLeaf, identified, publicParty, plainParty, party, unassociated, association}
 use Rattle.types.specs.Entries.{unit}
 use Rattle.types.specs.Rates.{duration, flatRate, volume, coded, plainRate, price, rate}
 use Rattle.types.specs.Arguments.{sign, inMoney, inUnits, during, subtotals, ending, settled, finals, rates, arrangement, available, chargeOf}
-use Rattle.types.specs.Frames.{outside, inArgument, namedNumber, value, operations, errors, carrying, request, argument, invoke, returnResult, failed, returnError, caller, problem, problems, reject, frame, component, answered, readOf}
+use Rattle.types.specs.Frames.{outside, inArgument, value, operations, errors, carrying, request, argument, invoke, returnResult, failed, returnError, caller, problem, problems, reject, frame, component, answered, readOf}
 use Rattle.types.proofs.Theorems.{read-short}
 
--- the numbers by which a whole element is refused, beside 2 and 6
+-- the numbers by which a whole element is refused, beside 6
 abbrev within : List ℕ
-within = 4 ∷ 7 ∷ 8 ∷ 40 ∷ 41 ∷ 42 ∷ 43 ∷ 44 ∷ 45 ∷ []
+within = 2 ∷ 4 ∷ 7 ∷ 8 ∷ 40 ∷ 41 ∷ 42 ∷ 43 ∷ 44 ∷ 45 ∷ []
 
 -- ---- charges
 
@@ -113,7 +112,7 @@ unfolding has
 in-argument missing h = refl
 in-argument unexpected h = refl
 in-argument cut h = refl
-in-argument form h = tt
+in-argument form h = refl
 in-argument shortest h = refl
 in-argument contents h = refl
 in-argument limit h = refl
@@ -176,9 +175,9 @@ told-number (halt shortest p) h = whole-6
 told-number (halt contents p) h = whole-6
 told-number (halt limit p) h = whole-6
 told-number (halt (named n) p) h = (
-  eqb-false (namedNumber n) 1 (apart-has within (λ k. eqb (namedNumber k) 1) n refl h),
-  eqb-false (namedNumber n) 3 (apart-has within (λ k. eqb (namedNumber k) 3) n refl h),
-  eqb-false (namedNumber n) 5 (apart-has within (λ k. eqb (namedNumber k) 5) n refl h),
+  eqb-false n 1 (apart-has within (λ k. eqb k 1) n refl h),
+  eqb-false n 3 (apart-has within (λ k. eqb k 3) n refl h),
+  eqb-false n 5 (apart-has within (λ k. eqb k 5) n refl h),
 )
 
 module _ (s : List ℕ) (c m : ℕ) (o : Element s 0 c m (length s)) where
@@ -205,4 +204,5 @@ module _ (s : List ℕ) (c m : ℕ) (o : Element s 0 c m (length s)) where
 
   -- A part of a Facility element that is one element, of at most 254 octets, is never refused 1, 3 or 5 as a component.
   pub tile-whole : length s ≤ 254 → Whole (readOf s .number)
-  tile-whole l = subst (λ (a : Answer). Whole (a .number)) (sym (read-short s l)) (told-number (component .read s 0 (length s)) whole-told)
+  unfolding readOf
+  tile-whole l = subst (λ (a : Ans Record). Whole (answered a .number)) (sym (read-short s l)) (told-number (component .read s 0 (length s)) whole-told)
