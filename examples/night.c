@@ -3,7 +3,7 @@
  *
  * A line of the input is: time, room, call, event. Events:
  *   setup [S] [D] [E]   the call is set up, with a request for each service named
- *   connect, clear, released
+ *   connect, suspend, resume, clear, released
  *   facility OCTETS     a Facility element of a message from the network, as hex octets
  * An empty line and one that begins with # say nothing. */
 #include <stdio.h>
@@ -130,6 +130,10 @@ static void take_line(const char *line)
         outcome = set_up(call, line + used);
     else if (!strcmp(event, "connect"))
         outcome = aoc_connect(&call->account);
+    else if (!strcmp(event, "suspend"))
+        outcome = aoc_suspend(&call->account);
+    else if (!strcmp(event, "resume"))
+        outcome = aoc_resume(&call->account);
     else if (!strcmp(event, "clear"))
         outcome = aoc_clear(&call->account);
     else if (!strcmp(event, "released"))

@@ -90,7 +90,8 @@ typedef enum { AOC_OUTCOMES(AOC_ROW_NAME) } aoc_outcome_number;
     ROW(AOC_PHASE_ESTABLISHMENT, 1, "being set up")                                                    \
     ROW(AOC_PHASE_ACTIVE, 2, "connected")                                                              \
     ROW(AOC_PHASE_CLEARING, 3, "clearing")                                                             \
-    ROW(AOC_PHASE_ENDED, 4, "ended")
+    ROW(AOC_PHASE_ENDED, 4, "ended")                                                                   \
+    ROW(AOC_PHASE_SUSPENDED, 5, "parked")
 
 typedef enum { AOC_PHASES(AOC_ROW_NAME) } aoc_phase;
 
@@ -100,7 +101,9 @@ typedef enum {
     AOC_EVENT_CONNECT = 2,
     AOC_EVENT_CLEAR = 3,
     AOC_EVENT_RELEASED = 4,
-    AOC_EVENT_COMPONENT = 5
+    AOC_EVENT_COMPONENT = 5,
+    AOC_EVENT_SUSPEND = 6,
+    AOC_EVENT_RESUME = 7
 } aoc_event_kind;
 
 /* Services: charges at set-up, during the call, at its end. */
@@ -520,6 +523,11 @@ static inline aoc_outcome aoc_connect(aoc_account *account);
 static inline aoc_outcome aoc_clear(aoc_account *account);
 static inline aoc_outcome aoc_released(aoc_account *account);
 static inline aoc_outcome aoc_component(aoc_account *account, const uint8_t *octets, size_t length);
+
+/* Inline, over aoc_step. A call in AOC_PHASE_ACTIVE is parked and taken up again, as often as wanted. While it is parked every
+ * component that can be read has AOC_OUTCOME_OUT_OF_PHASE and changes nothing; aoc_clear works from there too. */
+static inline aoc_outcome aoc_suspend(aoc_account *account);
+static inline aoc_outcome aoc_resume(aoc_account *account);
 
 /* Inline: they read the account where it stands. The rate of the last AOC_OUTCOME_NEW_RATE or granted S request, the running
  * figure of the last AOC_OUTCOME_NEW_RUNNING: kind AOC_CHARGE_NONE where there is none. */

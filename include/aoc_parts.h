@@ -136,6 +136,16 @@ static inline aoc_outcome aoc_released(aoc_account *account)
     return aoc_phase_event(account, AOC_EVENT_RELEASED);
 }
 
+static inline aoc_outcome aoc_suspend(aoc_account *account)
+{
+    return aoc_phase_event(account, AOC_EVENT_SUSPEND);
+}
+
+static inline aoc_outcome aoc_resume(aoc_account *account)
+{
+    return aoc_phase_event(account, AOC_EVENT_RESUME);
+}
+
 static inline aoc_outcome aoc_component(aoc_account *account, const uint8_t *octets, size_t length)
 {
     aoc_event event = {AOC_EVENT_COMPONENT, {0, 0, 0}, 0, 0, 0};

@@ -7,6 +7,8 @@ J <room> <hex>           reject in reply  <number> <count> <hex>
 T <number> <multiplier>  thousandths      <thousandths>
 A <event>;<event>;...    account          outcome,service,phase,rate,running,closing,its service,marks,pending,identifiers;...
 
+Events: S <id>,<id>,<id> Setup, C Connect, X Clear, L Released, P Suspend, U Resume, M<hex> Component.
+
 Hex is small and without spaces. An empty last field leaves the space before it.
 """
 
@@ -54,6 +56,10 @@ def do(account, event):
         return account.clear()
     if event[0] == "L":
         return account.released()
+    if event[0] == "P":
+        return account.suspend()
+    if event[0] == "U":
+        return account.resume()
     return account.component(bytes.fromhex(event[1:]))
 
 

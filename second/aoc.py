@@ -860,16 +860,19 @@ def next_identifier(i):
 
 S, D, E = 0, 1, 2
 SERVICE = {31: S, 32: S, 33: D, 34: D, 35: E, 36: E}
-IDLE, ESTABLISHMENT, ACTIVE, CLEARING, ENDED = range(5)
+IDLE, ESTABLISHMENT, ACTIVE, CLEARING, ENDED, SUSPENDED = range(6)
 SETUP, CONNECT, CLEAR, RELEASED, COMPONENT = "setup", "connect", "clear", "released", "component"
+SUSPEND, RESUME = "suspend", "resume"
 ALLOWED = {
     SETUP: (IDLE,),
     CONNECT: (ESTABLISHMENT,),
-    CLEAR: (ESTABLISHMENT, ACTIVE),
+    CLEAR: (ESTABLISHMENT, ACTIVE, SUSPENDED),
     RELEASED: (CLEARING,),
-    COMPONENT: (ESTABLISHMENT, ACTIVE, CLEARING),
+    COMPONENT: (ESTABLISHMENT, ACTIVE, SUSPENDED, CLEARING),
+    SUSPEND: (ACTIVE,),
+    RESUME: (SUSPENDED,),
 }
-AFTER = {SETUP: ESTABLISHMENT, CONNECT: ACTIVE, CLEAR: CLEARING, RELEASED: ENDED}
+AFTER = {SETUP: ESTABLISHMENT, CONNECT: ACTIVE, CLEAR: CLEARING, RELEASED: ENDED, SUSPEND: SUSPENDED, RESUME: ACTIVE}
 
 
 def same_currency(a, b):
@@ -899,7 +902,7 @@ class Account:
     def __init__(self):
         self.events = []
 
-    # The five events; each gives its outcome.
+    # The events; each gives its outcome.
 
     def setup(self, s, d, e):
         """Identifiers as 16-bit patterns, or None where a service is not asked for."""
@@ -921,6 +924,12 @@ class Account:
     def released(self):
         return self._phase_event(RELEASED)
 
+    def suspend(self):
+        return self._phase_event(SUSPEND)
+
+    def resume(self):
+        return self._phase_event(RESUME)
+
     def component(self, octets):
         record = None
         if self.phase not in ALLOWED[COMPONENT]:
@@ -941,6 +950,8 @@ class Account:
     # The outcome of a component, first that fits.
 
     def _outcome(self, record):
+        if self.phase == SUSPENDED:
+            return 27
         if record.frame == INVOKE:
             return self._invoke(record)
         service = self._asked_by(record)
@@ -1030,7 +1041,10 @@ class Account:
         _, outcome, record = self.events[-1]
         if record is None or outcome in (30, 32):
             return 0
-        return 1 + (SERVICE[record.operation] if record.frame == INVOKE else self._asked_by(record))
+        if record.frame == INVOKE:
+            return 0 if record.operation == 30 else 1 + SERVICE[record.operation]
+        # A result, an error or a reject has its request's service, but in Suspended no request is looked for.
+        return 0 if outcome == 27 else 1 + self._asked_by(record)
 
     @property
     def unavailable(self):

@@ -932,7 +932,7 @@ def setup_ids(rng):
     return tuple(i if rng.random() < chance else None for i in pool)
 
 
-NEXT = {aoc.IDLE: "S", aoc.ESTABLISHMENT: "C", aoc.ACTIVE: "X", aoc.CLEARING: "L", aoc.ENDED: "L"}
+NEXT = {aoc.IDLE: "S", aoc.ESTABLISHMENT: "C", aoc.ACTIVE: "X", aoc.CLEARING: "L", aoc.ENDED: "L", aoc.SUSPENDED: "U"}
 
 
 def account_input(rng, length):
@@ -940,17 +940,21 @@ def account_input(rng, length):
     near = rng.sample(PADDED_NEAR if rng.random() < 0.15 else NEAR, rng.choice((1, 2, 3, 6)))
     haste = rng.choice((0.15, 0.3, 0.5))
     # Little happens in Establishment, and finals need time in Clearing.
-    pace = {aoc.ESTABLISHMENT: 1.6, aoc.ACTIVE: 1.0, aoc.CLEARING: rng.choice((0.1, 0.4, 0.9))}
+    pace = {aoc.ESTABLISHMENT: 1.6, aoc.ACTIVE: 1.0, aoc.CLEARING: rng.choice((0.1, 0.4, 0.9)), aoc.SUSPENDED: 1.4}
+    parks = rng.choice((0.0, 0.3, 0.7))
     phase, ids, events = aoc.IDLE, (None, None, None), []
     for _ in range(length):
         if rng.random() < 0.05:
-            event = rng.choice("SCXLM")
+            event = rng.choice("SCXLMPU")
         elif phase == aoc.IDLE:
             event = "S"
         elif phase == aoc.ENDED:
-            event = rng.choice("MMSCXL")
+            event = rng.choice("MMSCXLPU")
         elif rng.random() < haste * pace[phase]:
-            event = "X" if phase == aoc.ESTABLISHMENT and rng.random() < 0.2 else NEXT[phase]
+            if phase == aoc.ACTIVE and rng.random() < parks:
+                event = "P"
+            else:
+                event = "X" if phase in (aoc.ESTABLISHMENT, aoc.SUSPENDED) and rng.random() < 0.2 else NEXT[phase]
         else:
             event = "M"
         if event == "S":
@@ -965,8 +969,12 @@ def account_input(rng, length):
             events.append(event)
             if event == "C" and phase == aoc.ESTABLISHMENT:
                 phase = aoc.ACTIVE
-            elif event == "X" and phase in (aoc.ESTABLISHMENT, aoc.ACTIVE):
+            elif event == "X" and phase in (aoc.ESTABLISHMENT, aoc.ACTIVE, aoc.SUSPENDED):
                 phase = aoc.CLEARING
+            elif event == "P" and phase == aoc.ACTIVE:
+                phase = aoc.SUSPENDED
+            elif event == "U" and phase == aoc.SUSPENDED:
+                phase = aoc.ACTIVE
             elif event == "L" and phase == aoc.CLEARING:
                 phase = aoc.ENDED
     return "A " + ";".join(events)

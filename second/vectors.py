@@ -329,6 +329,53 @@ def padded():
         check("its count", made.closing.figure.money.currency.count, len(octets(text1)))
 
 
+# A call parked and taken up again (document 02, request 5): events, outcomes with their service, and what stands at the end.
+PARKED_OCTETS = {
+    "D-sub": C1, "D-sub2": octets("A1 1A 02 01 01 02 01 21 30 12 A1 0D 81 03 45 55 52 A2 06 81 01 51 82 01 01 82 01 00"),
+    "D-tot": octets("A1 1A 02 01 01 02 01 21 30 12 A1 0D 81 03 45 55 52 A2 06 81 01 32 82 01 01 82 01 01"),
+    "E-12": C2, "E-free": C7, "S-10": C8, "D-free": C6, "D-na": octets("A1 08 02 01 03 02 01 21 05 00"),
+    "ask-D": C3, "res-5": C4, "err-5": C5, "rej-NULL": octets("A4 05 05 00 80 01 02"),
+    "bad": octets("A1 08 02 01 03 02 01 23 81 00"), "empty": b"",
+}
+PARKED = (
+    ("setup - - -; connect; suspend; resume; D-sub; clear; released", "0 0 0 0 21D 0 0", {"running": "D-sub", "phase": aoc.ENDED}),
+    ("setup - - -; connect; D-sub; suspend; D-sub2; resume; clear; released", "0 0 21D 0 27D 0 0 0", {"running": "D-sub"}),
+    ("setup - - -; connect; suspend; S-10; D-free; D-na; E-12; ask-D; rej-NULL; res-5", "0 0 0 27S 27D 27D 27E 27 27 27",
+     {"rate": None, "unavailable": set()}),
+    ("setup - 5 -; connect; suspend; res-5; err-5; resume; D-sub; res-5; D-sub", "0 0 0 27 27 0 26D 24D 21D", {"running": "D-sub"}),
+    ("setup - 5 -; connect; suspend; D-sub", "0 0 0 27D", {"pending": {D}}),
+    ("setup - - -; connect; suspend; bad; empty", "0 0 0 BAD 1", {"phase": aoc.SUSPENDED}),
+    ("setup - - -; connect; suspend; clear; D-tot; E-free; released", "0 0 0 0 22D 22E 0", {"closing": "E-free"}),
+    ("setup - - -; connect; suspend; setup - - -; connect; suspend; released; D-sub", "0 0 0 14 14 14 14 27D", {"phase": aoc.SUSPENDED}),
+    ("suspend; resume; setup - - -; suspend; resume; connect; resume; clear; suspend; resume; released; suspend; resume",
+     "14 14 0 14 14 0 14 0 14 14 0 14 14", {"phase": aoc.ENDED}),
+    ("setup - - -; connect; suspend; resume; suspend; resume; suspend; resume; connect; D-sub", "0 0 0 0 0 0 0 0 14 21D",
+     {"running": "D-sub"}),
+    ("setup - - -; connect; suspend; D-tot; clear; D-tot; D-tot; released", "0 0 0 27D 0 22D 28D 0", {"closing": "D-tot"}),
+    ("setup 5 5 -; setup - - -; connect; suspend; E-12; clear; E-12; E-12; released", "13 0 0 0 27E 0 22E 28E 0", {"closing": "E-12"}),
+)
+
+
+def parked():
+    refused = str(aoc.read(PARKED_OCTETS["bad"])[0])
+    for number, (events, wanted, end) in enumerate(PARKED, 1):
+        made, got = aoc.Account(), []
+        for event in events.split("; "):
+            word, *ids = event.split(" ")
+            if word == "setup":
+                outcome = made.setup(*(None if i == "-" else int(i) for i in ids))
+            elif word in PARKED_OCTETS:
+                outcome = made.component(PARKED_OCTETS[word])
+            else:
+                outcome = getattr(made, word)()
+            got.append(f"{outcome}{'-SDE'[made.service]}".rstrip("-"))
+        check(f"parked {number}", got, wanted.replace("BAD", refused).split(" "))
+        for what, value in end.items():
+            if isinstance(value, str):
+                value = aoc.read(PARKED_OCTETS[value])[1].charge
+            check(f"parked {number}: {what}", getattr(made, what), value)
+
+
 def line_program():
     given = (C3_LOOSE.hex(" ").upper() + "\nA1 80 02 01 05 02 01 1E 0A 01 01 00 00\n"
              + C7.hex(" ").lower() + "\n")
@@ -378,6 +425,7 @@ def main():
     fields()
     lists()
     padded()
+    parked()
     line_program()
     generated(count)
     print(f"{passed} passed, {failed} failed")

@@ -220,6 +220,43 @@ static void test_padded(void)
     }
 }
 
+/* ------------------------------------------------------------------ a call that is parked */
+
+static void test_parked(void)
+{
+    /* what comes while it is parked is read and changes nothing; the service is an invoke's */
+    start();
+    setup(-1, 5, -1);
+    aoc_connect(&call.account);
+    STEP(aoc_resume(&call.account), AOC_REFUSED_WRONG_PHASE, 0);
+    STEP(aoc_suspend(&call.account), 0, 0);
+    aoc_account before = call.account;
+    STEP(aoc_suspend(&call.account), AOC_REFUSED_WRONG_PHASE, 0);
+    STEP(component(C1), AOC_OUTCOME_OUT_OF_PHASE, AOC_SERVICE_D);
+    STEP(component(C2), AOC_OUTCOME_OUT_OF_PHASE, AOC_SERVICE_E);
+    STEP(component(C8), AOC_OUTCOME_OUT_OF_PHASE, AOC_SERVICE_S);
+    STEP(component(C3), AOC_OUTCOME_OUT_OF_PHASE, 0);
+    STEP(component(C4), AOC_OUTCOME_OUT_OF_PHASE, 0);
+    STEP(component(C5), AOC_OUTCOME_OUT_OF_PHASE, 0);
+    STEP(component("A4 05 05 00 80 01 02"), AOC_OUTCOME_OUT_OF_PHASE, 0);
+    STEP(component(""), AOC_REFUSED_CUT, 0);
+    CHECK(!memcmp(&before, &call.account, sizeof before), "parked");
+
+    /* taken up again, its request is still pending */
+    STEP(aoc_resume(&call.account), 0, 0);
+    STEP(component(C1), AOC_OUTCOME_IGNORED, AOC_SERVICE_D);
+    STEP(component(C4), AOC_OUTCOME_GRANTED, AOC_SERVICE_D);
+    STEP(component(C1), AOC_OUTCOME_NEW_RUNNING, AOC_SERVICE_D);
+
+    /* parked again and cleared from there; a final sent while it was parked is no predecessor */
+    STEP(aoc_suspend(&call.account), 0, 0);
+    STEP(component(C2_13), AOC_OUTCOME_OUT_OF_PHASE, AOC_SERVICE_E);
+    STEP(aoc_clear(&call.account), 0, 0);
+    STEP(component(C2), AOC_OUTCOME_FINAL, AOC_SERVICE_E);
+    STEP(aoc_released(&call.account), 0, 0);
+    CHECK(running() == 500 && aoc_closing_of(&call.account).service == AOC_SERVICE_E, "parked twice");
+}
+
 /* ------------------------------------------------------------------ refusals */
 
 static void to_phase(int phase)
@@ -229,17 +266,22 @@ static void to_phase(int phase)
         setup(1, 2, 3);
     if (phase >= AOC_PHASE_ACTIVE)
         aoc_connect(&call.account);
-    if (phase >= AOC_PHASE_CLEARING)
+    if (phase == AOC_PHASE_SUSPENDED)
+        aoc_suspend(&call.account);
+    if (phase == AOC_PHASE_CLEARING || phase == AOC_PHASE_ENDED)
         aoc_clear(&call.account);
-    if (phase >= AOC_PHASE_ENDED)
+    if (phase == AOC_PHASE_ENDED)
         aoc_released(&call.account);
     CHECK(aoc_phase_of(&call.account) == phase, "phase");
 }
 
 static void test_refusals(void)
 {
-    static const uint8_t allowed[6] = {0, 1 << AOC_PHASE_IDLE, 1 << AOC_PHASE_ESTABLISHMENT, 1 << AOC_PHASE_ESTABLISHMENT | 1 << AOC_PHASE_ACTIVE,
-                                       1 << AOC_PHASE_CLEARING, 1 << AOC_PHASE_ESTABLISHMENT | 1 << AOC_PHASE_ACTIVE | 1 << AOC_PHASE_CLEARING};
+    enum { IDLE = 1 << AOC_PHASE_IDLE, ESTABLISHMENT = 1 << AOC_PHASE_ESTABLISHMENT, ACTIVE = 1 << AOC_PHASE_ACTIVE,
+           CLEARING = 1 << AOC_PHASE_CLEARING, SUSPENDED = 1 << AOC_PHASE_SUSPENDED };
+    /* by kind: the phases in which the event is allowed */
+    static const uint8_t allowed[8] = {0, IDLE, ESTABLISHMENT, ESTABLISHMENT | ACTIVE | SUSPENDED, CLEARING,
+                                       ESTABLISHMENT | ACTIVE | CLEARING | SUSPENDED, ACTIVE, SUSPENDED};
     static const struct {
         uint8_t number;
         const char *hex;
@@ -259,13 +301,13 @@ static void test_refusals(void)
         {44, "A1 09 02 01 06 02 01 20 02 01 0B"},
     };
     static const aoc_services all_three = {1, 1, 1};
-    for (int phase = AOC_PHASE_IDLE; phase <= AOC_PHASE_ENDED; phase++) {
+    for (int phase = AOC_PHASE_IDLE; phase <= AOC_PHASE_SUSPENDED; phase++) {
         for (unsigned kind = 0; kind < 256; kind++) {
             to_phase(phase);
             aoc_account before = call.account;
             aoc_event event = {(uint8_t)kind, all_three, 7, 8, 9};
             aoc_outcome o = aoc_step(&call.account, event, NULL, 0);
-            int fits = kind < 6 && allowed[kind] >> phase & 1;
+            int fits = kind < 8 && allowed[kind] >> phase & 1;
             CHECK(is(o, !fits ? AOC_REFUSED_WRONG_PHASE : kind == AOC_EVENT_COMPONENT ? AOC_REFUSED_CUT : 0, 0), "an event in a phase");
             if (o.number)
                 CHECK(!memcmp(&before, &call.account, sizeof before), "a refused event");
@@ -276,7 +318,7 @@ static void test_refusals(void)
             size_t n = number == 3 ? 255 : unhex(bad[i].hex, octets);
             to_phase(phase);
             aoc_account before = call.account;
-            int heard = phase >= AOC_PHASE_ESTABLISHMENT && phase <= AOC_PHASE_CLEARING;
+            int heard = allowed[AOC_EVENT_COMPONENT] >> phase & 1;
             CHECK(is(aoc_component(&call.account, lend(octets, n), n), heard ? number : AOC_REFUSED_WRONG_PHASE, 0), "a refusal");
             CHECK(!memcmp(&before, &call.account, sizeof before), "a refusal");
         }
@@ -347,7 +389,8 @@ static int same(const aoc_charge *first, const aoc_charge *c)
 static aoc_outcome by_the_rules(aoc_account *a, aoc_event e, const uint8_t *octets, size_t n)
 {
     static const aoc_outcome wrong_phase = {AOC_REFUSED_WRONG_PHASE, 0}, bad_setup = {AOC_REFUSED_BAD_SETUP, 0}, none = {0, 0};
-    int heard = a->phase >= AOC_PHASE_ESTABLISHMENT && a->phase <= AOC_PHASE_CLEARING;
+    int parked = a->phase == AOC_PHASE_SUSPENDED;
+    int heard = (a->phase >= AOC_PHASE_ESTABLISHMENT && a->phase <= AOC_PHASE_CLEARING) || parked;
     switch (e.kind) {
     case AOC_EVENT_SETUP:
         if (a->phase != AOC_PHASE_IDLE)
@@ -369,7 +412,7 @@ static aoc_outcome by_the_rules(aoc_account *a, aoc_event e, const uint8_t *octe
         a->phase = AOC_PHASE_ACTIVE;
         return none;
     case AOC_EVENT_CLEAR:
-        if (a->phase != AOC_PHASE_ESTABLISHMENT && a->phase != AOC_PHASE_ACTIVE)
+        if (a->phase != AOC_PHASE_ESTABLISHMENT && a->phase != AOC_PHASE_ACTIVE && !parked)
             return wrong_phase;
         a->phase = AOC_PHASE_CLEARING;
         return none;
@@ -377,6 +420,16 @@ static aoc_outcome by_the_rules(aoc_account *a, aoc_event e, const uint8_t *octe
         if (a->phase != AOC_PHASE_CLEARING)
             return wrong_phase;
         a->phase = AOC_PHASE_ENDED;
+        return none;
+    case AOC_EVENT_SUSPEND:
+        if (a->phase != AOC_PHASE_ACTIVE)
+            return wrong_phase;
+        a->phase = AOC_PHASE_SUSPENDED;
+        return none;
+    case AOC_EVENT_RESUME:
+        if (!parked)
+            return wrong_phase;
+        a->phase = AOC_PHASE_ACTIVE;
         return none;
     case AOC_EVENT_COMPONENT:
         if (!heard)
@@ -392,14 +445,20 @@ static aoc_outcome by_the_rules(aoc_account *a, aoc_event e, const uint8_t *octe
     aoc_outcome o = {(uint8_t)answer.refusal, 0};
     if (answer.refusal)
         return o;
+    if (parked && r->frame != AOC_FRAME_INVOKE) {
+        o.number = AOC_OUTCOME_OUT_OF_PHASE;
+        return o;
+    }
     if (r->frame == AOC_FRAME_INVOKE) {
-        o.number = AOC_OUTCOME_NOT_OURS;
+        o.number = parked ? AOC_OUTCOME_OUT_OF_PHASE : AOC_OUTCOME_NOT_OURS;
         if (r->operation == AOC_OPERATION_CHARGING_REQUEST)
             return o;
         o.service = r->operation <= 32 ? AOC_SERVICE_S : r->operation <= 34 ? AOC_SERVICE_D : AOC_SERVICE_E;
         int is_free = c->kind == AOC_CHARGE_FREE, d = o.service == AOC_SERVICE_D;
         aoc_charge *first = d ? &a->d_final : &a->e_final;
-        if (mark_of(&a->asked, o.service)) {
+        if (parked) {
+            o.number = AOC_OUTCOME_OUT_OF_PHASE;
+        } else if (mark_of(&a->asked, o.service)) {
             o.number = AOC_OUTCOME_IGNORED;
         } else if (c->kind == AOC_CHARGE_NONE) {
             o.number = AOC_OUTCOME_NOT_AVAILABLE;
@@ -492,14 +551,14 @@ static void test_nonsense(void)
                 a[offsetof(aoc_account, e_final) + chance() % 48] ^= (uint8_t)(1 << chance() % 8);
         }
         if (chance() & 1)
-            call.account.phase = (uint8_t)(chance() % 6);
+            call.account.phase = (uint8_t)(chance() % 7);
         if (chance() % 4 == 0)
             call.account.d = 5;
         check_read_off();
         aoc_event event = {AOC_EVENT_COMPONENT, {0, 0, 0}, 0, 0, 0};
         if (chance() % 4 == 0) {
             uint64_t x = chance();
-            aoc_event other = {(uint8_t)(x % 7), {(uint8_t)(x >> 8 & 2), (uint8_t)(x >> 16 & 255), (uint8_t)(x >> 24 & 1)},
+            aoc_event other = {(uint8_t)(x % 9), {(uint8_t)(x >> 8 & 2), (uint8_t)(x >> 16 & 255), (uint8_t)(x >> 24 & 1)},
                                (uint16_t)(x >> 32 & 3), (uint16_t)(x >> 40 & 3), (uint16_t)(x >> 48)};
             event = other;
         }
@@ -518,6 +577,7 @@ int main(void)
     CHECK(all(&fresh, sizeof fresh, 0), "fresh");
     test_lists();
     test_padded();
+    test_parked();
     test_refusals();
     test_nonsense();
     return report("calls");

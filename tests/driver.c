@@ -165,6 +165,10 @@ static aoc_outcome do_event(aoc_account *account, const char *text)
         return aoc_clear(account);
     case 'L':
         return aoc_released(account);
+    case 'P':
+        return aoc_suspend(account);
+    case 'U':
+        return aoc_resume(account);
     default:
         return aoc_component(account, octets, unhex(text + 1, octets));
     }

@@ -36,6 +36,7 @@ static bool is_over(aoc_phase phase)
     case AOC_PHASE_ESTABLISHMENT:
     case AOC_PHASE_ACTIVE:
     case AOC_PHASE_CLEARING:
+    case AOC_PHASE_SUSPENDED:
         return false;
     }
     return false;

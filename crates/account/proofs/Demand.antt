@@ -15,7 +15,7 @@ use Rattle.account.specs.declared.Event.{Event}
 use Rattle.account.specs.declared.Outcome.{Outcome}
 use Rattle.account.specs.declared.Status.{Status}
 use Rattle.account.specs.declared.Account.{Account}
-use Rattle.account.specs.Outcome.{Idle, Ended, Setup, Released, Component, S, D, E, outcome, noService, Request, noRequest, clashes, allowed}
+use Rattle.account.specs.Outcome.{Idle, Ended, Suspended, Setup, Released, Component, S, D, E, outcome, noService, Request, noRequest, clashes, allowed}
 use Rattle.account.specs.Outcome.{leadsTo, among, isRefusal, Known, serviceOf, holderOf, fits, runs, closes, judgeFinal, firstFinal, judgeRecord, judgeAnswer, judge}
 use Rattle.account.specs.History.{Given, Judged, chargeIn, any, last, was, its, settles, phase, pending, hasFinal, final, noClosing}
 use Rattle.account.specs.History.{closing, currentRate, running, known, judged, accountBy, fresh, steppedBy, Shown, shown, picked, Calls, Obeys, answers}
@@ -165,6 +165,7 @@ kept-given k e o =
     by-way g (allowed (e .kind) (k .phase)) _ _
     (λ _. by-way g (eqb (e .kind) Component) _ _
     (λ _. by-way g (eqb (readOf o .number) 0) _ _
+    (λ _. by-way g (eqb (k .phase) Suspended) _ _ (λ _ q. cc)
     (λ _. by-way g (eqb (readOf o .value .frame) 1) _ _
     (λ _. by-way g (eqb (readOf o .value .operation) 30) _ _ (λ _ q. cc)
     (λ _. by-way g (has (k .pending .asked) (serviceOf (readOf o .value .operation))) _ _ (λ _ q. cc)
@@ -174,7 +175,7 @@ kept-given k e o =
     (λ _. by-way g (fits (holderOf (k .pending) (readOf o .value .id)) (chargeIn o)) _ _
     (fitting (holderOf (k .pending) (readOf o .value .id)) (chargeIn o)) (λ _ q. cc)))
     (λ _. by-way g (eqb (readOf o .value .unnamed) 1) _ _ (λ _ q. cc)
-    (λ _. by-way g (eqb (holderOf (k .pending) (readOf o .value .id)) 0) _ _ (λ _ q. cc) (λ _ q. cc)))))
+    (λ _. by-way g (eqb (holderOf (k .pending) (readOf o .value .id)) 0) _ _ (λ _ q. cc) (λ _ q. cc))))))
     (λ n q. never (rw (refusal-keeps (readOf o .number) (decoding-refusal o n)) at q)))
     (λ _. by-way g (eqb (e .kind) Setup && clashes e) _ _ (λ _ q. cc) (λ _ q. cc)))
     (λ _ q. cc)
@@ -233,6 +234,7 @@ only-final k e o s g =
     none-way s (allowed (e .kind) (k .phase)) _ _
     (λ _. none-way s (eqb (e .kind) Component) _ _
     (λ _. none-way s (eqb (readOf o .number) 0) _ _
+    (λ _. none-way s (eqb (k .phase) Suspended) _ _ (λ _. refl)
     (λ _. none-way s (eqb (readOf o .value .frame) 1) _ _
     (λ _. none-way s (eqb (readOf o .value .operation) 30) _ _ (λ _. refl)
     (λ _. none-way s (has (k .pending .asked) u) _ _ (λ _. refl)
@@ -242,7 +244,7 @@ only-final k e o s g =
     (λ _. none-way s (closes (k .phase) u (chargeIn o)) _ _ (λ _. none-more s k (chargeIn o) u g) (λ _. refl)))))))
     (λ _. none-way s (eqb (readOf o .value .frame) 2) _ _
     (λ _. none-way s (eqb holder 0) _ _ (λ _. refl) (λ _. none-way s (fits holder (chargeIn o)) _ _ (λ _. refl) (λ _. refl)))
-    (λ _. none-way s (eqb (readOf o .value .unnamed) 1) _ _ (λ _. refl) (λ _. none-way s (eqb holder 0) _ _ (λ _. refl) (λ _. refl)))))
+    (λ _. none-way s (eqb (readOf o .value .unnamed) 1) _ _ (λ _. refl) (λ _. none-way s (eqb holder 0) _ _ (λ _. refl) (λ _. refl))))))
     (λ n. rw (refusal-final (readOf o .number) (decoding-refusal o n))))
     (λ _. none-way s (eqb (e .kind) Setup && clashes e) _ _ (λ _. refl) (λ _. refl)))
     (λ _. refl)

@@ -18,10 +18,10 @@ use Rattle.account.specs.declared.Account.{Account}
 use Rattle.account.specs.declared.Change.{Change}
 use Rattle.account.specs.declared.Closing.{Closing}
 use Rattle.account.specs.declared.Stepped.{Stepped}
-use Rattle.account.specs.Outcome.{Idle, Setup, Component, S, noService, clashes, allowed, leadsTo, isRefusal, serviceOf, holderOf, runs, closes, fits, judgeRecord, judgeAnswer, judge}
+use Rattle.account.specs.Outcome.{Idle, Suspended, Setup, Component, S, noService, clashes, allowed, leadsTo, isRefusal, serviceOf, holderOf, runs, closes, fits, judgeRecord, judgeAnswer, judge}
 use Rattle.account.specs.History.{Given, event, judged, accountBy, closing, steppedBy}
 use Rattle.account.specs.Step.{knownOf, requestsOf, moved, noted, placeOf, changeBy, changeOf, put, changed, steppedOf, closingOf}
-use Rattle.account.specs.Parts.{nextPhase, claimFrame, resolved, taken}
+use Rattle.account.specs.Parts.{nextPhase, claimRecord, resolved, taken}
 use Rattle.account.proofs.Transitions.{next-none, next-some}
 use Rattle.account.proofs.Refusals.{decoding-refusal}
 use Rattle.account.proofs.Demand.{step-stands, closing-stands, notes-nothing, keeps-nothing, moves-nothing}
@@ -30,18 +30,19 @@ use Rattle.account.proofs.Demand.{step-stands, closing-stands, notes-no
 
 module _ (a : Account) (x : Record) where
   abbrev claim : Outcome
-  claim = claimFrame (a .status .phase) (requestsOf (a .status)) (x .frame) (x .operation) (x .unnamed) (x .id) (x .charge .figure .kind) (x .charge .figure .total)
+  claim = claimRecord (a .status .phase) (requestsOf (a .status)) (x .frame) (x .operation) (x .unnamed) (x .id) (x .charge .figure .kind) (x .charge .figure .total)
 
   each-way : (b : Bool) (p q p′ q′ : Outcome) → resolved a p (x .charge) ≡ p′ → resolved a q (x .charge) ≡ q′ → resolved a (cond b p q) (x .charge) ≡ cond b p′ q′
   each-way true p q p′ q′ e f = e
   each-way false p q p′ q′ e f = f
 
   resolves : resolved a claim (x .charge) ≡ judgeRecord (knownOf a) x
-  unfolding claimFrame judgeRecord
+  unfolding claimRecord judgeRecord
   resolves =
       let s : ℕ = serviceOf (x .operation) in
       let u : ℕ = holderOf (requestsOf (a .status)) (x .id) in
-      each-way (eqb (x .frame) 1) _ _ _ _
+      each-way (eqb (a .status .phase) Suspended) _ _ _ _ refl
+      (each-way (eqb (x .frame) 1) _ _ _ _
       (each-way (eqb (x .operation) 30) _ _ _ _ refl
       (each-way (has (a .status .asked) s) _ _ _ _ refl
       (each-way (eqb (x .charge .figure .kind) 0) _ _ _ _ refl
@@ -50,7 +51,7 @@ module _ (a : Account) (x : Record) where
       (each-way (closes (a .status .phase) s (x .charge)) _ _ _ _ refl refl))))))
       (each-way (eqb (x .frame) 2) _ _ _ _
       (each-way (eqb u 0) _ _ _ _ refl (each-way (fits u (x .charge)) _ _ _ _ refl refl))
-      (each-way (eqb (x .unnamed) 1) _ _ _ _ refl (each-way (eqb u 0) _ _ _ _ refl refl)))
+      (each-way (eqb (x .unnamed) 1) _ _ _ _ refl (each-way (eqb u 0) _ _ _ _ refl refl))))
 
 -- ---- a component
 

@@ -30,6 +30,9 @@ Clearing = 3
 abbrev pub Ended : ℕ
 Ended = 4
 
+abbrev pub Suspended : ℕ
+Suspended = 5
+
 -- ---- kinds of events
 
 abbrev pub Setup : ℕ
@@ -47,7 +50,13 @@ Released = 4
 abbrev pub Component : ℕ
 Component = 5
 
--- ---- the phase events, each from a phase to a phase; Component is allowed in the middle three
+abbrev pub Suspend : ℕ
+Suspend = 6
+
+abbrev pub Resume : ℕ
+Resume = 7
+
+-- ---- the phase events, each from a phase to a phase; Component is allowed in all phases but Idle and Ended
 
 pub record Transition : Type 0 where
   pub event : ℕ
@@ -63,10 +72,14 @@ transitions =
     ∷ goes Connect Establishment Active
     ∷ goes Clear Establishment Clearing
     ∷ goes Clear Active Clearing
+    ∷ goes Clear Suspended Clearing
     ∷ goes Released Clearing Ended
+    ∷ goes Suspend Active Suspended
+    ∷ goes Resume Suspended Active
     ∷ goes Component Establishment Establishment
     ∷ goes Component Active Active
     ∷ goes Component Clearing Clearing
+    ∷ goes Component Suspended Suspended
     ∷ []
 
 -- a row is that of an event in a phase
@@ -238,13 +251,20 @@ abbrev pub judgeFailure : ℕ → Outcome
 judgeFailure s = cond (eqb s 0) (noService 30) (outcome 25 s)
 
 -- frames: 1 invoke, 2 return result, 3 return error, 4 reject; a reject with NULL in place of an identifier is 30 too
-unfoldable pub judgeRecord : Known → Record → Outcome
-judgeRecord k c =
+abbrev pub judgeFrame : Known → Record → Outcome
+judgeFrame k c =
     cond (eqb (c .frame) 1) (judgeInvoke k c)
     (cond (eqb (c .frame) 2) (judgeResult (holderOf (k .pending) (c .id)) (c .charge))
     (cond (eqb (c .unnamed) 1) (noService 30) (judgeFailure (holderOf (k .pending) (c .id)))))
 
--- a decoding refusal is the event's
+-- a component received in Suspended: 27, ahead of every other outcome; its service is an invoke's, and none for operation 30
+abbrev pub invokeService : Record → ℕ
+invokeService c = cond (eqb (c .frame) 1 && not (eqb (c .operation) 30)) (serviceOf (c .operation)) 0
+
+unfoldable pub judgeRecord : Known → Record → Outcome
+judgeRecord k c = cond (eqb (k .phase) Suspended) (outcome 27 (invokeService c)) (judgeFrame k c)
+
+-- a decoding refusal is the event's, in Suspended too
 abbrev pub judgeAnswer : Known → Answer → Outcome
 judgeAnswer k r = cond (eqb (r .number) 0) (judgeRecord k (r .value)) (noService (r .number))
 

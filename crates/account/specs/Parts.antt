@@ -1,6 +1,6 @@
 -- What the inner functions of the step do, by the numbers that they are handed. Each is tied to the definition that it serves by a lemma of proofs/Steps.antt.
 use Prim.Native.Nat.{ℕ}
-use mathlib.Core.Bool.{Bool, _&&_, _||_, cond}
+use mathlib.Core.Bool.{Bool, not, _&&_, _||_, cond}
 use lib.Dec.{eqb}
 use Rattle.types.specs.declared.Charge.{Charge}
 use Rattle.types.specs.declared.Answer.{Answer}
@@ -8,7 +8,7 @@ use Rattle.values.specs.Sets.{has}
 use Rattle.account.specs.declared.Outcome.{Outcome}
 use Rattle.account.specs.declared.Account.{Account}
 use Rattle.account.specs.declared.Change.{Change}
-use Rattle.account.specs.Outcome.{Idle, Establishment, Active, Clearing, allowed, leadsTo, S, D, E}
+use Rattle.account.specs.Outcome.{Idle, Establishment, Active, Clearing, Suspended, allowed, leadsTo, S, D, E}
 use Rattle.account.specs.Outcome.{outcome, noService, serviceOf, Requests, holderOf, firstFinal, judgeFailure, judgeFinal, judgeAnswer}
 use Rattle.account.specs.History.{was}
 use Rattle.account.specs.Step.{knownOf, noted, changeBy}
@@ -45,11 +45,18 @@ fitsBy s kind = cond (eqb s S) (eqb kind 4 || eqb kind 5) (eqb kind 0)
 abbrev pub claimResult : ℕ → ℕ → Outcome
 claimResult s kind = cond (eqb s 0) (noService 30) (cond (fitsBy s kind) (outcome 24 s) (outcome 31 s))
 
-unfoldable pub claimFrame : ℕ → Requests → ℕ → ℕ → ℕ → ℕ → ℕ → ℕ → Outcome
+abbrev pub claimFrame : ℕ → Requests → ℕ → ℕ → ℕ → ℕ → ℕ → ℕ → Outcome
 claimFrame phase q frame operation unnamed id kind total =
     cond (eqb frame 1) (claimInvoke phase q operation kind total)
     (cond (eqb frame 2) (claimResult (holderOf q id) kind)
     (cond (eqb unnamed 1) (noService 30) (judgeFailure (holderOf q id))))
+
+abbrev pub serviceBy : ℕ → ℕ → ℕ
+serviceBy frame operation = cond (eqb frame 1 && not (eqb operation 30)) (serviceOf operation) 0
+
+unfoldable pub claimRecord : ℕ → Requests → ℕ → ℕ → ℕ → ℕ → ℕ → ℕ → Outcome
+claimRecord phase q frame operation unnamed id kind total =
+    cond (eqb phase Suspended) (outcome 27 (serviceBy frame operation)) (claimFrame phase q frame operation unnamed id kind total)
 
 -- a final that is claimed is compared with the first one
 abbrev pub resolved : Account → Outcome → Charge → Outcome

@@ -1,7 +1,7 @@
 // One call's account: what is kept of its events, and what each event does to it.
 //
 // What a host holds is flat structs of numbers: its memory may hold anything, and any value has its answer.
-// Services are numbered 1 S, 2 D, 3 E. Phases: 0 Idle, 1 Establishment, 2 Active, 3 Clearing, 4 Ended.
+// Services are numbered 1 S, 2 D, 3 E. Phases: 0 Idle, 1 Establishment, 2 Active, 3 Clearing, 4 Ended, 5 Suspended.
 use types::Charge;
 use values::Services;
 ghost use mathlib.Core.Path.{_≡_};
@@ -14,7 +14,7 @@ ghost use Rattle.types.specs.Frames.{readOf};
 ghost use Rattle.account.specs.Outcome.{serviceOf, clash, asking, clashes, holderOf, judgeFinal, judgeFailure, outcome, noService};
 ghost use Rattle.account.specs.History.{Given, event, judged, accountBy, currentRate, running, closing, marks, phase, requests, fresh, stepped, steppedBy, pendingOf};
 ghost use Rattle.account.specs.Step.{requestsOf, firstFigure, moved, noted, placeOf, changeOf, changed, steppedOf, closingOf, marksOf};
-ghost use Rattle.account.specs.Parts.{nextPhase, runsBy, closesBy, claimFigure, claimInvoke, fitsBy, claimResult, claimFrame, resolved, taken};
+ghost use Rattle.account.specs.Parts.{nextPhase, runsBy, closesBy, claimFigure, claimInvoke, fitsBy, claimResult, claimFrame, serviceBy, claimRecord, resolved, taken};
 
 // number: 20 to 32, a refusal, or 0 for a phase event that is not refused. service: 0 for none.
 #[repr(C)]
@@ -23,7 +23,7 @@ pub struct Outcome {
     pub service: u8,
 }
 
-// kind: 1 Setup, 2 Connect, 3 Clear, 4 Released, 5 Component. A Setup has the set of services asked for, and their requests' identifiers.
+// kind: 1 Setup, 2 Connect, 3 Clear, 4 Released, 5 Component, 6 Suspend, 7 Resume. A Setup has the set of services asked for, and their requests' identifiers.
 #[repr(C)]
 pub struct Event {
     pub kind: u8,
@@ -158,7 +158,7 @@ pub fn fresh() -> Account
 
 // Where each kind of event leads, in hexadecimal: the digit at a phase, counted from the right, is the phase that it leads to from there.
 // 0 stands where it is not allowed, since nothing leads to Idle.
-const NEXT: [u32; 8] = [0, 0x1, 0x20, 0x330, 0x4000, 0x3210, 0, 0];
+const NEXT: [u32; 8] = [0, 0x1, 0x20, 0x300330, 0x4000, 0x503210, 0x500, 0x200000];
 
 fn next_phase(kind: u8, phase: u8) -> u8
     ensures { λ r. ⌜ r ≡ nextPhase kind phase ⌝ }
@@ -410,7 +410,7 @@ fn failure_outcome(service: u8) -> Outcome
     }
 }
 
-fn claimed(
+fn frame_outcome(
     t: Status,
     frame: u8,
     operation: u8,
@@ -435,6 +435,40 @@ fn claimed(
         };
     }
     failure_outcome(service)
+}
+
+// The service of an invoke that is no request, and 0 for any other component.
+fn service_by(frame: u8, operation: u8) -> u8
+    ensures { λ r. ⌜ r ≡ serviceBy frame operation ⌝ }
+{
+    if frame != 1 {
+        return 0;
+    }
+    if operation == 30 {
+        return 0;
+    }
+    service_of(operation)
+}
+
+fn claimed(
+    t: Status,
+    frame: u8,
+    operation: u8,
+    unnamed: u8,
+    id: u16,
+    kind: u8,
+    total: u8,
+) -> Outcome
+    ensures { λ r. ⌜ r ≡ claimRecord (t .phase) (requestsOf t) frame operation unnamed id kind total ⌝ }
+{
+    if t.phase == 5 {
+        let service = service_by(frame, operation);
+        return Outcome {
+            number: 27,
+            service,
+        };
+    }
+    frame_outcome(t, frame, operation, unnamed, id, kind, total)
 }
 
 // ---- what a component does
