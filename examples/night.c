@@ -12,12 +12,18 @@
 
 #include "aoc_text.h"
 
-enum { MOST_CALLS = 64, WORD = 16, TEXT = 1024 };
+enum { MOST_CALLS = 64, MOST_EVENTS = 256, MOST_OCTETS = 16384, WORD = 16, TEXT = 1024 };
 
 struct call {
     char room[WORD];
     unsigned number;
     aoc_account account;
+    /* the events, for the question why a call has no price */
+    uint16_t rows[MOST_EVENTS][AOC_ROW_NUMBERS];
+    char times[MOST_EVENTS][WORD];
+    uint8_t octets[MOST_OCTETS];
+    size_t events, length;
+    bool cut;                   /* there were more of them */
 };
 
 static struct call calls[MOST_CALLS];
@@ -45,14 +51,35 @@ static aoc_service service_of(char c)
     return c == 'S' ? AOC_SERVICE_S : c == 'D' ? AOC_SERVICE_D : c == 'E' ? AOC_SERVICE_E : AOC_SERVICE_NONE;
 }
 
-static aoc_outcome set_up(struct call *call, const char *services)
+/* One event: the account takes it, and it is put into the call's list. */
+static aoc_outcome take_event(struct call *call, const char *time, aoc_event event, const uint8_t *octets, size_t n)
+{
+    if (call->events == MOST_EVENTS || n > MOST_OCTETS - call->length) {
+        call->cut = true;
+    } else {
+        aoc_row_of(event, (uint16_t)n, call->rows[call->events]);
+        snprintf(call->times[call->events++], WORD, "%s", time);
+        memcpy(call->octets + call->length, octets, n);
+        call->length += n;
+    }
+    return aoc_step(&call->account, event, octets, n);
+}
+
+static aoc_outcome phase_event(struct call *call, const char *time, aoc_event_kind kind)
+{
+    aoc_event event = {(uint8_t)kind, {0, 0, 0}, 0, 0, 0};
+    return take_event(call, time, event, (const uint8_t *)"", 0);
+}
+
+static aoc_outcome set_up(struct call *call, const char *time, const char *services)
 {
     aoc_services asked = aoc_no_services();
     aoc_identifiers ids = aoc_three_identifiers(last_identifier);
     for (; *services; services++)
         asked = aoc_with_service(asked, service_of(*services));
     last_identifier = ids.e;
-    return aoc_setup(&call->account, asked, ids);
+    aoc_event event = {AOC_EVENT_SETUP, asked, ids.s, ids.d, ids.e};
+    return take_event(call, time, event, (const uint8_t *)"", 0);
 }
 
 static void print_octets(const uint8_t *octets, size_t n)
@@ -65,7 +92,8 @@ static void print_octets(const uint8_t *octets, size_t n)
 /* One component: the account takes it, and where it is refused the network may be owed a reject. */
 static void take_component(struct call *call, const char *time, const uint8_t *octets, size_t n)
 {
-    aoc_outcome outcome = aoc_component(&call->account, octets, n);
+    aoc_event event = {AOC_EVENT_COMPONENT, {0, 0, 0}, 0, 0, 0};
+    aoc_outcome outcome = take_event(call, time, event, octets, n);
     if (!aoc_is_refusal(outcome.number))
         return;
     printf("%s  room %s  call %u  a component refused: %s", time, call->room, call->number, aoc_refusal_text(outcome.number));
@@ -127,17 +155,17 @@ static void take_line(const char *line)
     }
     aoc_outcome outcome = {0, 0};
     if (!strcmp(event, "setup"))
-        outcome = set_up(call, line + used);
+        outcome = set_up(call, time, line + used);
     else if (!strcmp(event, "connect"))
-        outcome = aoc_connect(&call->account);
+        outcome = phase_event(call, time, AOC_EVENT_CONNECT);
     else if (!strcmp(event, "suspend"))
-        outcome = aoc_suspend(&call->account);
+        outcome = phase_event(call, time, AOC_EVENT_SUSPEND);
     else if (!strcmp(event, "resume"))
-        outcome = aoc_resume(&call->account);
+        outcome = phase_event(call, time, AOC_EVENT_RESUME);
     else if (!strcmp(event, "clear"))
-        outcome = aoc_clear(&call->account);
+        outcome = phase_event(call, time, AOC_EVENT_CLEAR);
     else if (!strcmp(event, "released"))
-        outcome = aoc_released(&call->account);
+        outcome = phase_event(call, time, AOC_EVENT_RELEASED);
     else if (!strcmp(event, "facility"))
         take_element(call, time, line + used);
     else
@@ -186,6 +214,18 @@ static void print_services(const char *text, aoc_services set)
             printf("%s %c", any++ ? "," : text, names[service]);
 }
 
+/* Why a call has no price, and the event behind it. */
+static void print_why(const struct call *call)
+{
+    aoc_why_answer why = aoc_why(call->rows[0], AOC_ROW_NUMBERS * call->events, call->octets, call->length);
+    if (call->cut)
+        printf("too many events to say why");
+    else
+        printf("%s", aoc_reason_text(why.reason));
+    if (!call->cut && why.event)
+        printf(" (event %u at %s)", (unsigned)why.event, call->times[why.event - 1]);
+}
+
 /* Why a clerk has to look at a call, as far as its account knows; nothing where there is no need. */
 static void print_reasons(const struct call *call)
 {
@@ -201,17 +241,17 @@ static void print_reasons(const struct call *call)
         return;
 
     printf("  room %s  call %u  ", call->room, call->number);
-    if (phase != AOC_PHASE_ENDED)
-        printf("still open (%s)", aoc_phase_text(phase));
-    else if (closing.service == AOC_SERVICE_NONE)
-        printf("no final");
+    if (closing.service == AOC_SERVICE_NONE)
+        print_why(call);
     else if (incomplete)
         printf("units not available in the final");
     else
         printf("posted by the first final");
     print_services(", another one differs:", marks.conflict);
     if (closing.service == AOC_SERVICE_NONE) {
-        print_services(", told not available:", marks.absent);
+        if (phase != AOC_PHASE_ENDED)
+            printf(", %s", aoc_phase_text(phase));
+        print_services(", not available:", marks.absent);
         print_services(", request not answered:", aoc_pending_of(&call->account).asked);
         if (running.kind != AOC_CHARGE_NONE) {
             printf(", last running figure ");

@@ -52,6 +52,7 @@ extern "C" {
     ROW(AOC_REFUSED_BAD_SETUP, 13, "two requests with one identifier")                                 \
     ROW(AOC_REFUSED_WRONG_PHASE, 14, "an event that is not allowed in this phase")                     \
     ROW(AOC_REFUSED_BAD_ELEMENT, 15, "a malformed Facility element")                                   \
+    ROW(AOC_REFUSED_LENGTHS, 48, "lengths that do not add up")                                         \
     AOC_ARGUMENT_REFUSALS(ROW)
 
 /* Those of an argument or result: reading gives them with the offset of an octet. */
@@ -541,6 +542,37 @@ static inline aoc_closing aoc_closing_of(const aoc_account *account);
 static inline aoc_marks aoc_marks_of(const aoc_account *account);
 static inline aoc_pending aoc_pending_of(const aoc_account *account);
 static inline uint8_t aoc_phase_of(const aoc_account *account);
+
+/* ------------------------------------------------------------------ a call's event list */
+
+/* An event list is rows of six numbers, and the octets of all its events end to end. A row: the event's kind; the services
+ * asked for, 1 S, 2 D, 4 E added up; the identifiers of S, D and E; how many of the octets are the event's. */
+enum { AOC_ROW_NUMBERS = 6 };
+
+/* Inline. The row of an event that has so many octets. */
+static inline void aoc_row_of(aoc_event event, uint16_t count, uint16_t *row);
+
+/* Why a call has no price. */
+#define AOC_REASONS(ROW)                                                                               \
+    ROW(AOC_REASON_OPEN, 1, "still open")                                                              \
+    ROW(AOC_REASON_PRICED, 2, "there is a closing figure")                                             \
+    ROW(AOC_REASON_PASSED_OVER, 3, "a figure was ignored or out of phase")                             \
+    ROW(AOC_REASON_NOT_AVAILABLE, 4, "told not available")                                             \
+    ROW(AOC_REASON_RUNNING, 5, "only running figures")                                                 \
+    ROW(AOC_REASON_REFUSED, 6, "a component was refused")                                              \
+    ROW(AOC_REASON_NOTHING, 7, "nothing usable came in time")
+
+typedef enum { AOC_REASONS(AOC_ROW_NAME) } aoc_reason;
+
+typedef struct {
+    uint32_t refusal;           /* AOC_REFUSED_LENGTHS for slices that are no event list, and then the rest is 0 */
+    uint32_t reason;            /* aoc_reason */
+    uint64_t event;             /* the event's number, from 1; 0 for none */
+} aoc_why_answer;
+
+/* Proved. Of a call that starts with no event and goes through the list: the first reason, in the order above, that holds, and
+ * its earliest event; of AOC_REASON_PRICED the event that gave the closing figure. `numbers` is six times the rows. */
+aoc_why_answer aoc_why(const uint16_t *rows, size_t numbers, const uint8_t *octets, size_t length);
 
 #include "aoc_parts.h"
 

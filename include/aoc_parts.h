@@ -195,6 +195,18 @@ static inline uint8_t aoc_phase_of(const aoc_account *account)
     return account->phase;
 }
 
+/* ------------------------------------------------------------------ a call's event list */
+
+static inline void aoc_row_of(aoc_event event, uint16_t count, uint16_t *row)
+{
+    row[0] = event.kind;
+    row[1] = (uint16_t)((event.asked.s ? 1 : 0) | (event.asked.d ? 2 : 0) | (event.asked.e ? 4 : 0));
+    row[2] = event.s;
+    row[3] = event.d;
+    row[4] = event.e;
+    row[5] = count;
+}
+
 /* ------------------------------------------------------------------ the layout that the library has */
 
 #ifdef __cplusplus
@@ -233,6 +245,7 @@ AOC_LAYOUT(offsetof(aoc_account, d_final) == 752 && offsetof(aoc_account, e_fina
 AOC_LAYOUT(sizeof(aoc_closing) == 372 && offsetof(aoc_closing, charge) == 4);
 AOC_LAYOUT(sizeof(aoc_marks) == 6 && offsetof(aoc_marks, conflict) == 3);
 AOC_LAYOUT(sizeof(aoc_pending) == 10 && offsetof(aoc_pending, s) == 4);
+AOC_LAYOUT(sizeof(aoc_why_answer) == 16 && offsetof(aoc_why_answer, event) == 8);
 #undef AOC_LAYOUT
 
 #endif

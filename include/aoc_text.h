@@ -36,6 +36,14 @@ static inline const char *aoc_phase_text(uint32_t phase)
     }
 }
 
+static inline const char *aoc_reason_text(uint32_t reason)
+{
+    switch (reason) {
+        AOC_REASONS(AOC_ROW_WORDS)
+    default: return "no reason of this library";
+    }
+}
+
 static inline const char *aoc_billing_text(uint32_t billing)
 {
     switch (billing) {

@@ -6,16 +6,18 @@ E <hex>                  Facility element <number> <count> <starts, comma separa
 J <room> <hex>           reject in reply  <number> <count> <hex>
 T <number> <multiplier>  thousandths      <thousandths>
 A <event>;<event>;...    account          outcome,service,phase,rate,running,closing,its service,marks,pending,identifiers;...
+Y <rows> <hex>           why no price     <number> <reason> <event>
 
 Events: S <id>,<id>,<id> Setup, C Connect, X Clear, L Released, P Suspend, U Resume, M<hex> Component.
 
-Hex is small and without spaces. An empty last field leaves the space before it.
+A row's six numbers are four hex digits each. Hex is small and without spaces. An empty last field leaves the space before it.
 """
 
 import sys
 import zlib
 
 import aoc
+import why
 
 NO_RECORD = "00" * 376
 
@@ -83,8 +85,14 @@ def answer_account(rest):
     return ";".join(answers)
 
 
+def answer_why(rest):
+    rows, octets = rest.split(" ")
+    numbers = [int(rows[i:i + 4], 16) for i in range(0, len(rows), 4)]
+    return "{} {} {}".format(*why.why(numbers, bytes.fromhex(octets)))
+
+
 ANSWERS = {"R": answer_read, "W": answer_write, "E": answer_element, "J": answer_reply,
-           "T": answer_thousandths, "A": answer_account}
+           "T": answer_thousandths, "A": answer_account, "Y": answer_why}
 
 
 def answer(line):

@@ -980,6 +980,49 @@ def account_input(rng, length):
     return "A " + ";".join(events)
 
 
+KINDS = {"S": 1, "C": 2, "X": 3, "L": 4, "M": 5, "P": 6, "U": 7}
+
+
+def row_of(rng, event):
+    """A row's first five numbers, with nonsense where they are not looked at, and the octets."""
+    kind, asked, ids, octets = KINDS[event[0]], 0, [rng.randrange(4) for _ in range(3)], b""
+    if kind == 1:
+        for bit, i in enumerate(event[2:].split(",")):
+            if i != "-":
+                asked, ids[bit] = asked | 1 << bit, int(i)
+    elif kind == 5:
+        octets = bytes.fromhex(event[1:])
+    if rng.random() < 0.1:
+        asked |= rng.randrange(1 << 13) << 3
+    if kind != 5 and rng.random() < 0.03:
+        octets = bytes(rng.randrange(256) for _ in range(rng.randint(1, 3)))
+    return [kind, asked, *ids], octets
+
+
+def why_input(rng, length):
+    """An event list in slices, most often one that ends, at times one that does not add up."""
+    text = account_input(rng, length)[2:]
+    events = text.split(";") if text else []
+    if rng.random() < 0.8:
+        events += ["C"] * (rng.random() < 0.2) + ["X", "L"] + ["M" + spoil(rng).hex()] * rng.randrange(2)
+    rows, octets = [], b""
+    for event in events:
+        row, part = row_of(rng, event)
+        if rng.random() < 0.03:
+            row[0] = rng.choice((0, 8, 9, 255, 256, 257, 261, 65535))
+        rows += [*row, len(part)]
+        octets += part
+    damage = rng.random()
+    if damage < 0.02 and rows:
+        rows = rows[:-rng.randint(1, 5)]
+    elif damage < 0.04:
+        octets += b"\0" * rng.randint(1, 2)
+    elif damage < 0.06 and rows:
+        at = 6 * rng.randrange(len(rows) // 6) + 5
+        rows[at] = rng.choice((rows[at] + 1, max(0, rows[at] - 1), 65535))
+    return "Y " + "".join(f"{n:04x}" for n in rows) + " " + octets.hex()
+
+
 # ---------------------------------------------------------------- the mix
 
 def component_source(rng):
@@ -996,7 +1039,7 @@ def lines(seed, count):
     records = record_sweep(rng)
     turn = counting()
     for _ in range(count):
-        kind = rng.choices("RWEJTA", (38, 20, 6, 8, 1, 27))[0]
+        kind = rng.choices("RWEJTAY", (38, 20, 6, 8, 1, 27, 12))[0]
         if kind == "R":
             yield "R " + next(octets).hex()
         elif kind == "W":
@@ -1008,6 +1051,8 @@ def lines(seed, count):
             yield f"J {room} {next(octets).hex()}"
         elif kind == "T":
             yield f"T {number(rng)} {rng.choice((0, 1, 2, 3, 4, 5, 6, 6, 7, 8, 255))}"
+        elif kind == "Y":
+            yield why_input(rng, rng.randint(0, 12))
         else:
             # Every length 0 to 12 in turn, the longer ones twice.
             yield account_input(rng, (0, 1, 2, 3, 4, 5, 6, 7, 8, 9, 10, 11, 12, 9, 10, 11, 12)[next(turn) % 17])

@@ -9,6 +9,7 @@ import sys
 
 import aoc
 import inputs
+import why
 from aoc import D, E, S
 
 passed = failed = 0
@@ -329,6 +330,63 @@ def padded():
         check("its count", made.closing.figure.money.currency.count, len(octets(text1)))
 
 
+# Lists of events with the reason and the event: `sub`, `tot` a D subtotal and total in thousandths of EUR, `na` not available,
+# `yes`, `no` a return result with NULL and a return error, `bad` a component that is no right one, `cut` one of no octets.
+REASONS = (
+    ("", (1, 0)),
+    ("setup; connect; sub 500; clear; tot 500", (1, 0)),
+    ("setup; connect; sub 500; suspend", (1, 0)),
+    ("setup; connect; clear; tot 500; E units 12; released", (2, 5)),
+    ("setup; connect; clear; E 700; tot 500; tot 600; released", (2, 4)),
+    ("connect; setup; clear; D free; released; cut", (2, 4)),
+    ("setup; connect; tot 500; E na; clear; sub 500; released", (3, 3)),
+    ("setup - 5 -; sub 500; D na; connect; yes 5; sub 500; clear; released", (3, 2)),
+    ("setup - 5 -; D na; connect; suspend; D na; sub 500; resume; clear; released", (3, 6)),
+    ("setup - 5 -; D na; connect; suspend; E na; S rate; yes 5; resume; clear; released", (7, 0)),
+    ("setup; connect; E free; clear; released", (3, 3)),
+    ("setup; S na; connect; sub 500; E na; D na; clear; released", (4, 5)),
+    ("setup; bad; connect; D free; sub 500; clear; released", (5, 4)),
+    ("setup; connect; S na; request; clear; cut; bad; released", (6, 6)),
+    ("bad; setup; clear; released; bad", (7, 0)),
+    ("setup 1 1 -; setup 1 2 -; connect; S rate; clear; no 1; released", (7, 0)),
+    ("setup; connect; suspend; sub 500; clear; E free; released", (2, 6)),
+)
+PLAIN = {"connect": 2, "clear": 3, "released": 4, "suspend": 6, "resume": 7}
+OCTETS = {"D free": C6, "E free": C7, "D na": octets("A1 08 02 01 03 02 01 21 05 00"), "E na": octets("A1 08 02 01 04 02 01 23 05 00"),
+          "S na": octets("A1 08 02 01 01 02 01 1F 05 00"), "S rate": octets("A1 09 02 01 06 02 01 20 02 01 04"), "E units 12": C2,
+          "yes 5": C4, "no 1": octets("A3 06 02 01 01 02 01 1A"), "request": C3, "cut": b"",
+          "bad": octets("A1 08 02 01 03 02 01 23 81 00")}
+
+
+def said(event):
+    """The octets of a component that is named."""
+    if event in OCTETS:
+        return OCTETS[event]
+    word, value = event.split(" ")
+    charge = inputs.amount(b"EUR", int(value), 0)
+    charge.figure.total = int(word == "tot")
+    return aoc.write(aoc.Record(frame=1, id=1, operation=35 if word == "E" else 33, charge=charge), 254)[1]
+
+
+def row_of(event):
+    word, *ids = event.split(" ")
+    if word in PLAIN:
+        return [PLAIN[word], 0, 0, 0, 0, 0], b""
+    if word == "setup":
+        ids = ids or ["-"] * 3
+        return [1, sum(1 << i for i, x in enumerate(ids) if x != "-"), *(0 if x == "-" else int(x) for x in ids), 0], b""
+    return [5, 0, 0, 0, 0, len(said(event))], said(event)
+
+
+def reasons():
+    for text, wanted in REASONS:
+        rows = [row_of(event) for event in text.split("; ") if event]
+        given = [n for row, _ in rows for n in row], b"".join(part for _, part in rows)
+        check(text, why.why(*given), (0, *wanted))
+        check("an octet more", why.why(given[0], given[1] + b"\0"), (48, 0, 0))
+        check("a number more", why.why(given[0] + [0], given[1]), (48, 0, 0))
+
+
 # A call parked and taken up again (document 02, request 5): events, outcomes with their service, and what stands at the end.
 PARKED_OCTETS = {
     "D-sub": C1, "D-sub2": octets("A1 1A 02 01 01 02 01 21 30 12 A1 0D 81 03 45 55 52 A2 06 81 01 51 82 01 01 82 01 00"),
@@ -425,6 +483,7 @@ def main():
     fields()
     lists()
     padded()
+    reasons()
     parked()
     line_program()
     generated(count)

@@ -196,6 +196,16 @@ static void answer_account(const char *rest)
     }
 }
 
+static void answer_why(const char *rest)
+{
+    static uint16_t rows[WIDEST / 4];
+    size_t n = unhex(rest, octets);
+    for (size_t i = 0; i < n / 2; i++)
+        rows[i] = (uint16_t)(octets[2 * i] << 8 | octets[2 * i + 1]);
+    aoc_why_answer why = aoc_why(rows, n / 2, octets, unhex(strchr(rest, ' ') + 1, octets));
+    printf("%u %u %llu", (unsigned)why.refusal, (unsigned)why.reason, (unsigned long long)why.event);
+}
+
 int main(void)
 {
     while (fgets(line, sizeof line, stdin)) {
@@ -223,6 +233,9 @@ int main(void)
             break;
         case 'A':
             answer_account(line + 2);
+            break;
+        case 'Y':
+            answer_why(line + 2);
             break;
         default:
             fputs("not a line", stdout);

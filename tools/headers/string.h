@@ -10,6 +10,7 @@ size_t strspn(const char *, const char *);
 int strcmp(const char *, const char *);
 int memcmp(const void *, const void *, size_t);
 void *memcpy(void *, const void *, size_t);
+void *memmove(void *, const void *, size_t);
 void *memset(void *, int, size_t);
 /* as a compiler with its own C library takes them, so that small copies are no calls */
 #define memcpy(to, from, n) __builtin_memcpy(to, from, n)

@@ -18,6 +18,7 @@ ghost use Rattle.facility.specs.Element.{elementOf};
 ghost use Rattle.values.specs.Amounts.{powers};
 ghost use Rattle.values.specs.Identifiers.{nextOf, oneUp};
 ghost use Rattle.values.specs.Sets.{emptySet, isService, has, with};
+ghost use Rattle.why.specs.Reasons.{whyOf};
 ghost use Rattle.account.specs.History.{Given, event, judged, accountBy, currentRate, running, closing, marks, phase, requests, stepped, steppedBy, fresh, pendingOf};
 ghost use Rattle.account.specs.Step.{requestsOf, steppedOf, closingOf, marksOf};
 
@@ -186,4 +187,13 @@ pub extern "C" fn aoc_phase_of(a: account::Account) -> u8
     ensures rules { λ r. ⌜ ((h : List Given) → a ≡ accountBy (judged h) → r ≡ phase (judged h)) ⌝ }
 {
     account::phase_of(a)
+}
+
+// ---- event lists
+
+#[no_mangle]
+pub extern "C" fn aoc_why(rows: &[u16], octets: &[u8]) -> why::Reason
+    ensures { λ r. ⌜ r ≡ whyOf (now (rows .entry)) (now (octets .entry)) ⌝ }
+{
+    why::why(rows, octets)
 }

@@ -1,0 +1,81 @@
+// A call's event list in two slices: rows of six numbers, and the octets of all events end to end.
+//
+// A row: the kind; the services asked for, 1 S, 2 D, 4 E added up; the identifiers of S, D, E; how many of the octets are the event's.
+ghost use Prim.Native.Nat.{ℕ, _<_, _/_, _%_};
+ghost use mathlib.Core.Path.{_≡_};
+ghost use lib.ListN.{length};
+ghost use Rattle.events.specs.Events.{kindOf, setOf, rowAt, countAt, addsUp, fits};
+
+fn wide(n: u16) -> usize
+    ensures { λ r. ⌜ r ≡ n ⌝ }
+{
+    n as usize
+}
+
+// Whether the counts of the rows add up to the octets.
+fn rows_fit(rows: &[u16], total: usize) -> bool
+    ensures { λ r. ⌜ r ≡ fits (now (rows .entry)) 0 (length (now (rows .entry)) / 6) total ⌝ }
+{
+    let n = rows.len() / 6;
+    let mut left = total;
+    let mut i: usize = 0;
+    while i < n {
+        let count = wide(rows[i * 6 + 5]);
+        if left < count {
+            return false;
+        }
+        left -= count;
+        i += 1;
+    }
+    left == 0
+}
+
+// Whether the slices are an event list.
+pub fn adds_up(rows: &[u16], total: usize) -> bool
+    ensures { λ r. ⌜ r ≡ addsUp (now (rows .entry)) total ⌝ }
+{
+    if rows.len() % 6 != 0 {
+        return false;
+    }
+    rows_fit(rows, total)
+}
+
+fn kind_of(n: u16) -> u8
+    ensures { λ r. ⌜ r ≡ kindOf n ⌝ }
+{
+    if n <= 255 { n as u8 } else { 0 }
+}
+
+fn set_of(n: u16) -> values::Services
+    ensures { λ r. ⌜ r ≡ setOf n ⌝ }
+{
+    values::Services {
+        s: (n % 2) as u8,
+        d: (n / 2 % 2) as u8,
+        e: (n / 4 % 2) as u8,
+    }
+}
+
+// The event of row i, but for its octets.
+pub fn row_at(rows: &[u16], i: usize) -> account::Event
+    requires { ⌜ i < length (now rows) / 6 ⌝ }
+    ensures { λ r. ⌜ r ≡ rowAt (now (rows .entry)) i ⌝ }
+{
+    let kind = kind_of(rows[i * 6]);
+    let asked = set_of(rows[i * 6 + 1]);
+    account::Event {
+        kind,
+        asked,
+        s: rows[i * 6 + 2],
+        d: rows[i * 6 + 3],
+        e: rows[i * 6 + 4],
+    }
+}
+
+// How many octets the event of row i has.
+pub fn count_at(rows: &[u16], i: usize) -> usize
+    requires { ⌜ i < length (now rows) / 6 ⌝ }
+    ensures { λ r. ⌜ r ≡ countAt (now (rows .entry)) i ⌝ }
+{
+    wide(rows[i * 6 + 5])
+}

@@ -1,0 +1,3 @@
+pub mod Seeing
+pub mod Theorems
+pub mod Priced

@@ -1,0 +1,83 @@
+-- The reason is 2 exactly where the account has a closing figure, and its event has that figure.
+use Prim.Native.Nat.{ℕ, _+_}
+use mathlib.Core.Path.{_≡_, refl, sym, _∙_}
+use mathlib.Core.Bool.{Bool, true, false, not, cond}
+use mathlib.Core.List.{List, [], _∷_, reverse}
+use native.Mathlib.Omega.{arith}
+use lib.ListN.{length}
+use lib.Dec.{eqb}
+use borrow.Author.Tests.{eq-eqb, ne-eqb, not-true, not-false}
+use Rattle.types.specs.declared.Charge.{Charge}
+use Rattle.types.specs.Arguments.{noCharge}
+use Rattle.account.specs.Outcome.{Ended, D, E, firstFinal, judge}
+use Rattle.account.specs.History.{Given, Judged, any, chargeIn, known, judged, phase, its, hasFinal, final, closing}
+use Rattle.account.proofs.Choice.{by-test, by-number, never}
+use Rattle.account.proofs.Demand.{only-final}
+use Rattle.why.specs.declared.Reason.{Reason}
+use Rattle.why.specs.Reasons.{orElse, earliest, ifFound, seenBy, explained, reasonOf}
+use Rattle.why.proofs.Theorems.{at-most}
+
+-- the charge of event n
+abbrev pub chargeAt : ℕ → List Judged → Charge
+chargeAt n [] = noCharge
+chargeAt n (j ∷ h) = cond (eqb n (length h + 1)) (chargeIn (j .octets)) (chargeAt n h)
+
+any-found : (t : Judged → Bool) (h : List Judged) → any t h ≡ not (eqb (earliest t h) 0)
+any-found t [] = refl
+any-found t (j ∷ h) =
+    by-test (t j)
+    (λ q. by-test (eqb (earliest t h) 0) (λ e. simp (e, q, ne-eqb (length h + 1) 0 (λ z. omega arith))) (λ e. simp (e, q)))
+    (λ q. by-test (eqb (earliest t h) 0) (λ e. simp (e, q, any-found t h)) (λ e. simp (e, q, any-found t h)))
+
+other : (n e : ℕ) (rest : Reason) → eqb n 2 ≡ false → eqb (rest .reason) 2 ≡ false → eqb (ifFound n e rest .reason) 2 ≡ false
+other n e rest p q = by-test (eqb e 0) (λ z. rw z q) (λ z. rw z p)
+
+-- ---- a service has one 22, so that the earliest is the last
+
+kept : (e n : ℕ) → orElse e false n ≡ e
+kept e n = by-number e 0 (λ z. rw z) (λ z. rw z)
+
+module _ (s : ℕ) (same : (h : List Given) → firstFinal (known (judged h)) s .given ≡ hasFinal s (judged h)) where
+  gives : (h : List Given) → final s (judged h) ≡ chargeAt (earliest (λ j. its s 22 (j .outcome)) (judged h)) (judged h)
+  gives [] = refl
+  gives (g ∷ h) =
+      let e : ℕ = earliest (λ j. its s 22 (j .outcome)) (judged h) in
+      let n : ℕ = length (judged h) + 1 in
+      by-test (its s 22 (judge (known (judged h)) (g .event) (g .octets)))
+      (λ q. by-test (hasFinal s (judged h))
+      (λ f. never (sym (only-final (known (judged h)) (g .event) (g .octets) s (same h ∙ f)) ∙ q))
+      (λ f. rw (q, not-false (eqb e 0) (sym (any-found (λ j. its s 22 (j .outcome)) (judged h)) ∙ f), eq-eqb n n refl)))
+      (λ q. rw (q, kept e n, ne-eqb e n (λ z. omega (arith, at-most (λ j. its s 22 (j .outcome)) (judged h)))) (gives h))
+
+-- ---- by the phase and the finals
+
+priced-by : (h : List Judged) → eqb (explained h .reason) 2 ≡ not (eqb (closing h .service) 0)
+unfolding explained
+priced-by h =
+    by-test (eqb (phase h) Ended)
+    (λ p. by-test (eqb (seenBy h .efinal) 0)
+    (λ x. by-test (eqb (seenBy h .dfinal) 0)
+    (λ y. simp (p, any-found, x, y)
+    (other 3 (seenBy h .figure) _ refl (other 4 (seenBy h .absent) _ refl (other 5 (seenBy h .running) _ refl (other 6 (seenBy h .refused) _ refl refl)))))
+    (λ y. simp (p, any-found, x, y)))
+    (λ x. simp (p, any-found, x)))
+    (λ p. simp p)
+
+pub priced : (l : List Given) → eqb (reasonOf l .reason) 2 ≡ not (eqb (closing (judged (reverse l)) .service) 0)
+unfolding reasonOf
+priced l = priced-by (judged (reverse l))
+
+gave-by : (h : List Given) → eqb (closing (judged h) .service) 0 ≡ false → closing (judged h) .value ≡ chargeAt (explained (judged h) .event) (judged h)
+unfolding explained
+gave-by h q =
+    by-test (eqb (phase (judged h)) Ended)
+    (λ p. by-test (eqb (seenBy (judged h) .efinal) 0)
+    (λ x. by-test (eqb (seenBy (judged h) .dfinal) 0)
+    (λ y. let z : true ≡ false = simp (p, any-found, x, y) at q in never (sym z))
+    (λ y. simp (p, any-found, x, y) (gives D (λ h. refl) h)))
+    (λ x. simp (p, any-found, x) (gives E (λ h. refl) h)))
+    (λ p. let z : true ≡ false = simp p at q in never (sym z))
+
+pub gave : (l : List Given) → reasonOf l .reason ≡ 2 → closing (judged (reverse l)) .value ≡ chargeAt (reasonOf l .event) (judged (reverse l))
+unfolding reasonOf
+gave l r = gave-by (reverse l) (not-true (eqb (closing (judged (reverse l)) .service) 0) (sym (priced l) ∙ eq-eqb (reasonOf l .reason) 2 r))

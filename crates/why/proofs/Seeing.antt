@@ -1,0 +1,61 @@
+-- Going over the list once finds what the rules over the list say.
+use Prim.Native.Nat.{ℕ, _+_, _-_, _/_, _<_, _≤_}
+use mathlib.Core.Path.{_≡_, refl, sym, ap, _∙_}
+use mathlib.Core.Bool.{true, false}
+use mathlib.Core.List.{List, [], _∷_, reverse, reverseAux}
+use native.Mathlib.Numerals.{add-one}
+use lib.ListN.{length, take, drop}
+use Rattle.account.specs.declared.Event.{Event}
+use Rattle.account.specs.Step.{steppedOf}
+use Rattle.account.specs.History.{Given, Judged, event, judged, accountBy}
+use Rattle.account.proofs.Demand.{step-stands}
+use Rattle.events.specs.Events.{rowAt, countAt, addsUp, eventsFrom, eventsOf, Going}
+use Rattle.events.proofs.Laws.{from-start, nothing-left, next-event}
+use Rattle.why.specs.declared.Reason.{Reason}
+use Rattle.why.specs.declared.State.{State}
+use Rattle.why.specs.Reasons.{concluded, explained, reasonOf, whyOf}
+use Rattle.why.specs.Seeing.{start, turnOf, runFrom, stateBy}
+
+-- a state that stands for a history goes on to one that stands for the history with the event
+turn-stands : (h : List Given) (g : Given) → turnOf (stateBy (judged h)) (g .event) (g .octets) (length (judged h) + 1) ≡ stateBy (judged (g ∷ h))
+unfolding turnOf
+turn-stands h g = rw (step-stands h g) refl
+
+run-stands : (h l : List Given) → runFrom (stateBy (judged h)) (length (judged h)) l ≡ explained (judged (reverseAux l h))
+unfolding runFrom explained
+run-stands h [] = refl
+run-stands h (g ∷ l) = rw (turn-stands h g) (run-stands (g ∷ h) l)
+
+whole : (l : List Given) → runFrom start 0 l ≡ reasonOf l
+unfolding reasonOf
+whole l = run-stands [] l
+
+-- ---- the loop
+
+module _ (rows octets : List ℕ) where
+  pub run-start : runFrom start 0 (eventsFrom rows octets 0 (length rows / 6 - 0) 0) ≡ reasonOf (eventsOf rows octets)
+  run-start = ap (runFrom start 0) (from-start rows octets) ∙ whole (eventsOf rows octets)
+
+  module _ (i at : ℕ) (t : State) where
+    pub run-end : length rows / 6 ≤ i → runFrom t i (eventsFrom rows octets i (length rows / 6 - i) at) ≡ concluded (t .account .status .phase) (t .seen)
+    unfolding runFrom
+    run-end h = rw (nothing-left rows octets i at h) refl
+
+    pub run-next : (c : ℕ) (e : Event) (r : State) → Going rows octets i at → i < length rows / 6 → c ≡ countAt rows i → e ≡ rowAt rows i
+        → r ≡ turnOf t e (take (at + c - at) (drop at octets)) (i + 1)
+        → runFrom r (i + 1) (eventsFrom rows octets (i + 1) (length rows / 6 - (i + 1)) (at + c)) ≡ runFrom t i (eventsFrom rows octets i (length rows / 6 - i) at)
+    unfolding runFrom
+    run-next c e r g h p z q =
+        ap (λ (k : ℕ). runFrom r k (eventsFrom rows octets (i + 1) (length rows / 6 - (i + 1)) (at + c))) (add-one i)
+        ∙ rw (next-event rows octets i at g h c p, q, z) refl
+
+-- ---- what the slices answer
+
+module _ (rows octets : List ℕ) where
+  pub why-list : addsUp rows (length octets) ≡ true → whyOf rows octets ≡ reasonOf (eventsOf rows octets)
+  unfolding whyOf
+  why-list e = rw e refl
+
+  pub why-none : addsUp rows (length octets) ≡ false → whyOf rows octets ≡ record { number = 48; reason = 0; event = 0 }
+  unfolding whyOf
+  why-none e = rw e refl

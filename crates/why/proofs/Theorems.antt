@@ -1,0 +1,148 @@
+-- The reason given holds with its event, no reason earlier in the order holds with any event, and it holds with no earlier event.
+use Prim.Native.Nat.{ℕ, _+_, _≤_, _<_}
+use mathlib.Core.Path.{_≡_, refl}
+use mathlib.Core.Bool.{Bool, true, false}
+use mathlib.Core.List.{List, [], _∷_, reverse}
+use native.Mathlib.Omega.{arith}
+use lib.ListN.{length}
+use lib.Dec.{eqb}
+use borrow.Author.Tests.{eqb-false, ne-eqb}
+use Rattle.account.proofs.Choice.{by-test, by-number}
+use Rattle.account.specs.Outcome.{Ended, D, E}
+use Rattle.account.specs.History.{Given, Judged, judged, phase, was, its}
+use Rattle.why.specs.declared.Reason.{Reason}
+use Rattle.why.specs.Reasons.{passedOver, toldAbsent, unread, orElse, earliest, because, ifFound, seenBy, explained, reasonOf}
+
+-- event n of a history passes a test
+pub data Passes (t : Judged → Bool) : List Judged → ℕ → Type 0 where
+  latest : {j : Judged} {h : List Judged} {n : ℕ} → n ≡ length h + 1 → t j ≡ true → Passes t (j ∷ h) n
+  before : {j : Judged} {h : List Judged} {n : ℕ} → Passes t h n → Passes t (j ∷ h) n
+
+-- a reason holds with an event (0: with none)
+pub data Holds (h : List Judged) : ℕ → ℕ → Type 0 where
+  stillOpen : (phase h ≡ Ended → ⊥) → Holds h 1 0
+  closedByE : {n : ℕ} → phase h ≡ Ended → Passes (λ j. its E 22 (j .outcome)) h n → Holds h 2 n
+  closedByD : {n : ℕ} → phase h ≡ Ended → ((m : ℕ) → Passes (λ j. its E 22 (j .outcome)) h m → ⊥) → Passes (λ j. its D 22 (j .outcome)) h n → Holds h 2 n
+  figurePassedOver : {n : ℕ} → Passes (λ j. passedOver (j .outcome) (j .octets)) h n → Holds h 3 n
+  notAvailable : {n : ℕ} → Passes (λ j. toldAbsent (j .outcome)) h n → Holds h 4 n
+  onlyRunning : {n : ℕ} → Passes (λ j. was 21 (j .outcome)) h n → Holds h 5 n
+  componentRefused : {n : ℕ} → Passes (λ j. unread (j .outcome)) h n → Holds h 6 n
+  nothingUsable : Holds h 7 0
+
+-- ---- the earliest event that passes
+
+module _ (t : Judged → Bool) where
+  found : (h : List Judged) → (earliest t h ≡ 0 → ⊥) → Passes t h (earliest t h)
+  found [] z = absurd (z refl)
+  found (j ∷ h) z =
+      by-number (earliest t h) 0
+      (λ e. by-test (t j) (λ q. rw (e, q) (latest refl q)) (λ q. absurd (z (rw (e, q) refl))))
+      (λ e. rw e (before (found h (eqb-false (earliest t h) 0 e))))
+
+  none-found : (h : List Judged) → ((n : ℕ) → Passes t h n → ⊥) → earliest t h ≡ 0
+  none-found h none = by-number (earliest t h) 0 (λ e. e) (λ e. absurd (none (earliest t h) (found h (eqb-false (earliest t h) 0 e))))
+
+  pub at-most : (h : List Judged) → earliest t h ≤ length h
+  at-most [] = omega arith
+  at-most (j ∷ h) =
+      by-number (earliest t h) 0
+      (λ e. by-test (t j) (λ q. rw (e, q) (omega arith)) (λ q. rw (e, q) (omega arith)))
+      (λ e. rw e (omega (arith, at-most h)))
+
+  first : {h : List Judged} {n : ℕ} → Passes t h n → (earliest t h ≡ 0 → ⊥) × (earliest t h ≤ n)
+  first (latest {j} {h} {n} e q) =
+      by-number (earliest t h) 0
+      (λ z. rw (z, q) ((λ y. omega arith), omega arith))
+      (λ z. rw z (eqb-false (earliest t h) 0 z, omega (arith, at-most h)))
+  first (before {j} {h} {n} p) = rw (ne-eqb (earliest t h) 0 (first p .0)) (first p)
+
+-- ---- the reason given holds with its event
+
+module _ (h : List Judged) where
+  abbrev Right : Reason → Type 0
+  Right r = Holds h (r .reason) (r .event)
+
+  give : (n e : ℕ) (rest : Reason) → ((e ≡ 0 → ⊥) → Holds h n e) → (e ≡ 0 → Right rest) → Right (ifFound n e rest)
+  give n e rest p q = by-number e 0 (λ z. rw z (q z)) (λ z. rw z (p (eqb-false e 0 z)))
+
+  right : Right (explained h)
+  unfolding explained
+  right =
+      by-number (phase h) Ended
+      (λ p. rw p
+      (give 2 _ _ (λ e. closedByE p (found _ h e)) (λ z.
+      give 2 _ _ (λ e. closedByD p (λ m q. first _ q .0 z) (found _ h e)) (λ _.
+      give 3 _ _ (λ e. figurePassedOver (found _ h e)) (λ _.
+      give 4 _ _ (λ e. notAvailable (found _ h e)) (λ _.
+      give 5 _ _ (λ e. onlyRunning (found _ h e)) (λ _.
+      give 6 _ _ (λ e. componentRefused (found _ h e)) (λ _.
+      nothingUsable))))))))
+      (λ p. rw p (stillOpen (eqb-false (phase h) Ended p)))
+
+pub true-reason : (l : List Given) → Holds (judged (reverse l)) (reasonOf l .reason) (reasonOf l .event)
+unfolding reasonOf
+true-reason l = right (judged (reverse l))
+
+-- ---- it is the first in the order, with the first event
+
+abbrev Least : ℕ → ℕ → Reason → Type 0
+Least m n r = (r .reason ≤ m) × (r .reason ≡ m → r .event ≤ n)
+
+skip : (k m n e : ℕ) (rest : Reason) → k < m → Least m n rest → Least m n (ifFound k e rest)
+skip k m n e rest h l = by-test (eqb e 0) (λ q. rw q l) (λ q. rw q (omega arith, λ z. omega arith))
+
+hit : (m n e : ℕ) (rest : Reason) → (e ≡ 0 → ⊥) × (e ≤ n) → Least m n (ifFound m e rest)
+hit m n e rest p = rw (ne-eqb e 0 (p .0)) (omega arith, λ _. p .1)
+
+module _ (h : List Judged) where
+  -- the order from a reason on
+  abbrev from6 : Reason
+  from6 = ifFound 6 (seenBy h .refused) (because 7 0)
+
+  abbrev from5 : Reason
+  from5 = ifFound 5 (seenBy h .running) from6
+
+  abbrev from4 : Reason
+  from4 = ifFound 4 (seenBy h .absent) from5
+
+  abbrev from3 : Reason
+  from3 = ifFound 3 (seenBy h .figure) from4
+
+  module _ (m n : ℕ) where
+    past2 : 2 < m → Least m n from3 → Least m n (explained h)
+    unfolding explained
+    past2 k l =
+        by-test (eqb (phase h) Ended)
+        (λ p. rw p (skip 2 m n (seenBy h .efinal) _ k (skip 2 m n (seenBy h .dfinal) _ k l)))
+        (λ p. rw p (omega arith, λ z. omega arith))
+
+    past3 : 3 < m → Least m n from4 → Least m n (explained h)
+    past3 k l = past2 (omega arith) (skip 3 m n (seenBy h .figure) _ k l)
+
+    past4 : 4 < m → Least m n from5 → Least m n (explained h)
+    past4 k l = past3 (omega arith) (skip 4 m n (seenBy h .absent) _ k l)
+
+    past5 : 5 < m → Least m n from6 → Least m n (explained h)
+    past5 k l = past4 (omega arith) (skip 5 m n (seenBy h .running) _ k l)
+
+    past6 : 6 < m → Least m n (because 7 0) → Least m n (explained h)
+    past6 k l = past5 (omega arith) (skip 6 m n (seenBy h .refused) _ k l)
+
+  least : {m n : ℕ} → Holds h m n → Least m n (explained h)
+  unfolding explained
+  least (stillOpen p) = rw (ne-eqb (phase h) Ended p) (omega arith, λ _. omega arith)
+  least (closedByE {n} p q) = rw p (hit 2 n _ _ (first _ q))
+  least (closedByD {n} p none q) = rw (p, none-found _ h none) (hit 2 n _ _ (first _ q))
+  least (figurePassedOver {n} q) = past2 3 n (omega arith) (hit 3 n _ _ (first _ q))
+  least (notAvailable {n} q) = past3 4 n (omega arith) (hit 4 n _ _ (first _ q))
+  least (onlyRunning {n} q) = past4 5 n (omega arith) (hit 5 n _ _ (first _ q))
+  least (componentRefused {n} q) = past5 6 n (omega arith) (hit 6 n _ _ (first _ q))
+  least nothingUsable = past6 7 0 (omega arith) (omega arith, λ _. omega arith)
+
+pub first-reason : (l : List Given) (m n : ℕ) → m < reasonOf l .reason → Holds (judged (reverse l)) m n → ⊥
+unfolding reasonOf
+first-reason l m n h p = omega (arith, least (judged (reverse l)) p .0)
+
+pub first-event : (l : List Given) (n : ℕ) → n < reasonOf l .event → Holds (judged (reverse l)) (reasonOf l .reason) n → ⊥
+unfolding reasonOf
+first-event l n h p = omega (arith, least (judged (reverse l)) p .1 refl)

@@ -1,0 +1,78 @@
+use borrow.Author.Needs.{needs}
+use Prim.Native.Nat.{_-_, _/_}
+use mathlib.Core.Path.{_≡_, sym, _∙_}
+use native.Mathlib.Omega.{arith}
+use lib.ListN.{length}
+use Rattle.events.specs.Events.{eventsFrom, eventsOf, Going}
+use Rattle.events.proofs.Laws.{begins, inside, goes-on}
+use Rattle.why.specs.Reasons.{reasonOf}
+use Rattle.why.specs.Seeing.{runFrom}
+use Rattle.why.proofs.Seeing.{run-start, run-next, run-end}
+use Rattle.why.proofs.explained.Statement.{statement}
+use Rattle.why.proofs.explained.Tie as tie
+
+-- what is left gives from here what the whole list gives from the start
+abbrev Inv-loop : tie.InvT-loop
+Inv-loop rows octets n state₀ at₀ i₀ state at i =
+    Going rows octets i at × (runFrom state i (eventsFrom rows octets i (length rows / 6 - i) at) ≡ reasonOf (eventsOf rows octets))
+
+abbrev μ-loop : tie.MeasureT-loop
+μ-loop rows octets n state₀ at₀ i₀ state at i = n - i
+
+loop-holds : tie.Need-loop-holds Inv-loop μ-loop
+loop-holds c =
+    let start = c .before .before .before in
+    (begins _ _ (start .pre), rw (c .fresh .ensures) (run-start (start .args .rows .now) (start .args .octets .now)))
+
+add-end : tie.Need-add-end Inv-loop μ-loop
+add-end c =
+    let at = c .before .before in
+    omega (arith, c .count-at .ensures, inside _ _ _ _ (at .loop .inv .0) (c .before .loop-test .taken))
+
+part-turn-end : tie.Need-part-turn-end Inv-loop μ-loop
+part-turn-end c =
+    let counted = c .before in
+    let at = counted .before .before in
+    omega (arith, counted .count-at .ensures, inside _ _ _ _ (at .loop .inv .0) (counted .before .loop-test .taken))
+
+loop-again : tie.Need-loop-again Inv-loop μ-loop
+loop-again c =
+    let rowed = c .before .before in
+    let counted = rowed .before in
+    let in-loop = counted .before in
+    let at = in-loop .before in
+    let count = counted .count-at in
+    let going = at .loop .inv .0 in
+    let more = in-loop .loop-test .taken in (
+      goes-on _ _ _ _ going more (count .result) (count .ensures),
+      run-next _ _ _ _ (at .loop .state) (count .result) (rowed .row-at .result) (c .turn .result) going more (count .ensures) (rowed .row-at .ensures) (c .turn .ensures)
+          ∙ at .loop .inv .1,
+    )
+
+returns : tie.Need-returns Inv-loop μ-loop
+returns c =
+    let over = c .before .before in
+    let at = over .before in
+    let start = at .before .before .before in
+    c .concluded .ensures ∙ sym (run-end (start .before .args .rows .now) (start .before .args .octets .now) (at .loop .i) (at .loop .at) (at .loop .state) (over .loop-test .left)) ∙ at .loop .inv .1
+
+pub explained-spec : {M : Type 1} → statement M
+explained-spec =
+    tie.close
+    (tie.spec
+    Inv-loop
+    μ-loop
+    (search needs)
+    loop-holds
+    (search needs)
+    add-end
+    (search needs)
+    (omega arith)
+    (omega arith)
+    (omega arith)
+    part-turn-end
+    (search needs)
+    (omega arith)
+    loop-again
+    (search needs)
+    returns)

@@ -1,0 +1,91 @@
+-- Why a call has no price: one reason, and the number of an event, from the call's event list.
+use Prim.Native.Nat.{ℕ, _+_}
+use mathlib.Core.List.{List, [], _∷_, reverse}
+use mathlib.Core.Bool.{Bool, _&&_, _||_, cond}
+use lib.ListN.{length}
+use lib.Dec.{eqb, leb}
+use Rattle.types.specs.declared.Record.{Record}
+use Rattle.types.specs.Frames.{readOf}
+use Rattle.account.specs.declared.Outcome.{Outcome}
+use Rattle.account.specs.Outcome.{Ended, D, E}
+use Rattle.account.specs.History.{Given, Judged, judged, phase, was, its}
+use Rattle.events.specs.Events.{addsUp, eventsOf}
+use Rattle.why.specs.declared.Reason.{Reason}
+use Rattle.why.specs.declared.Seen.{Seen}
+
+-- ---- which events count
+
+abbrev pub within : ℕ → ℕ → ℕ → Bool
+within low n high = leb low n && leb n high
+
+-- a figure of D or E: an invoke 33 to 36 with free (kind 1), money (2) or units (3)
+abbrev pub isFigure : Record → Bool
+isFigure c = eqb (c .frame) 1 && (within 33 (c .operation) 36 && within 1 (c .charge .figure .kind) 3)
+
+-- a D or E figure with outcome 26 or 27
+abbrev pub passedOver : Outcome → List ℕ → Bool
+passedOver r o = (was 26 r || was 27 r) && isFigure (readOf o .value)
+
+-- D or E told not available
+abbrev pub toldAbsent : Outcome → Bool
+toldAbsent r = its D 23 r || its E 23 r
+
+-- a component refused in decoding: 1 to 9, and 40 to 45 in place of 9
+abbrev pub unread : Outcome → Bool
+unread r = within 1 (r .number) 9 || within 40 (r .number) 45
+
+-- ---- an event's number
+
+-- the one that was found before, else this one if it passes
+abbrev pub orElse : ℕ → Bool → ℕ → ℕ
+orElse found passes number = cond (eqb found 0) (cond passes number 0) found
+
+-- the number of the earliest event that passes a test, counted from 1, or 0 (a history has the latest event first)
+abbrev pub earliest : (Judged → Bool) → List Judged → ℕ
+earliest t [] = 0
+earliest t (j ∷ h) = orElse (earliest t h) (t j) (length h + 1)
+
+-- ---- the reason
+
+abbrev pub because : ℕ → ℕ → Reason
+because n event = record { number = 0; reason = n; event = event }
+
+-- the reason if an event is found for it, else what follows in the order
+abbrev pub ifFound : ℕ → ℕ → Reason → Reason
+ifFound n event rest = cond (eqb event 0) rest (because n event)
+
+-- the earliest event of each sort
+abbrev pub seenBy : List Judged → Seen
+seenBy h = record {
+  efinal = earliest (λ j. its E 22 (j .outcome)) h;
+  dfinal = earliest (λ j. its D 22 (j .outcome)) h;
+  figure = earliest (λ j. passedOver (j .outcome) (j .octets)) h;
+  absent = earliest (λ j. toldAbsent (j .outcome)) h;
+  running = earliest (λ j. was 21 (j .outcome)) h;
+  refused = earliest (λ j. unread (j .outcome)) h;
+}
+
+-- 1 still open; 2 there is a closing figure: E's only 22, else D's; 3 a figure was ignored or out of phase; 4 told not available;
+-- 5 only running figures; 6 a component was refused; 7 nothing usable came in time
+abbrev pub concluded : ℕ → Seen → Reason
+concluded phase s =
+    cond (eqb phase Ended)
+    (ifFound 2 (s .efinal)
+    (ifFound 2 (s .dfinal)
+    (ifFound 3 (s .figure)
+    (ifFound 4 (s .absent)
+    (ifFound 5 (s .running)
+    (ifFound 6 (s .refused)
+    (because 7 0)))))))
+    (because 1 0)
+
+unfoldable pub explained : List Judged → Reason
+explained h = concluded (phase h) (seenBy h)
+
+-- of a list of events as they came
+unfoldable pub reasonOf : List Given → Reason
+reasonOf l = explained (judged (reverse l))
+
+-- of a list in slices; slices that are no list are 48
+unfoldable pub whyOf : List ℕ → List ℕ → Reason
+whyOf rows octets = cond (addsUp rows (length octets)) (reasonOf (eventsOf rows octets)) (record { number = 48; reason = 0; event = 0 })
