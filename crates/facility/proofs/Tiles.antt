@@ -82,14 +82,14 @@ cut (suc turns) s i xs {last} h e = go (eqb i (length s)) refl e (λ n ys m. cut
         same-got (λ ys m. Cut s i ys) (b .3) (cut-here s i (b .0) (a .2) (more (a .1) (b .0) (b .1) (part-tile s i (a .2) .1) (b .2)))
 
 -- an answer of 0 is that of starts that were found
-answer-found : (b : Bool) (x : Ans (List ℕ)) → (cond b (answered x) malformed) .number ≡ 0
+pub answer-found : (b : Bool) (x : Ans (List ℕ)) → (cond b (answered x) malformed) .number ≡ 0
     → (b ≡ true) × ((xs : List ℕ) × (last : ℕ) × (x ≡ got xs last) × (startsOf (cond b (answered x) malformed) ≡ xs))
 unfolding answered pad
 answer-found true (got xs last) e = (refl, (xs, last, refl, take-append-seam xs _))
 answer-found true (halt w p) e = absurd (omega (arith, e))
 answer-found false x e = absurd (omega (arith, e))
 
-led-long : (s : List ℕ) → led s ≡ true → 3 < length s
+pub led-long : (s : List ℕ) → led s ≡ true → 3 < length s
 unfolding led
 led-long s e = ltb-true 3 (length s) (and-left (ltb 3 (length s)) _ e)
 

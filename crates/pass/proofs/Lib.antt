@@ -1,0 +1,3 @@
+-- What is proved of one pass over an element.
+pub mod Order
+pub mod Through

@@ -1,0 +1,31 @@
+-- `pass::next_into` meets its contract: where a component was found, its answer is that of its octets by themselves.
+use native.Mathlib.Omega.{arith}
+use mathlib.Core.Path.{sym, ap, _∙_}
+use borrow.Author.Needs.{needs}
+use Rattle.coding.specs.Reader.{part}
+use Rattle.types.specs.declared.Answer.{Answer}
+use Rattle.pass.proofs.next_into.Statement.{statement}
+use Rattle.pass.proofs.next_into.Tie as tie
+
+returns : tie.Need-returns
+returns c = c .without .ensures ∙ sym (c .before .before .before .before .find .ensures .0 (c .before .before .before .if1 .taken))
+
+sub-read-into : tie.Need-sub-read-into
+sub-read-into c = omega (arith, (c .before .find .ensures .1 (c .if1 .left)) .0)
+
+part-read-into-start : tie.Need-part-read-into-start
+part-read-into-start c = omega (arith, (c .before .find .ensures .1 (c .if1 .left)) .0)
+
+part-read-into-end : tie.Need-part-read-into-end
+part-read-into-end c = omega (arith, (c .before .find .ensures .1 (c .if1 .left)) .1)
+
+returns-2 : tie.Need-returns-2
+unfolding part
+returns-2 c =
+    let d = c .before .before .before .before in
+    let f = d .before .find in
+    let there = f .ensures .1 (d .if1 .left) .2 in
+    ap (λ (a : Answer). record { ended = 0; after = f .result .after; answer = a }) (c .read-into .ensures) ∙ sym there
+
+pub next-into-spec : {M : Type 1} → statement M
+next-into-spec = tie.close (tie.spec (search needs) (search needs) returns sub-read-into part-read-into-start part-read-into-end (search needs) returns-2)

@@ -1,0 +1,120 @@
+// One pass over a Facility element: the next component's record or refusal with the place after it, or the end.
+ghost use mathlib.Core.Path.{_≡_};
+ghost use Prim.Native.Nat.{_≤_, _<_};
+ghost use lib.ListN.{length, take};
+ghost use Rattle.component.specs.Ways.{plainAnswer};
+ghost use Rattle.pass.specs.Pass.{passOf, upTo, wholeNext};
+ghost use Rattle.pass.specs.Places.{afterIn, emptyAt};
+
+// after: the place after the component. ended: 1 at the end of the element, where all else is zero.
+// answer: the component's, or 15 for a malformed element, 16 for a place where no component begins.
+#[repr(C)]
+pub struct Next {
+    pub after: usize,
+    pub ended: usize,
+    pub answer: component::MainAnswer,
+}
+
+fn wide(x: u8) -> usize
+    ensures { λ r. ⌜ r ≡ x ⌝ }
+    ensures small { λ r. ⌜ r < 256 ⌝ }
+{
+    x as usize
+}
+
+// The place after the component that begins at a place; 0 where none does.
+fn after_of(starts: [u8; 127], count: usize, place: usize, end: usize) -> usize
+    requires { ⌜ count ≤ 127 ⌝ }
+    ensures { λ r. ⌜ r ≡ afterIn place end (take count starts) ⌝ }
+{
+    let mut i: usize = 0;
+    while i < count {
+        if wide(starts[i]) == place {
+            if i + 1 < count {
+                return wide(starts[i + 1]);
+            }
+            return end;
+        }
+        i += 1;
+    }
+    0
+}
+
+// No component: 15, 16, or the end.
+fn without(ended: usize, number: u32) -> Next
+    ensures { λ r. ⌜ record { ended = r .ended; after = r .after; answer = plainAnswer (r .answer) } ≡ emptyAt ended number ⌝ }
+{
+    Next {
+        after: 0,
+        ended,
+        answer: component::MainAnswer {
+            number,
+            offset: 0,
+            value: component::Main {
+                frame: 0,
+                unnamed: 0,
+                id: 0,
+                operation: 0,
+                error: 0,
+                problem: 0,
+                detail: 0,
+                figure: figures::NO_FIGURE,
+            },
+        },
+    }
+}
+
+// Where a component lies that begins at a place: up to `after`; where that is 0, none does, and the place is the end or is refused.
+struct Found {
+    pub after: usize,
+    pub ended: usize,
+    pub number: u32,
+}
+
+fn find(octets: &[u8], place: usize) -> Found
+    ensures none { λ r. ⌜ (r .after ≡ 0 → passOf (now (octets .entry)) place ≡ emptyAt (r .ended) (r .number)) ⌝ }
+    ensures some { λ r. ⌜ ((r .after ≡ 0 → ⊥) → (place < r .after) × (r .after ≤ length (now (octets .entry))) × (passOf (now (octets .entry)) place ≡ upTo (now (octets .entry)) place (r .after))) ⌝ }
+{
+    let tiles = facility::element(octets);
+    if tiles.number != 0 {
+        return Found {
+            after: 0,
+            ended: 0,
+            number: 15,
+        };
+    }
+    if place == octets.len() {
+        return Found {
+            after: 0,
+            ended: 1,
+            number: 0,
+        };
+    }
+    let starts = tiles.starts;
+    let count = wide(tiles.count);
+    let after = after_of(starts, count, place, octets.len());
+    Found {
+        after,
+        ended: 0,
+        number: 16,
+    }
+}
+
+// What stands at a place of an element: the next component, its list in two arrays that are lent, whatever they hold, with the place after it; or the end.
+pub fn next_into(octets: &[u8], place: usize, numbers: &mut [u32; 32], rows: &mut [u8; 192]) -> Next
+    ensures { λ r. ⌜ wholeNext r (now (numbers .exit)) (now (rows .exit)) ≡ passOf (now (octets .entry)) place ⌝ }
+{
+    let f = find(octets, place);
+    let after = f.after;
+    if after == 0 {
+        *numbers = [0; 32];
+        *rows = [0; 192];
+        return without(f.ended, f.number);
+    }
+    let answer = component::read_into(&octets[place..after], numbers, rows);
+    Next {
+        after,
+        ended: 0,
+        answer,
+    }
+}
