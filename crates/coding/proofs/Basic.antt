@@ -1,6 +1,6 @@
 -- Small facts about answers, tests, tags and octets in place.
 -- Assumes nothing.
-use Prim.Native.Nat.{ℕ, suc, _+_}
+use Prim.Native.Nat.{ℕ, zero, suc, _+_, _≤_, _<_}
 use mathlib.Core.Path.{_≡_, refl, sym, ap, ap₂, _∙_, subst}
 use mathlib.Core.List.{List, [], _∷_, _++_}
 use mathlib.Core.Bool.{Bool, true, false, not, _&&_, _||_, true≢false, cond}
@@ -8,12 +8,13 @@ use mathlib.Core.Logic.{_⊎_, inl, inr}
 use native.Mathlib.Omega.{arith}
 use native.Mathlib.Numerals.{add-one}
 use native.Mathlib.Nat.{add-zero}
-use lib.ListN.{length, take, drop}
+use lib.ListN.{length, getD, take, drop}
 use lib.Seq.{drop-cons}
 use lib.Dec.{eqb}
 use borrow.Author.Tests.{eqb-true}
 use Rattle.coding.specs.Reader.{Ans, Fault, got, halt, after}
 use Rattle.coding.specs.Codec.{Holds, has, apart}
+use Rattle.coding.proofs.Laws.{Octets}
 
 -- ---- answers
 
@@ -170,3 +171,33 @@ holds-part s a (x ∷ xs) h =
     ap (take (suc (length xs))) (drop-cons s a 0 (h .0))
     ∙ ap₂ (λ (y : ℕ) (ys : List ℕ). y ∷ ys) (h .1)
     (ap (λ (k : ℕ). take (length xs) (drop k s)) (sym (add-one a)) ∙ holds-part s (a + 1) xs (h .2))
+
+-- and holds it where it is
+pub part-holds : (s : List ℕ) (a : ℕ) (xs : List ℕ) → a + length xs ≤ length s → take (length xs) (drop a s) ≡ xs → Holds s a xs
+part-holds s a [] h e = tt
+part-holds s a (x ∷ xs) h e =
+    let some : a < length s = omega (arith, h) in
+    let l : getD s a 0 ∷ take (length xs) (drop (suc a) s) ≡ x ∷ xs = ap (take (suc (length xs))) (sym (drop-cons s a 0 some)) ∙ e in
+    let head : getD s a 0 ≡ x = cc in
+    let rest : take (length xs) (drop (suc a) s) ≡ xs = cc in
+    (some, head, part-holds s (a + 1) xs (omega (arith, h)) (ap (λ (k : ℕ). take (length xs) (drop k s)) (add-one a) ∙ rest))
+
+pub holds-both : (s : List ℕ) (a : ℕ) (xs ys : List ℕ) → Holds s a xs → Holds s (a + length xs) ys → Holds s a (xs ++ ys)
+holds-both s a [] ys p q = subst (λ (k : ℕ). Holds s k ys) (add-zero a) q
+holds-both s a (x ∷ xs) ys p q = (p .0, p .1, holds-both s (a + 1) xs ys (p .2) (subst (λ (k : ℕ). Holds s k ys) e q))
+  where
+    e : a + suc (length xs) ≡ a + 1 + length xs
+    e = omega arith
+
+-- ---- octets
+
+pub octets-none : Octets []
+octets-none i = omega arith
+
+pub octets-cons : (x : ℕ) (xs : List ℕ) → x < 256 → Octets xs → Octets (x ∷ xs)
+octets-cons x xs h os zero = h
+octets-cons x xs h os (suc i) = os i
+
+pub octets-both : (xs ys : List ℕ) → Octets xs → Octets ys → Octets (xs ++ ys)
+octets-both [] ys p q = q
+octets-both (x ∷ xs) ys p q = octets-cons x (xs ++ ys) (p 0) (octets-both xs ys (λ i. p (suc i)) q)

@@ -7,15 +7,15 @@ use mathlib.Core.Bool.{Bool, true, false, not, _&&_, _||_, true≢false, cond}
 use mathlib.Core.Logic.{_⊎_, inl, inr}
 use mathlib.Core.Option.{Option, none, some}
 use native.Mathlib.Omega.{arith}
-use lib.ListN.{length, getD, take, drop, length-append, length-take, List·getD-eq-default}
-use lib.Seq.{getD-take, getD-drop}
+use lib.ListN.{length, getD, take, drop, length-append, length-take, length-drop, List·getD-eq-default}
+use lib.Seq.{getD-take, getD-drop, length-take-le}
 use lib.Dec.{ltb, leb, eqb}
 use borrow.Author.Tests.{ltb-true, ltb-false, leb-true, leb-false, eqb-true, lt-ltb, le-leb, lt-leb, eq-eqb}
 use Rattle.coding.specs.Reader.{got, tagged, choice, opened, closed, constructed, Judged, judged, part, primitive, optional, entries, listOf, composite}
-use Rattle.coding.specs.Codec.{lengthOctets, Opens, Spans, definite, Walk, here, Holds, simple, has, apart, Leaf, Run, prim, cons, nothing, pair, eitherMeans, alt, over, writeAll, all, MeansAll, some·more, maybe, MeansMaybe}
-use Rattle.coding.proofs.Basic.{never, passing, failing, either-way, chain, same-got, picked, unpicked, followed, and-left, and-right, and-both, or-left, or-right, or-no, or-false, not-yes, has-left, has-right, apart-has, holds-left, holds-right, holds-part}
+use Rattle.coding.specs.Codec.{lengthOctets, Opens, Spans, definite, Walk, here, Holds, isTag, simple, has, apart, Leaf, Run, prim, cons, nothing, pair, eitherMeans, alt, over, writeAll, all, MeansAll, some·more, maybe, MeansMaybe}
+use Rattle.coding.proofs.Basic.{never, passing, failing, either-way, chain, same-got, picked, unpicked, followed, and-left, and-right, and-both, or-left, or-right, or-no, or-false, not-yes, has-left, has-right, apart-has, holds-left, holds-right, holds-both, holds-part, part-holds, octets-none, octets-both}
 use Rattle.coding.specs.declared.Extent.{Extent}
-use Rattle.coding.proofs.Header.{tagged-yes, tagged-is, opened-sound, opened-complete, opened-forward, opened-written, opened-shortest, spans-simple, spans-complete, spans-tag, spans-range, spans-forward, spans-shortest, opened-walk, spans-walk}
+use Rattle.coding.proofs.Header.{tagged-yes, tagged-is, opened-sound, opened-complete, opened-forward, opened-written, opened-shortest, opened-only, spans-only, element-octets, spans-simple, spans-complete, spans-tag, spans-range, spans-forward, spans-shortest, opened-walk, spans-walk}
 use Rattle.coding.proofs.Search.{walk-join}
 use Rattle.coding.proofs.Laws.{Octets, clear, LeafLaws, RunLaws}
 
@@ -40,6 +40,8 @@ nothingLaws = record {
   shortest = λ s a n x os m. omega arith;
   heads = λ s a n x m. inr (m, refl);
   walked = λ s a n x m. subst (Walk s a) m here;
+  only = λ s a n x os ns b e m. tt;
+  octets = λ x v b. octets-none;
 }
 
 -- ---- one run after another
@@ -111,6 +113,19 @@ module _ {A B : Type 0} (f : Run A) (g : Run B) (F : RunLaws f) (G : RunLaws g) 
     shortest = λ s a n x os (m, u, v). omega (arith, length-append (f .write (x .0)) (g .write (x .1)), F .shortest s a m (x .0) os u, G .shortest s m n (x .1) os v);
     heads = pair-heads;
     walked = λ s a n x (m, u, v). walk-join (F .walked s a m (x .0) u) (G .walked s m n (x .1) v);
+    only = λ s a n x os ns b e (m, u, v).
+        let xs = f .write (x .0) in
+        let ys = g .write (x .1) in
+        let t = length-append xs ys in
+        let p = F .shortest s a m (x .0) os u in
+        let q = G .shortest s m n (x .1) os v in
+        let at : m ≡ a + length xs = omega arith in
+        holds-both s a xs ys (F .only s a m (x .0) os (omega arith) (omega arith) at u)
+        (subst (λ (k : ℕ). Holds s k ys) at (G .only s m n (x .1) os ns (omega arith) (omega arith) v));
+    octets = λ x v b.
+        let t = length-append (f .write (x .0)) (g .write (x .1)) in
+        octets-both (f .write (x .0)) (g .write (x .1)) (F .octets (x .0) (and-left (f .valid (x .0)) (g .valid (x .1)) v) (omega arith))
+        (G .octets (x .1) (and-right (f .valid (x .0)) (g .valid (x .1)) v) (omega arith));
   }
 
 -- ---- elements
@@ -125,6 +140,9 @@ octets-part s k c os i = go (ltb i k) refl
     go false q =
         let out : length (take k (drop c s)) ≤ i = omega (arith, length-take k (drop c s), ltb-false i k q) in
         subst (λ (o : ℕ). o < 256) (sym (List·getD-eq-default (take k (drop c s)) 0 out)) (omega arith)
+
+tag-octet : (tag : ℕ) → isTag tag ≡ true → tag < 256
+tag-octet tag real = ltb-true tag 256 (and-right (ltb 0 tag) (ltb tag 256) real)
 
 judged-is : {A : Type 0} (j : Judged A) (tag next : ℕ) {x : A} {n : ℕ} → judged j tag next ≡ got x n → (j ≡ Judged.good x) × (next ≡ n)
 unfolding judged
@@ -172,16 +190,24 @@ primLaws tag l L plain = record {
       opened-shortest tag s a c n (l .write x) os op
       (subst (λ (xs : List ℕ). c + length xs ≤ n) w (omega (arith, length-take (n - c) (drop c s), op .2)));
   heads = λ s a n x (c, op, w, v). inl (opened-forward op, has-one tag (getD s a 0) (op .0));
-  walked = λ s a n x (c, op, w, v). opened-walk tag s a c n real op;
+  walked = λ s a n x (c, op, w, v). opened-walk tag s a c n (and-left (ltb 0 tag) (ltb tag 256) real) op;
+  only = λ s a n x os ns b e (c, op, w, v).
+      let z : List ℕ = l .write x in
+      let k : length z ≡ n - c = sym (ap length w) ∙ length-take-le (n - c) (drop c s) (omega (arith, length-drop c s)) in
+      opened-only tag s a c n z os ns op (omega (arith, op .2)) e
+      (λ q. part-holds s c z (omega arith) (ap (λ (j : ℕ). take j (drop c s)) k ∙ w));
+  octets = λ x v b.
+      let z : List ℕ = l .write x in
+      element-octets tag z (tag-octet tag real) (omega (arith, length-append (lengthOctets (length z)) z)) (L .octets x v);
 }
   where
-    real : ltb 0 tag ≡ true
-    real = and-left (ltb 0 tag) (not (composite tag)) plain
+    real : isTag tag ≡ true
+    real = and-left (isTag tag) (not (composite tag)) plain
 
     low : composite tag ≡ false
-    low = not-yes (composite tag) (and-right (ltb 0 tag) (not (composite tag)) plain)
+    low = not-yes (composite tag) (and-right (isTag tag) (not (composite tag)) plain)
 
-pub consLaws : {A : Type 0} (tag : ℕ) (f : Run A) → RunLaws f → ltb 0 tag ≡ true → RunLaws (cons tag f)
+pub consLaws : {A : Type 0} (tag : ℕ) (f : Run A) → RunLaws f → isTag tag ≡ true → RunLaws (cons tag f)
 unfolding cons constructed closed
 consLaws tag f F real = record {
   sound = λ s a e n x os ae es r.
@@ -211,7 +237,16 @@ consLaws tag f F real = record {
   fine = λ s a n x (c, m, op, k). F .fine s c m x k;
   shortest = λ s a n x os (c, m, op, k). spans-shortest tag s a c m n (f .write x) os op (F .shortest s c m x os k);
   heads = λ s a n x (c, m, op, k). inl (spans-forward op, has-one tag (getD s a 0) (spans-tag op));
-  walked = λ s a n x (c, m, op, k). spans-walk tag s a c m n real op (F .walked s c m x k);
+  walked = λ s a n x (c, m, op, k). spans-walk tag s a c m n (and-left (ltb 0 tag) (ltb tag 256) real) op (F .walked s c m x k);
+  only = λ s a n x os ns b e (c, m, op, k).
+      let w : List ℕ = f .write x in
+      let few : length w < 256 = omega (arith, length-append (lengthOctets (length w)) w) in
+      spans-only tag s a c m n w os ns few op (F .shortest s c m x os k) e
+      (λ q. F .only s c m x os (omega (arith, spans-range op .2)) few (sym q) k);
+  octets = λ x v b.
+      let w : List ℕ = f .write x in
+      let fits : length w ≤ 65535 = omega (arith, length-append (lengthOctets (length w)) w) in
+      element-octets tag w (tag-octet tag real) fits (F .octets x v fits);
 }
 
 -- ---- the same octets for another type
@@ -236,6 +271,8 @@ overLaws to from ok f back forth F = record {
   shortest = λ s a n y os (o, m). F .shortest s a n (from y) os m;
   heads = λ s a n y (o, m). F .heads s a n (from y) m;
   walked = λ s a n y (o, m). F .walked s a n (from y) m;
+  only = λ s a n y os ns b e (o, m). F .only s a n (from y) os ns b e m;
+  octets = λ y v b. F .octets (from y) (and-right (ok y) (f .valid (from y)) v) b;
 }
 
 -- ---- one of two
@@ -317,6 +354,8 @@ module _ {A B : Type 0} (tag : ℕ) (f : Run A) (g : Run B) (F : RunLaws f) (G :
     shortest = λ s a n. elim [ inl x ↦ F .shortest s a n x | inr y ↦ G .shortest s a n y ];
     heads = alt-heads one-tag full;
     walked = λ s a n. elim [ inl x ↦ F .walked s a n x | inr y ↦ G .walked s a n y ];
+    only = λ s a n. elim [ inl x ↦ F .only s a n x | inr y ↦ G .only s a n y ];
+    octets = elim [ inl x ↦ F .octets x | inr y ↦ G .octets y ];
   }
 
 -- ---- entries to the end
@@ -414,6 +453,26 @@ module _ {A : Type 0} (tag : ℕ) (f : Run A) (F : RunLaws f) (full : f .empty �
   rows-walked s a n [] m = subst (Walk s a) m here
   rows-walked s a n (x ∷ xs) (k, u, v) = walk-join (F .walked s a k x u) (rows-walked s k n xs v)
 
+  rows-only : (s : List ℕ) (a n : ℕ) (xs : List A) → Octets s → n ≤ length s → length (writeAll (f .write) xs) < 256 → n ≡ a + length (writeAll (f .write) xs)
+      → Rows xs s a n → Holds s a (writeAll (f .write) xs)
+  rows-only s a n [] os ns b e m = tt
+  rows-only s a n (x ∷ xs) os ns b e (k, u, v) =
+      let w = f .write x in
+      let ws = writeAll (f .write) xs in
+      let t = length-append w ws in
+      let p = F .shortest s a k x os u in
+      let q = rows-shortest s k n xs os v in
+      let at : k ≡ a + length w = omega arith in
+      holds-both s a w ws (F .only s a k x os (omega arith) (omega arith) at u)
+      (subst (λ (j : ℕ). Holds s j ws) at (rows-only s k n xs os ns (omega arith) (omega arith) v))
+
+  rows-octets : (xs : List A) → all (f .valid) xs ≡ true → length (writeAll (f .write) xs) ≤ 65535 → Octets (writeAll (f .write) xs)
+  rows-octets [] v b = octets-none
+  rows-octets (x ∷ xs) v b =
+      let t = length-append (f .write x) (writeAll (f .write) xs) in
+      octets-both (f .write x) (writeAll (f .write) xs) (F .octets x (and-left (f .valid x) (all (f .valid) xs) v) (omega arith))
+      (rows-octets xs (and-right (f .valid x) (all (f .valid) xs) v) (omega arith))
+
   at-end : (n e o : ℕ) → leb e n || not true ≡ true → e ≤ n
   at-end n e o q = leb-true e n (or-false (leb e n) q)
 
@@ -447,6 +506,9 @@ module _ {A : Type 0} (tag : ℕ) (f : Run A) (F : RunLaws f) (full : f .empty �
     shortest = λ s a n xs os (o, lm). rows-shortest s a n xs os (lm .1);
     heads = λ s a n xs (o, lm). inl (grows s a n xs o (lm .1));
     walked = λ s a n xs (o, lm). rows-walked s a n xs (lm .1);
+    only = λ s a n xs os ns b e (o, lm). rows-only s a n xs os ns b e (lm .1);
+    octets = λ xs v b.
+        rows-octets xs (and-right (leb (length xs) most) _ (and-right (ltb 0 (length xs)) (leb (length xs) most && all (f .valid) xs) v)) b;
   }
 
 -- ---- an element or none
@@ -498,4 +560,6 @@ module _ {A : Type 0} (tag : ℕ) (f : Run A) (F : RunLaws f) where
       ]
     ];
     walked = λ s a n. elim [ none ↦ λ m. subst (Walk s a) m here | some x ↦ F .walked s a n x ];
+    only = λ s a n. elim [ none ↦ λ os ns b e m. tt | some x ↦ F .only s a n x ];
+    octets = elim [ none ↦ λ v b. octets-none | some x ↦ F .octets x ];
   }

@@ -7,12 +7,12 @@ use mathlib.Core.Bool.{Bool, true, false, not, _||_, cond}
 use mathlib.Core.Logic.{inl}
 use native.Mathlib.Omega.{arith}
 use lib.ListN.{getD}
-use lib.Dec.{ltb, leb, eqb}
+use lib.Dec.{leb, eqb}
 use borrow.Author.Tests.{leb-true, leb-false, lt-leb, le-leb, eqb-true, eq-eqb, ne-eqb}
 use Rattle.coding.specs.declared.Extent.{Extent}
 use Rattle.coding.specs.Reader.{Ans, Fault, got, halt, code, after, choice, blamed, lengthAt, opened, enteredAny, closed, constructed, has}
 use Rattle.coding.specs.Reader.Fault.{missing, unexpected}
-use Rattle.coding.specs.Codec.{Run, Spans, apart, cons, frames}
+use Rattle.coding.specs.Codec.{Run, Spans, isTag, apart, cons, frames}
 use Rattle.coding.specs.Shown.{shown}
 use Rattle.coding.proofs.Basic.{passing, failing, chain, same-got, picked, unpicked, followed, and-left, and-right, and-both, or-false, apart-has}
 use Rattle.coding.proofs.Laws.{RunLaws}
@@ -64,7 +64,7 @@ module _ {A : Type 0} (tags : List ℕ) (tagOf : A → ℕ) (m : Fault → Fault
       same-got (λ y k. k ≡ e) (z .1) (any-got tags m w s a e (c .2) .2)
 
   -- an element of one of the tags is one of that tag, whose laws `cons` has
-  pub framesLaws : ((t : ℕ) → RunLaws (f t)) → ((t : ℕ) (x : A) → has tags t ≡ true → (f t) .valid x ≡ true → tagOf x ≡ t) → apart tags (λ t. not (ltb 0 t)) ≡ true
+  pub framesLaws : ((t : ℕ) → RunLaws (f t)) → ((t : ℕ) (x : A) → has tags t ≡ true → (f t) .valid x ≡ true → tagOf x ≡ t) → apart tags (λ t. not (isTag t)) ≡ true
       → RunLaws (frames tags tagOf m w f)
   unfolding frames cons constructed closed after blamed
   framesLaws F own some = record {
@@ -95,10 +95,12 @@ module _ {A : Type 0} (tags : List ℕ) (tagOf : A → ℕ) (m : Fault → Fault
     shortest = λ s a n x os (h, k). let t : ℕ = tagOf x in consLaws t (f t) (F t) (named t h) .shortest s a n x os k;
     heads = λ s a n x (h, (c, l, op, k)). inl (spans-forward op, ap (has tags) (spans-tag op) ∙ h);
     walked = λ s a n x (h, k). let t : ℕ = tagOf x in consLaws t (f t) (F t) (named t h) .walked s a n x k;
+    only = λ s a n x os ns b e (h, k). let t : ℕ = tagOf x in consLaws t (f t) (F t) (named t h) .only s a n x os ns b e k;
+    octets = λ x v b. let t : ℕ = tagOf x in consLaws t (f t) (F t) (named t (and-left (has tags t) _ v)) .octets x (and-right (has tags t) _ v) b;
   }
     where
-      named : (t : ℕ) → has tags t ≡ true → ltb 0 t ≡ true
-      named t h = not-no (ltb 0 t) (apart-has tags (λ o. not (ltb 0 o)) t some h)
+      named : (t : ℕ) → has tags t ≡ true → isTag t ≡ true
+      named t h = not-no (isTag t) (apart-has tags (λ o. not (isTag o)) t some h)
 
 -- ---- the code's steps: nothing there, another tag, a fault of the length octets, something after it, or its contents
 

@@ -1,4 +1,4 @@
--- Tag and length octets: any form of a length is read, with a number and without, the shortest is written, and none is shorter.
+-- Tag and length octets: any form of a length is read, with a number and without, the shortest is written, none is shorter, and it is the only one so short.
 -- Assumes nothing.
 use Prim.Native.Nat.{ℕ, suc, _+_, _-_, _≤_, _<_}
 use mathlib.Core.Path.{_≡_, refl, sym, ap, _∙_, subst}
@@ -12,9 +12,9 @@ use borrow.Author.Tests.{ltb-true, eqb-true, lt-ltb, eq-eqb}
 use Rattle.coding.specs.declared.Extent.{Extent}
 use Rattle.coding.specs.Reader.{Ans, got, halt, tagged, neither, choice, composite, endless, findEnd, spanned, lengthAt, opened}
 use Rattle.coding.specs.Codec.{LengthForm, lengthOctets, Opens, Spans, definite, indefinite, Walk, here, past, nest, Element, counted, ended, Holds}
-use Rattle.coding.proofs.Basic.{never, failing, either-way, same-got, picked, unpicked, holds-left, holds-right}
+use Rattle.coding.proofs.Basic.{never, failing, either-way, same-got, picked, unpicked, holds-left, holds-right, holds-both, octets-cons, octets-both}
 use Rattle.coding.proofs.Laws.{Octets}
-use Rattle.coding.proofs.Length.{number-sound, number-complete, length-written, length-most, length-shortest}
+use Rattle.coding.proofs.Length.{number-sound, number-complete, length-written, length-most, length-few, length-shortest, length-only, length-octets}
 use Rattle.coding.proofs.Search.{Inside, inside, endless-is, endless-yes, endless-octet, form-octet, walk-forward, walk-finds, search-walks}
 pub use Rattle.coding.proofs.Length.{length-forward}
 
@@ -164,3 +164,26 @@ pub spans-shortest : (tag : ℕ) (s : List ℕ) (a c m n : ℕ) (w : List ℕ) �
 spans-shortest tag s a c m n w os (definite o q) h = opened-shortest tag s a c n w os o (omega (arith, h, q))
 spans-shortest tag s a c m n w os (indefinite t b l k le z z' q) h =
     omega (arith, length-append (lengthOctets (length w)) w, length-most (length w), k, q, h)
+
+-- an element that takes as many octets as the one written is that one, if its contents are those written
+pub opened-only : (tag : ℕ) (s : List ℕ) (a c n : ℕ) (w : List ℕ) → Octets s → n ≤ length s → Opens tag s a c n → c + length w ≤ n
+    → n ≡ a + length (tag ∷ lengthOctets (length w) ++ w) → (c + length w ≡ n → Holds s c w) → Holds s a (tag ∷ lengthOctets (length w) ++ w)
+opened-only tag s a c n w os ns (t, f, le) h e inner =
+    let ls : List ℕ = lengthOctets (length w) in
+    let k = length-append ls w in
+    let least = length-shortest s (a + 1) (n - c) c (length w) os (omega arith) f in
+    let at : c ≡ a + 1 + length ls = omega arith in
+    let whole : c + length w ≡ n = omega arith in
+    let said : n - c ≡ length w = omega arith in
+    let form : LengthForm s (a + 1) (length w) c = subst (λ (j : ℕ). LengthForm s (a + 1) j c) said f in
+    let held = length-only s (a + 1) (length w) c os (omega arith) at form in
+    (omega arith, t, holds-both s (a + 1) ls w held (subst (λ (j : ℕ). Holds s j w) at (inner whole)))
+
+pub spans-only : (tag : ℕ) (s : List ℕ) (a c m n : ℕ) (w : List ℕ) → Octets s → n ≤ length s → length w < 256 → Spans tag s a c m n → c + length w ≤ m
+    → n ≡ a + length (tag ∷ lengthOctets (length w) ++ w) → (c + length w ≡ m → Holds s c w) → Holds s a (tag ∷ lengthOctets (length w) ++ w)
+spans-only tag s a c m n w os ns b (definite o q) h e inner = opened-only tag s a c n w os ns o (omega (arith, h, q)) e (λ k. inner (k ∙ sym q))
+spans-only tag s a c m n w os ns b (indefinite t x l k le z z' q) h e inner =
+    absurd (omega (arith, length-append (lengthOctets (length w)) w, length-few (length w) b))
+
+pub element-octets : (tag : ℕ) (w : List ℕ) → tag < 256 → length w ≤ 65535 → Octets w → Octets (tag ∷ lengthOctets (length w) ++ w)
+element-octets tag w t h os = octets-cons tag (lengthOctets (length w) ++ w) t (octets-both (lengthOctets (length w)) w (length-octets (length w) h) os)

@@ -1,4 +1,4 @@
--- Length octets with a number: any form is read, the shortest is written, and none is shorter.
+-- Length octets with a number: any form is read, the shortest is written, none is shorter, and it is the only one so short.
 -- Assumes nothing.
 use Prim.Native.Nat.{ℕ, _+_, _-_, _*_, _/_, _%_, _≤_, _<_}
 use mathlib.Core.Path.{_≡_, refl, _∙_, subst, subst₂}
@@ -12,7 +12,7 @@ use borrow.Author.Tests.{ltb-true, ltb-false, leb-true, eqb-true, lt-ltb, le-ltb
 use Rattle.coding.specs.declared.Extent.{Extent}
 use Rattle.coding.specs.Reader.{Ans, got, extent, numberedAt}
 use Rattle.coding.specs.Codec.{LengthForm, short, one, two, lengthOctets, Holds}
-use Rattle.coding.proofs.Basic.{passing, failing, either-way, same-got, picked, unpicked}
+use Rattle.coding.proofs.Basic.{passing, failing, either-way, same-got, picked, unpicked, octets-none, octets-cons}
 use Rattle.coding.proofs.Laws.{Octets}
 
 -- ---- reading a length
@@ -76,42 +76,77 @@ length-forward (short l q r) = omega arith
 length-forward (one l q r) = omega arith
 length-forward (two l q r) = omega arith
 
-pub length-written : (s : List ℕ) (p k : ℕ) → k ≤ 65535 → Holds s p (lengthOctets k) → LengthForm s p k (p + length (lengthOctets k))
-unfolding lengthOctets
-length-written s p k b h = go (ltb k 128) refl (ltb k 256) refl h
-  where
-    go : (t : Bool) → ltb k 128 ≡ t → (u : Bool) → ltb k 256 ≡ u
-        → Holds s p (cond t (k ∷ []) (cond u (129 ∷ k ∷ []) (130 ∷ k / 256 ∷ k % 256 ∷ [])))
-        → LengthForm s p k (p + length (cond t (k ∷ []) (cond u (129 ∷ k ∷ []) (130 ∷ k / 256 ∷ k % 256 ∷ []))))
-    go true q u r h = short (omega (arith, ltb-true k 128 q, h .1)) (h .1) refl
-    go false q true r h = one (h .1) (h .2 .1) refl
-    go false q false r h =
-        let e : p + 1 + 1 ≡ p + 2 = omega arith in
-        let hi : getD s (p + 1) 0 ≡ k / 256 = h .2 .1 in
-        let lo : getD s (p + 2) 0 ≡ k % 256 = subst (λ (j : ℕ). getD s j 0 ≡ k % 256) e (h .2 .2 .1) in
-        two (h .1) (omega (arith, hi, lo)) refl
+by-test : {A : Type 0} (P : A → Type 0) (t : Bool) (x y : A) → (t ≡ true → P x) → (t ≡ false → P y) → P (cond t x y)
+by-test P true x y this that = this refl
+by-test P false x y this that = that refl
 
--- and takes three octets at most
-pub length-most : (n : ℕ) → length (lengthOctets n) ≤ 3
+-- what holds of each of the three forms, where it is the one written, holds of the one that is written
+length-by : (P : List ℕ → Type 0) (n : ℕ) → (n < 128 → P (n ∷ [])) → (128 ≤ n → n < 256 → P (129 ∷ n ∷ [])) → (256 ≤ n → P (130 ∷ n / 256 ∷ n % 256 ∷ []))
+    → P (lengthOctets n)
 unfolding lengthOctets
-length-most n = go (ltb n 128) (ltb n 256)
-  where
-    go : (t u : Bool) → length (cond t (n ∷ []) (cond u (129 ∷ n ∷ []) (130 ∷ n / 256 ∷ n % 256 ∷ []))) ≤ 3
-    go true u = omega arith
-    go false true = omega arith
-    go false false = omega arith
+length-by P n a b c =
+    by-test P (ltb n _) _ _ (λ q. a (omega (arith, ltb-true n _ q)))
+    (λ q. by-test P (ltb n _) _ _ (λ r. b (omega (arith, ltb-false n _ q)) (omega (arith, ltb-true n _ r))) (λ r. c (omega (arith, ltb-false n _ r))))
+
+pub length-written : (s : List ℕ) (p k : ℕ) → k ≤ 65535 → Holds s p (lengthOctets k) → LengthForm s p k (p + length (lengthOctets k))
+length-written s p k b =
+    length-by (λ xs. Holds s p xs → LengthForm s p k (p + length xs)) k
+    (λ l h. short (omega (arith, l, h .1)) (h .1) refl)
+    (λ l u h. one (h .1) (h .2 .1) refl)
+    (λ l h.
+    let e : p + 1 + 1 ≡ p + 2 = omega arith in
+    let hi : getD s (p + 1) 0 ≡ k / 256 = h .2 .1 in
+    let lo : getD s (p + 2) 0 ≡ k % 256 = subst (λ (j : ℕ). getD s j 0 ≡ k % 256) e (h .2 .2 .1) in
+    two (h .1) (omega (arith, hi, lo)) refl)
+
+-- it takes three octets at most, and two below 256
+pub length-most : (n : ℕ) → length (lengthOctets n) ≤ 3
+length-most n = length-by (λ xs. length xs ≤ 3) n (λ l. omega arith) (λ l u. omega arith) (λ l. omega arith)
+
+pub length-few : (n : ℕ) → n < 256 → length (lengthOctets n) ≤ 2
+length-few n h = length-by (λ xs. length xs ≤ 2) n (λ l. omega arith) (λ l u. omega arith) (λ l. absurd (omega arith))
+
+pub length-octets : (n : ℕ) → n ≤ 65535 → Octets (lengthOctets n)
+length-octets n h =
+    length-by Octets n
+    (λ l. octets-cons n [] (omega arith) octets-none)
+    (λ l u. octets-cons 129 (n ∷ []) (omega arith) (octets-cons n [] u octets-none))
+    (λ l. octets-cons 130 (n / 256 ∷ n % 256 ∷ []) (omega arith) (octets-cons (n / 256) (n % 256 ∷ []) (omega arith) (octets-cons (n % 256) [] (omega arith) octets-none)))
 
 -- the number of length octets of a smaller number is no more than any form of a larger takes
 pub length-shortest : (s : List ℕ) (p n c m : ℕ) → Octets s → m ≤ n → LengthForm s p n c → p + length (lengthOctets m) ≤ c
-unfolding lengthOctets
-length-shortest s p n c m os le f = go (ltb m 128) refl (ltb m 256) refl f
+length-shortest s p n c m os le f =
+    length-by (λ xs. p + length xs ≤ c) m (λ l. omega (arith, length-forward f)) (λ l u. at-least-two l f) (λ l. three l f)
   where
-    go : (t : Bool) → ltb m 128 ≡ t → (u : Bool) → ltb m 256 ≡ u → LengthForm s p n c
-        → p + length (cond t (m ∷ []) (cond u (129 ∷ m ∷ []) (130 ∷ m / 256 ∷ m % 256 ∷ []))) ≤ c
-    go true q u r f = omega (arith, length-forward f)
-    go false q true r (short l x y) = absurd (omega (arith, ltb-false m 128 q))
-    go false q true r (one l x y) = omega arith
-    go false q true r (two l x y) = omega arith
-    go false q false r (short l x y) = absurd (omega (arith, ltb-false m 128 q))
-    go false q false r (one l x y) = absurd (omega (arith, ltb-false m 256 r, os (p + 1)))
-    go false q false r (two l x y) = omega arith
+    at-least-two : 128 ≤ m → LengthForm s p n c → p + 2 ≤ c
+    at-least-two h (short l x y) = absurd (omega arith)
+    at-least-two h (one l x y) = omega arith
+    at-least-two h (two l x y) = omega arith
+
+    three : 256 ≤ m → LengthForm s p n c → p + 3 ≤ c
+    three h (short l x y) = absurd (omega arith)
+    three h (one l x y) = absurd (omega (arith, os (p + 1)))
+    three h (two l x y) = omega arith
+
+-- a form that takes as many octets as the one written is that one
+pub length-only : (s : List ℕ) (p n c : ℕ) → Octets s → c ≤ length s → c ≡ p + length (lengthOctets n) → LengthForm s p n c → Holds s p (lengthOctets n)
+length-only s p n c os cs e f =
+    length-by (λ xs. c ≡ p + length xs → Holds s p xs) n (λ l. first l f) (λ l u. second l f) (λ l. third l f) e
+  where
+    first : n < 128 → LengthForm s p n c → c ≡ p + 1 → Holds s p (n ∷ [])
+    first h (short l x y) e = (omega arith, x, tt)
+    first h (one l x y) e = absurd (omega arith)
+    first h (two l x y) e = absurd (omega arith)
+
+    second : 128 ≤ n → LengthForm s p n c → c ≡ p + 2 → Holds s p (129 ∷ n ∷ [])
+    second h (short l x y) e = absurd (omega arith)
+    second h (one l x y) e = (omega arith, l, (omega arith, x, tt))
+    second h (two l x y) e = absurd (omega arith)
+
+    third : 256 ≤ n → LengthForm s p n c → c ≡ p + 3 → Holds s p (130 ∷ n / 256 ∷ n % 256 ∷ [])
+    third h (short l x y) e = absurd (omega arith)
+    third h (one l x y) e = absurd (omega arith)
+    third h (two l x y) e =
+        let k : p + 2 ≡ p + 1 + 1 = omega arith in
+        let lo : getD s (p + 2) 0 ≡ n % 256 = omega (arith, os (p + 2)) in
+        (omega arith, l, (omega arith, omega (arith, os (p + 2)), (omega arith, subst (λ (j : ℕ). getD s j 0 ≡ n % 256) k lo, tt)))

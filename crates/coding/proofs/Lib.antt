@@ -9,6 +9,7 @@ pub mod Bounds
 pub mod Combine
 pub mod Number
 pub mod Bits
+pub mod Signed
 pub mod Leaves
 pub mod Whole
 pub mod Padded
@@ -27,4 +28,3 @@ pub mod Own
 pub mod Rows
 pub mod Shortcut
 pub mod Small
-pub mod Faults

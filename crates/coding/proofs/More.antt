@@ -16,12 +16,12 @@ use Rattle.coding.specs.Contents.{natural, shortest, negative, numberFro
 use Rattle.coding.specs.Codec.{Leaf, Run, Holds, simple, has, apart, all, prim, leafOver, marked, sort, leads}
 use Rattle.coding.specs.Leaves.{digits, width, number, listing, listed, isSome, or0, given}
 use Rattle.coding.specs.declared.Chosen.{Chosen}
-use Rattle.coding.proofs.Basic.{never, either-way, chain, picked, unpicked, followed, and-left, and-right, and-both, or-left, or-right, or-no, or-false, has-left, has-right, holds-left, holds-right}
-use Rattle.coding.proofs.Laws.{LeafLaws, RunLaws}
+use Rattle.coding.proofs.Basic.{never, either-way, chain, picked, unpicked, followed, and-left, and-right, and-both, or-left, or-right, or-no, or-false, has-left, has-right, holds-left, holds-right, holds-both, octets-both}
+use Rattle.coding.proofs.Laws.{Octets, LeafLaws, RunLaws}
 use Rattle.coding.proofs.Header.{tagged-yes}
 use Rattle.coding.proofs.Search.{walk-join}
 use Rattle.coding.proofs.Combine.{forward, untagged, first-is, primLaws, maybeLaws, overLaws}
-use Rattle.coding.proofs.Number.{unfit, judged-pass, judged-fail, numberLaws, length-digits}
+use Rattle.coding.proofs.Number.{unfit, judged-pass, judged-fail, numberLaws, length-digits, octets-digits}
 
 -- ---- contents for another type
 
@@ -47,6 +47,7 @@ leafOverLaws to from fine l back forth L = record {
   complete = λ y v.
       let w = and-right (fine y) (l .valid (from y)) v in
       ap (mapped to) (L .complete (from y) w) ∙ ap Judged.good (forth y (and-left (fine y) (l .valid (from y)) v) w);
+  octets = λ y v. L .octets (from y) (and-right (fine y) (l .valid (from y)) v);
 }
 
 -- ---- faults told otherwise
@@ -66,6 +67,8 @@ markedLaws m f F = record {
   shortest = F .shortest;
   heads = F .heads;
   walked = F .walked;
+  only = F .only;
+  octets = F .octets;
 }
 
 -- ---- runs of one type by tag
@@ -78,6 +81,18 @@ module _ {A : Type 0} (tag : ℕ) (test : A → Bool) (f g : Run A) (F : RunLaws
       ⊎ ((test x ≡ false) × g .Means x s a (a + length (cond t (f .write x) (g .write x))))
   sort-written s a x true q v b h = inl (q, F .written s a x v b h)
   sort-written s a x false q v b h = inr (q, G .written s a x v b h)
+
+  sort-only : (s : List ℕ) (a n : ℕ) (x : A) (t : Bool) → test x ≡ t → length (cond (test x) (f .write x) (g .write x)) < 256
+      → n ≡ a + length (cond (test x) (f .write x) (g .write x)) → (length (cond t (f .write x) (g .write x)) < 256 → n ≡ a + length (cond t (f .write x) (g .write x))
+      → Holds s a (cond t (f .write x) (g .write x))) → Holds s a (cond (test x) (f .write x) (g .write x))
+  sort-only s a n x t q b e h =
+      subst (λ (u : Bool). length (cond u (f .write x) (g .write x)) < 256 → n ≡ a + length (cond u (f .write x) (g .write x)) → Holds s a (cond u (f .write x) (g .write x)))
+      (sym q) h b e
+
+  sort-octets : (x : A) (t : Bool) → cond t (f .valid x) (g .valid x) ≡ true → length (cond t (f .write x) (g .write x)) ≤ 65535
+      → Octets (cond t (f .write x) (g .write x))
+  sort-octets x true v b = F .octets x v b
+  sort-octets x false v b = G .octets x v b
 
   pub sortLaws : apart (g .first) (λ o. eqb o tag) ≡ true → f .first ≡ tag ∷ [] → f .empty ≡ false → RunLaws (sort tag test f g)
   unfolding sort choice
@@ -123,6 +138,12 @@ module _ {A : Type 0} (tag : ℕ) (test : A → Bool) (f g : Run A) (F : RunLaws
               ]
         ];
     walked = λ s a n x m. elim m [ inl k ↦ F .walked s a n x (k .1) | inr k ↦ G .walked s a n x (k .1) ];
+    only = λ s a n x os ns b e m.
+        elim m [
+          | inl k ↦ sort-only s a n x true (k .0) b e (λ b' e'. F .only s a n x os ns b' e' (k .1))
+          | inr k ↦ sort-only s a n x false (k .0) b e (λ b' e'. G .only s a n x os ns b' e' (k .1))
+        ];
+    octets = λ x v b. sort-octets x (test x) v b;
   }
 
 -- ---- a run that leads another
@@ -162,6 +183,20 @@ module _ {A B : Type 0} (f : Run A) (head : B → A) (g : A → Run B) (F : RunL
         let mn = forward (G (head y)) s m n y v in
         elim (F .heads s a m (head y) u) [ inl h ↦ inl (omega (arith, h .0, mn), h .1) | inr h ↦ absurd (true≢false (sym (h .1) ∙ full)) ];
     walked = λ s a n y (m, u, v). walk-join (F .walked s a m (head y) u) (G (head y) .walked s m n y v);
+    only = λ s a n y os ns b e (m, u, v).
+        let x = head y in
+        let xs = f .write x in
+        let ys = (g x) .write y in
+        let t = length-append xs ys in
+        let p = F .shortest s a m x os u in
+        let q = G x .shortest s m n y os v in
+        let at : m ≡ a + length xs = omega arith in
+        holds-both s a xs ys (F .only s a m x os (omega arith) (omega arith) at u)
+        (subst (λ (k : ℕ). Holds s k ys) at (G x .only s m n y os ns (omega arith) (omega arith) v));
+    octets = λ y v b.
+        let x = head y in
+        let t = length-append (f .write x) ((g x) .write y) in
+        octets-both (f .write x) ((g x) .write y) (F .octets x (and-left (f .valid x) _ v) (omega arith)) (G x .octets y (and-right (f .valid x) _ v) (omega arith));
   }
 
 -- ---- numbers of a list
@@ -210,6 +245,7 @@ listedLaws unknown known small = record {
       let e : numberFrom 0 xs ≡ n = cc (p₄ .1) in
       let short : length xs ≤ 4 = omega (arith, length-digits (width n) n, width-most n) in
       picked _ _ (p₁ .0) ∙ unpicked _ _ (le-ltb 4 (length xs) short) ∙ unpicked _ _ (p₂ .0) ∙ picked _ _ (ap (has known) e ∙ v) ∙ ap Judged.good e;
+  octets = λ n v. octets-digits (width n) n;
 }
 
 -- ---- a number that may be absent

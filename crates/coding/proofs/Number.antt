@@ -16,9 +16,9 @@ use Rattle.coding.specs.Leaves.{digits, width, number}
 use Rattle.coding.proofs.Basic.{picked, unpicked, and-left, and-right, and-both}
 use Rattle.coding.proofs.Laws.{Octets, LeafLaws}
 
-pos : (k : ℕ) → 0 < 256 ^ k
-pos zero = omega arith
-pos (suc k) = omega (arith, pow-suc 256 k, pos k)
+pub power-some : (k : ℕ) → 0 < 256 ^ k
+power-some zero = omega arith
+power-some (suc k) = omega (arith, pow-suc 256 k, power-some k)
 
 -- ---- the number of a list
 
@@ -32,14 +32,14 @@ from-split n (x ∷ xs) =
     let e₃ : n * 256 ^ suc (length xs) ≡ n * (P * 256) = ap (λ (q : ℕ). n * q) (pow-suc 256 (length xs)) in
     omega (arith, e₁, e₂, e₃)
 
-number-cons : (x : ℕ) (xs : List ℕ) → numberFrom 0 (x ∷ xs) ≡ x * 256 ^ length xs + numberFrom 0 xs
+pub number-cons : (x : ℕ) (xs : List ℕ) → numberFrom 0 (x ∷ xs) ≡ x * 256 ^ length xs + numberFrom 0 xs
 unfolding numberFrom
 number-cons x xs = from-split (0 * 256 + x) xs ∙ ap (λ (q : ℕ). q * 256 ^ length xs + numberFrom 0 xs) (omega arith)
 
-tail : (x : ℕ) (xs : List ℕ) → Octets (x ∷ xs) → Octets xs
+pub tail : (x : ℕ) (xs : List ℕ) → Octets (x ∷ xs) → Octets xs
 tail x xs os i = os (suc i)
 
-number-lt : (xs : List ℕ) → Octets xs → numberFrom 0 xs < 256 ^ length xs
+pub number-lt : (xs : List ℕ) → Octets xs → numberFrom 0 xs < 256 ^ length xs
 unfolding numberFrom
 number-lt [] os = omega arith
 number-lt (x ∷ xs) os =
@@ -59,25 +59,25 @@ octets-digits zero n i = omega arith
 octets-digits (suc k) n zero = omega arith
 octets-digits (suc k) n (suc i) = octets-digits k n i
 
-number-digits : (k n : ℕ) → numberFrom 0 (digits k n) ≡ n % 256 ^ k
+pub number-digits : (k n : ℕ) → numberFrom 0 (digits k n) ≡ n % 256 ^ k
 unfolding digits numberFrom
 number-digits zero n = omega arith
 number-digits (suc k) n =
     number-cons (n / 256 ^ k % 256) (digits k n)
     ∙ ap₂ (λ (l m : ℕ). n / 256 ^ k % 256 * 256 ^ l + m) (length-digits k n) (number-digits k n)
-    ∙ sym (ap (λ (m : ℕ). n % m) (omega (arith, pow-suc 256 k)) ∙ mod-mul n {m = 256} {c = 256 ^ k} (omega arith) (pos k))
+    ∙ sym (ap (λ (m : ℕ). n % m) (omega (arith, pow-suc 256 k)) ∙ mod-mul n {m = 256} {c = 256 ^ k} (omega arith) (power-some k))
 
-digits-high : (k q r : ℕ) → digits k (q * 256 ^ k + r) ≡ digits k r
+pub digits-high : (k q r : ℕ) → digits k (q * 256 ^ k + r) ≡ digits k r
 unfolding digits
 digits-high zero q r = refl
 digits-high (suc k) q r =
     let P : ℕ = 256 ^ k in
     let e : q * 256 ^ suc k + r ≡ q * 256 * P + r = ap (λ (m : ℕ). m + r) (ap (λ (m : ℕ). q * m) (pow-suc 256 k) ∙ omega arith) in
-    let head : (q * 256 ^ suc k + r) / P ≡ q * 256 + r / P = ap (λ (m : ℕ). m / P) e ∙ mul-add-div-right {m = P} (pos k) (q * 256) r in
+    let head : (q * 256 ^ suc k + r) / P ≡ q * 256 + r / P = ap (λ (m : ℕ). m / P) e ∙ mul-add-div-right {m = P} (power-some k) (q * 256) r in
     ap₂ (λ (d : ℕ) (ds : List ℕ). d ∷ ds) (ap (λ (m : ℕ). m % 256) head ∙ omega arith) (ap (digits k) e ∙ digits-high k (q * 256) r)
 
 -- octets are those of their number
-digits-number : (xs : List ℕ) → Octets xs → digits (length xs) (numberFrom 0 xs) ≡ xs
+pub digits-number : (xs : List ℕ) → Octets xs → digits (length xs) (numberFrom 0 xs) ≡ xs
 unfolding digits
 digits-number [] os = refl
 digits-number (x ∷ xs) os =
@@ -91,7 +91,7 @@ digits-number (x ∷ xs) os =
 -- ---- which lists of octets are shortest and not negative, by their number
 
 -- not negative: below half of what the octets hold
-below : (x : ℕ) (xs : List ℕ) → Octets (x ∷ xs) → x < 128 → numberFrom 0 (x ∷ xs) < 128 * 256 ^ length xs
+pub below : (x : ℕ) (xs : List ℕ) → Octets (x ∷ xs) → x < 128 → numberFrom 0 (x ∷ xs) < 128 * 256 ^ length xs
 below x xs os h =
     subst (λ (a : ℕ). a < 128 * 256 ^ length xs) (sym (number-cons x xs)) (digits-lt {q = x} {m = 128} h (number-lt xs (tail x xs os)))
 
@@ -102,12 +102,12 @@ above x xs h = go (ltb x 128) refl
     go true q = ltb-true x 128 q
     go false q = absurd (omega (arith, h, number-cons x xs, mul-le-mul-right (256 ^ length xs) (ltb-false x 128 q)))
 
-number-two : (x y : ℕ) (xs : List ℕ) → numberFrom 0 (x ∷ y ∷ xs) ≡ x * (256 ^ length xs * 256) + (y * 256 ^ length xs + numberFrom 0 xs)
+pub number-two : (x y : ℕ) (xs : List ℕ) → numberFrom 0 (x ∷ y ∷ xs) ≡ x * (256 ^ length xs * 256) + (y * 256 ^ length xs + numberFrom 0 xs)
 number-two x y xs =
     number-cons x (y ∷ xs) ∙ ap₂ (λ (a b : ℕ). x * a + b) (pow-suc 256 (length xs)) (number-cons y xs)
 
 -- shortest: at least half of what one octet fewer holds
-least : (x y : ℕ) (xs : List ℕ) → Octets (x ∷ y ∷ xs) → x < 128 → shortest (x ∷ y ∷ xs) ≡ true → 128 * 256 ^ length xs ≤ numberFrom 0 (x ∷ y ∷ xs)
+pub least : (x y : ℕ) (xs : List ℕ) → Octets (x ∷ y ∷ xs) → x < 128 → shortest (x ∷ y ∷ xs) ≡ true → 128 * 256 ^ length xs ≤ numberFrom 0 (x ∷ y ∷ xs)
 unfolding shortest
 least x y xs os h s = go (eqb x 0) refl s
   where
@@ -245,6 +245,7 @@ numberLaws low high hh = record {
       picked _ _ (f .0) ∙ unpicked _ _ (f .1)
       ∙ ap (λ (m : ℕ). cond (leb low m) (cond (leb m high) (Judged.good m) (Judged.bad Fault.contents)) (Judged.bad Fault.contents)) e
       ∙ picked _ _ l ∙ picked _ _ h;
+  octets = λ n v. octets-digits (width n) n;
 }
   where
     small : (n : ℕ) → n < 0x80000000 → n < 256 ^ width n

@@ -26,4 +26,5 @@ onlyLaws ok l L = record {
       (p .0, and-both (l .valid x) (ok x) (p .1) (n .1));
   complete = λ x v.
       ap (narrowed ok) (L .complete x (and-left (l .valid x) (ok x) v)) ∙ picked _ _ (and-right (l .valid x) (ok x) v);
+  octets = λ x v. L .octets x (and-left (l .valid x) (ok x) v);
 }

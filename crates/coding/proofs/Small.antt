@@ -7,10 +7,11 @@ use mathlib.Core.Bool.{Bool, true, false, cond}
 use native.Mathlib.Omega.{arith}
 use lib.ListN.{length, take, length-append}
 use lib.Seq.{length-take-le}
-use lib.Dec.{ltb, leb}
-use borrow.Author.Tests.{lt-ltb, le-ltb, le-leb, lt-leb}
+use lib.Dec.{ltb, leb, eqb}
+use borrow.Author.Tests.{eqb-true, lt-ltb, le-ltb, le-leb, lt-leb}
+use Rattle.coding.specs.Contents.{shortest}
 use Rattle.coding.specs.Codec.{lengthOctets, prim}
-use Rattle.coding.specs.Leaves.{width, digits, nullLeaf, identifier, string}
+use Rattle.coding.specs.Leaves.{width, digits, nullLeaf, shorten, identifier, string}
 use Rattle.coding.specs.Written.{Wrote, lead, fullNumber}
 use Rattle.coding.proofs.Basic.{picked, unpicked}
 use Rattle.coding.proofs.Writing.{lead-short, lead-length-short, lead-length-long, digits-one, prim-write, wrote-both}
@@ -48,27 +49,48 @@ small-length tag x h = ap length (small-number tag x h)
 
 -- ---- identifiers
 
-pub id-low-write : (p : ℕ) → p < 128 → identifier .write p ≡ p ∷ []
-unfolding identifier
-id-low-write p h = picked _ _ (lt-ltb p 0x80 h)
+-- a pattern's two octets
+pair-octets : (p : ℕ) → digits 2 p ≡ p / 256 % 256 ∷ p % 256 ∷ []
+unfolding digits
+pair-octets p = ap₂ (λ (a b : ℕ). a ∷ b ∷ []) (omega arith) (omega arith)
 
-pub id-high-write : (p : ℕ) → 65408 ≤ p → identifier .write p ≡ p % 256 ∷ []
-unfolding identifier
-id-high-write p h = unpicked _ _ (le-ltb p 0x80 (omega arith)) ∙ picked _ _ (le-leb 0xff80 p h)
+pub id-low-write : (p : ℕ) → p < 128 → identifier .write p ≡ p ∷ []
+unfolding identifier shorten shortest
+id-low-write p h =
+    let top : p / 256 % 256 ≡ 0 = omega arith in
+    let low : p % 256 ≡ p = omega arith in
+    rw (pair-octets p, top, low, lt-leb 0x80 p h)
+
+pub id-high-write : (p : ℕ) → 65408 ≤ p → p < 65536 → identifier .write p ≡ p % 256 ∷ []
+unfolding identifier shorten shortest
+id-high-write p l h =
+    let top : p / 256 % 256 ≡ 255 = omega arith in
+    let high : 0x80 ≤ p % 256 = omega arith in
+    rw (pair-octets p, top, le-ltb (p % 256) 0x80 high)
+
+-- of which both are needed
+two-shortest : (p : ℕ) → 0x80 ≤ p → p < 0xff80 → shortest (p / 256 ∷ p % 256 ∷ []) ≡ true
+unfolding shortest
+two-shortest p l h = go (eqb (p / 256) 0) refl (eqb (p / 256) 0xff) refl
+  where
+    go : (t : Bool) → eqb (p / 256) 0 ≡ t → (u : Bool) → eqb (p / 256) 0xff ≡ u → cond t (leb 0x80 (p % 256)) (cond u (ltb (p % 256) 0x80) true) ≡ true
+    go true q u r = le-leb 0x80 (p % 256) (omega (arith, eqb-true (p / 256) 0 q, l))
+    go false q true r = lt-ltb (p % 256) 0x80 (omega (arith, eqb-true (p / 256) 0xff r, h))
+    go false q false r = refl
 
 pub id-two-write : (p : ℕ) → 128 ≤ p → p < 65408 → identifier .write p ≡ p / 256 ∷ p % 256 ∷ []
-unfolding identifier
-id-two-write p l h = unpicked _ _ (le-ltb p 0x80 l) ∙ unpicked _ _ (lt-leb 0xff80 p h)
+unfolding identifier shorten
+id-two-write p l h =
+    let top : p / 256 % 256 ≡ p / 256 = omega arith in
+    rw (pair-octets p, top, two-shortest p l h)
 
 pub id-range : (p : ℕ) → (1 ≤ length (identifier .write p)) × (length (identifier .write p) ≤ 2)
-unfolding identifier
-id-range p = go (ltb p 0x80) (leb 0xff80 p)
+unfolding identifier shorten shortest
+id-range p = rw (pair-octets p) (go (shortest (p / 256 % 256 ∷ p % 256 ∷ [])))
   where
-    go : (t u : Bool) → (1 ≤ length (cond t (p ∷ []) (cond u (p % 256 ∷ []) (p / 256 ∷ p % 256 ∷ []))))
-        × (length (cond t (p ∷ []) (cond u (p % 256 ∷ []) (p / 256 ∷ p % 256 ∷ []))) ≤ 2)
-    go true u = omega arith
-    go false true = omega arith
-    go false false = omega arith
+    go : (t : Bool) → (1 ≤ length (cond t (p / 256 % 256 ∷ p % 256 ∷ []) (p % 256 ∷ []))) × (length (cond t (p / 256 % 256 ∷ p % 256 ∷ []) (p % 256 ∷ [])) ≤ 2)
+    go true = omega arith
+    go false = omega arith
 
 -- an element whose contents are known
 prim-of : {xs : List ℕ} (tag p : ℕ) → identifier .write p ≡ xs → (prim tag identifier) .write p ≡ lead tag (length xs) ++ xs
@@ -77,8 +99,8 @@ prim-of tag p e = prim-write tag identifier p ∙ ap (λ (ys : List ℕ). lead t
 pub id-low : (tag p : ℕ) → p < 128 → (prim tag identifier) .write p ≡ tag ∷ 1 ∷ p ∷ []
 id-low tag p h = prim-of tag p (id-low-write p h) ∙ ap (λ (a : List ℕ). a ++ (p ∷ [])) (lead-short tag 1 (omega arith))
 
-pub id-high : (tag p : ℕ) → 65408 ≤ p → (prim tag identifier) .write p ≡ tag ∷ 1 ∷ p % 256 ∷ []
-id-high tag p h = prim-of tag p (id-high-write p h) ∙ ap (λ (a : List ℕ). a ++ (p % 256 ∷ [])) (lead-short tag 1 (omega arith))
+pub id-high : (tag p : ℕ) → 65408 ≤ p → p < 65536 → (prim tag identifier) .write p ≡ tag ∷ 1 ∷ p % 256 ∷ []
+id-high tag p l h = prim-of tag p (id-high-write p l h) ∙ ap (λ (a : List ℕ). a ++ (p % 256 ∷ [])) (lead-short tag 1 (omega arith))
 
 pub id-two : (tag p : ℕ) → 128 ≤ p → p < 65408 → (prim tag identifier) .write p ≡ tag ∷ 2 ∷ p / 256 ∷ p % 256 ∷ []
 id-two tag p l h = prim-of tag p (id-two-write p l h) ∙ ap (λ (a : List ℕ). a ++ (p / 256 ∷ p % 256 ∷ [])) (lead-short tag 2 (omega arith))

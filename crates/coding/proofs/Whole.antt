@@ -1,17 +1,18 @@
--- What the laws say of a whole type: written octets read back as the value, octets read have one meaning, no octets are shorter.
+-- What the laws say of a whole type: written octets read back as the value, octets read have one meaning, no octets are shorter and no others as short.
 -- Assumes nothing.
-use Prim.Native.Nat.{ℕ, _+_, _≤_}
+use Prim.Native.Nat.{ℕ, _+_, _≤_, _<_}
 use mathlib.Core.Path.{_≡_, refl, sym, ap, _∙_, subst}
 use mathlib.Core.List.{List, [], _++_, append-nil}
 use mathlib.Core.Bool.{true, not, _||_}
 use mathlib.Core.Logic.{_↔_}
 use native.Mathlib.Omega.{arith}
 use native.Mathlib.Nat.{zero-add}
-use lib.ListN.{length, getD}
+use lib.ListN.{length, getD, take}
+use lib.Seq.{take-length}
 use borrow.Author.Tests.{le-leb}
 use Rattle.coding.specs.Reader.{got}
 use Rattle.coding.specs.Codec.{Run}
-use Rattle.coding.proofs.Basic.{holds-there, same-got}
+use Rattle.coding.proofs.Basic.{holds-there, holds-part, same-got}
 use Rattle.coding.proofs.Laws.{Octets, clear, RunLaws}
 
 -- the octets, whole, mean the value
@@ -65,6 +66,12 @@ module _ {A : Type 0} (f : Run A) (F : RunLaws f) where
   -- no octets that mean the value are fewer than those written
   pub none-shorter : (bs : List ℕ) (x : A) → Octets bs → Encodes f x bs → length (f .write x) ≤ length bs
   none-shorter bs x os m = omega (arith, F .shortest bs 0 (length bs) x os m)
+
+  -- and those that are as many are those written
+  pub the-shortest : (bs : List ℕ) (x : A) → Octets bs → length bs < 256 → Encodes f x bs → length bs ≡ length (f .write x) → bs ≡ f .write x
+  the-shortest bs x os b m e =
+      let h = F .only bs 0 (length bs) x os (omega arith) (omega arith) (omega arith) m in
+      sym (ap (λ (k : ℕ). take k bs) (sym e) ∙ take-length bs) ∙ holds-part bs 0 (f .write x) h
 
 -- a statement that is an equation leaves one outcome: two results that meet it are equal
 pub one-outcome : {A : Type 0} {x y z : A} → x ≡ z → y ≡ z → x ≡ y

@@ -52,9 +52,13 @@ pub data Element (s : List ℕ) (a c m n : ℕ) : Type 0 where
 
 -- ---- tags
 
--- a primitive element's tag; 00 is none
+-- one octet; 00 is no tag
+abbrev pub isTag : ℕ → Bool
+isTag tag = ltb 0 tag && ltb tag 256
+
+-- a primitive element's
 abbrev pub simple : ℕ → Bool
-simple tag = ltb 0 tag && not (composite tag)
+simple tag = isTag tag && not (composite tag)
 
 -- no tag of the list is in the set
 unfoldable pub apart : List ℕ → (ℕ → Bool) → Bool

@@ -1,9 +1,10 @@
 -- What a primitive element's contents may be.
-use Prim.Native.Nat.{ℕ, _+_, _*_}
+use Prim.Native.Nat.{ℕ, _+_, _*_, _^_}
 use mathlib.Core.List.{List, [], _∷_}
 use mathlib.Core.Bool.{Bool, true, false, cond}
 use lib.ListN.{length}
 use lib.Dec.{ltb, leb, eqb}
+use lib.IntN.{ℤ, pos, subℕ}
 use Rattle.coding.specs.Reader.{Fault, Judged}
 
 -- the number that octets say, high first
@@ -15,6 +16,10 @@ numberFrom n (x ∷ xs) = numberFrom (n * 256 + x) xs
 unfoldable pub negative : List ℕ → Bool
 negative [] = false
 negative (x ∷ xs) = leb 0x80 x
+
+-- the number that contents say, of any length: where the first bit is set, less 256 ^ length
+unfoldable pub valueOf : List ℕ → ℤ
+valueOf xs = cond (negative xs) (subℕ (numberFrom 0 xs) (256 ^ length xs)) (pos (numberFrom 0 xs))
 
 -- one octet, or more whose first nine bits are not all equal
 unfoldable pub shortest : List ℕ → Bool

@@ -1,11 +1,12 @@
 -- Contents of primitive elements as leaves: judged, written, valid.
-use Prim.Native.Nat.{ℕ, zero, suc, _+_, _*_, _/_, _%_, _^_}
+use Prim.Native.Nat.{ℕ, zero, suc, _-_, _/_, _%_, _^_}
 use mathlib.Core.List.{List, [], _∷_}
 use mathlib.Core.Bool.{Bool, true, false, _&&_, _||_, cond}
 use lib.ListN.{length}
 use lib.Dec.{ltb, leb, eqb}
+use lib.IntN.{ℤ, pos, negsuc}
 use Rattle.coding.specs.Reader.{Fault, Judged, narrowed}
-use Rattle.coding.specs.Contents.{natural, negative, numberFrom, shortest, every, text, null}
+use Rattle.coding.specs.Contents.{natural, negative, numberFrom, valueOf, shortest, every, text, null}
 use mathlib.Core.Option.{Option, none, some}
 use Rattle.coding.specs.Codec.{Leaf, Run, prim, maybe, over, has}
 use Rattle.coding.specs.declared.Chosen.{Chosen}
@@ -37,19 +38,39 @@ string low high ok = record {
 unfoldable pub nullLeaf : Leaf (Unit {0})
 nullLeaf = record { judge = null; write = λ x. []; valid = λ x. true }
 
--- INTEGER from -32,768 to 32,767, as its pattern of 16 bits
-unfoldable pub signed16 : List ℕ → Judged ℕ
-signed16 [] = Judged.bad Fault.shortest
-signed16 (x ∷ []) = Judged.good (cond (ltb x 0x80) x (0xff00 + x))
-signed16 (x ∷ y ∷ []) = cond (shortest (x ∷ y ∷ [])) (Judged.good (x * 256 + y)) (Judged.bad Fault.shortest)
-signed16 (x ∷ y ∷ z ∷ zs) = cond (shortest (x ∷ y ∷ z ∷ zs)) (Judged.bad Fault.contents) (Judged.bad Fault.shortest)
+-- ---- INTEGER of at most k octets in two's complement, as its pattern of 8 k bits (negsuc n is -1 - n)
 
-unfoldable pub identifier : Leaf ℕ
-identifier = record {
-  judge = signed16;
-  write = λ p. cond (ltb p 0x80) (p ∷ []) (cond (leb 0xff80 p) (p % 256 ∷ []) (p / 256 ∷ p % 256 ∷ []));
-  valid = λ p. ltb p 0x10000;
+-- from -(256 ^ k / 2) up to 256 ^ k / 2 - 1
+abbrev pub inOctets : ℕ → ℤ → Bool
+inOctets k (pos n) = ltb n (256 ^ k / 2)
+inOctets k (negsuc n) = ltb n (256 ^ k / 2)
+
+-- a number below 0 has the pattern that is 256 ^ k more
+abbrev pub patternOf : ℕ → ℤ → ℕ
+patternOf k (pos n) = n
+patternOf k (negsuc n) = 256 ^ k - suc n
+
+unfoldable pub integer : ℕ → List ℕ → Judged ℕ
+integer k xs =
+    cond (shortest xs)
+    (cond (inOctets k (valueOf xs)) (Judged.good (patternOf k (valueOf xs))) (Judged.bad Fault.contents))
+    (Judged.bad Fault.shortest)
+
+-- what is left without the octets in front that are not needed
+unfoldable pub shorten : List ℕ → List ℕ
+shorten [] = []
+shorten (x ∷ xs) = cond (shortest (x ∷ xs)) (x ∷ xs) (shorten xs)
+
+abbrev pub signed : ℕ → Leaf ℕ
+signed k = record {
+  judge = integer k;
+  write = λ p. shorten (digits k p);
+  valid = λ p. ltb p (256 ^ k);
 }
+
+-- INTEGER from -32,768 to 32,767
+unfoldable pub identifier : Leaf ℕ
+identifier = signed 2
 
 -- INTEGER of 1 to 4 octets that is one of the list; another is refused by its own number
 unfoldable pub listing : ℕ → List ℕ → List ℕ → Judged ℕ

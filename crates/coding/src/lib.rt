@@ -13,7 +13,7 @@ ghost use lib.Dec.{ltb};
 ghost use Rattle.coding.specs.Reader.{tagged, extent, numberedAt, endless, marker, findEnd, spanned, lengthAt, opened, part};
 ghost use Rattle.coding.specs.Contents.{natural, shortest, negative, numberFrom, every};
 ghost use Rattle.coding.specs.Codec.{prim, lengthOctets};
-ghost use Rattle.coding.specs.Leaves.{number, nullLeaf, given, signed16, identifier, width, digits};
+ghost use Rattle.coding.specs.Leaves.{number, nullLeaf, given, integer, identifier, width, digits};
 ghost use Rattle.coding.specs.Shown.{shown, verdict};
 ghost use Rattle.coding.specs.Shortcut.{Tiny, Short, tinyAt, shortAt, bareAt};
 ghost use Rattle.coding.specs.Written.{Wrote, lead, fullNumber};
@@ -610,7 +610,7 @@ fn null_long(s: &[u8], at: usize, end: usize, tag: u8) -> Empty
 // An identifier's contents: -32,768 to 32,767, as its pattern of 16 bits.
 fn identifier_in(s: &[u8], start: usize, stop: usize) -> Verdict
     requires { ⌜ (start ≤ stop) × (stop ≤ length (now s)) ⌝ }
-    ensures { λ r. ⌜ (r .fault, r .value) ≡ verdict 0 (signed16 (part (now (s .entry)) start stop)) ⌝ }
+    ensures { λ r. ⌜ (r .fault, r .value) ≡ verdict 0 (integer 2 (part (now (s .entry)) start stop)) ⌝ }
     ensures bounded { λ r. ⌜ r .value < 65536 ⌝ }
 {
     if stop <= start {

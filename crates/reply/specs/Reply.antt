@@ -8,7 +8,7 @@ use lib.Dec.{leb, eqb}
 use Rattle.coding.specs.Reader.{Ans, after, enteredAny}
 use Rattle.coding.specs.Reader.Ans.{got, halt}
 use Rattle.coding.specs.Reader.Fault.{named}
-use Rattle.coding.specs.Codec.{prim}
+use Rattle.coding.specs.Codec.{prim, has}
 use Rattle.coding.specs.Leaves.{identifier}
 use Rattle.types.specs.declared.Record.{Record}
 use Rattle.types.specs.Frames.{outside, rejects, readOf}
@@ -19,18 +19,26 @@ use Rattle.writer.specs.Outcome.{done, writeOf, leftOf}
 abbrev pub firstOf : List ℕ → ℕ
 firstOf s = getD s 0 0
 
--- the component's identifier, which stands first in its contents; 0 where none can be read
+-- the component's identifier, which stands first in its contents
+abbrev pub identifierRead : List ℕ → Ans ℕ
+identifierRead s =
+    after (enteredAny (0xa1 ∷ 0xa2 ∷ 0xa3 ∷ 0xa4 ∷ []) outside (named 5) s 0 (length s)) (λ x next. (prim 0x02 identifier) .read s (x .start) (x .stop))
+
+-- 0 where none can be read, which no reply sends (`named-reply`)
 abbrev pub valueOr0 : Ans ℕ → ℕ
 valueOr0 (got i n) = i
 valueOr0 (halt w p) = 0
 
 unfoldable pub identifierOf : List ℕ → ℕ
-identifierOf s =
-    valueOr0 (after (enteredAny (0xa1 ∷ 0xa2 ∷ 0xa3 ∷ 0xa4 ∷ []) outside (named 5) s 0 (length s)) (λ x next. (prim 0x02 identifier) .read s (x .start) (x .stop)))
+identifierOf s = valueOr0 (identifierRead s)
 
 -- none for an accepted component or where the first octet is A4
 unfoldable pub isSilent : List ℕ → Bool
 isSilent s = eqb (readOf s .number) 0 || eqb (firstOf s) 0xa4
+
+-- the refusals whose reply names the component
+abbrev pub isNamed : ℕ → Bool
+isNamed n = has (7 ∷ 8 ∷ 40 ∷ 41 ∷ 42 ∷ 43 ∷ 44 ∷ 45 ∷ []) n
 
 -- with NULL: refusals 1, 2, 3, 5 general 2; 4 general 0; 6 general 1
 -- with the identifier: 7 invoke 1 (in a result: result 2); 8 error 2; 40 to 45 invoke 2 (in a result: result 2)

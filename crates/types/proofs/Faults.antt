@@ -16,7 +16,7 @@ use Rattle.coding.specs.Reader.Judged.{good, bad}
 use Rattle.coding.specs.Reader.Fault.{missing, unexpected, cut, form, shortest, contents, limit, named}
 use Rattle.coding.specs.Codec.{Leaf, Run, has, prim, cons, leads, barring, marked, frames, pickRun}
 use Rattle.coding.specs.Contents as Contents
-use Rattle.coding.specs.Leaves.{number, given, identifier, signed16, listed, listing}
+use Rattle.coding.specs.Leaves.{number, given, integer, identifier, listed, listing}
 use Rattle.coding.proofs.Basic.{never, chain, either-way}
 use Rattle.coding.proofs.Header.{opened-sound, spans-range, read-element}
 use Rattle.coding.proofs.Frames.{any-got}
@@ -25,8 +25,8 @@ use Rattle.types.specs.Charges.{scaled, currencyLeaf, currency, money, d
 use Rattle.types.specs.Entries.{unit}
 use Rattle.types.specs.Rates.{duration, flatRate, volume, coded, plainRate, price, rate}
 use Rattle.types.specs.Arguments.{sign, inMoney, inUnits, during, subtotals, ending, settled, finals, rates, arrangement, available, chargeOf}
-use Rattle.types.specs.Frames.{outside, inArgument, value, operations, errors, carrying, request, argument, invoke, returnResult, failed, returnError, caller, problem, problems, reject, frame, component, readWhole}
-use Rattle.types.proofs.Places.{Plain, Ends, Blames, Placed, pick, nearer, farther, before-end, follows, length-ends, closed-ends, Lengths, prim-placed, cons-placed, sort-placed, either-placed, barring-placed, maybe-placed, some-placed, nothing-placed, pair-placed, alt-placed, over-placed, shape-placed, canonical-placed, leads-placed, number-blames, string-blames, null-blames, identifier-blames, listed-blames, only-blames, leaf-over-blames}
+use Rattle.types.specs.Frames.{numberOf, outside, inArgument, value, operations, errors, carrying, request, argument, invoke, returnResult, failed, returnError, caller, problem, problems, reject, frame, component, readWhole}
+use Rattle.types.proofs.Places.{Plain, Ends, Blames, Placed, pick, nearer, farther, weaker, before-end, follows, length-ends, closed-ends, Lengths, prim-placed, cons-placed, sort-placed, either-placed, barring-placed, maybe-placed, some-placed, nothing-placed, pair-placed, alt-placed, over-placed, shape-placed, canonical-placed, leads-placed, number-blames, string-blames, null-blames, identifier-blames, listed-blames, only-blames, leaf-over-blames}
 
 -- ---- charges: no fault of theirs has a number yet
 
@@ -123,6 +123,40 @@ plainly (named n) p h = absurd h
 low : {n : ℕ} (p : ℕ) → 1 ≤ n → n ≤ 8 → Told (named n) p
 low p a b = inl (a, b)
 
+-- none of the numbers that only the component's own element has, or its octets in all
+abbrev pub Whole : ℕ → Type 0
+Whole n = (n ≡ 1 → ⊥) × (n ≡ 3 → ⊥) × (n ≡ 5 → ⊥)
+
+-- in the component's contents
+abbrev pub Inside : Fault → ℕ → Type 0
+Inside w p = Told w p × Whole (numberOf w)
+
+whole : {n : ℕ} → (n ≡ 1 → ⊥) → (n ≡ 3 → ⊥) → (n ≡ 5 → ⊥) → Whole n
+whole a b c = (a, b, c)
+
+pub plain-whole : (w : Fault) → Plain w → Whole (numberOf w)
+plain-whole missing h = whole (λ e. omega (arith, e)) (λ e. omega (arith, e)) (λ e. omega (arith, e))
+plain-whole unexpected h = whole (λ e. omega (arith, e)) (λ e. omega (arith, e)) (λ e. omega (arith, e))
+plain-whole cut h = whole (λ e. omega (arith, e)) (λ e. omega (arith, e)) (λ e. omega (arith, e))
+plain-whole form h = whole (λ e. omega (arith, e)) (λ e. omega (arith, e)) (λ e. omega (arith, e))
+plain-whole shortest h = whole (λ e. omega (arith, e)) (λ e. omega (arith, e)) (λ e. omega (arith, e))
+plain-whole contents h = whole (λ e. omega (arith, e)) (λ e. omega (arith, e)) (λ e. omega (arith, e))
+plain-whole limit h = whole (λ e. omega (arith, e)) (λ e. omega (arith, e)) (λ e. omega (arith, e))
+plain-whole (named n) h = absurd h
+
+inside : (w : Fault) (p : ℕ) → Plain w → Inside w p
+inside w p h = (plainly w p h, plain-whole w h)
+
+-- 2, 7 or 8
+own : (n p : ℕ) → 1 ≤ n → n ≤ 8 → Whole n → Inside (named n) p
+own n p a b h = (low p a b, h)
+
+seven : (p : ℕ) → Inside (named 7) p
+seven p = own 7 p (omega arith) (omega arith) (whole (λ e. omega (arith, e)) (λ e. omega (arith, e)) (λ e. omega (arith, e)))
+
+eight : (p : ℕ) → Inside (named 8) p
+eight p = own 8 p (omega arith) (omega arith) (whole (λ e. omega (arith, e)) (λ e. omega (arith, e)) (λ e. omega (arith, e)))
+
 outside-told : (w : Fault) (p : ℕ) → Plain w → Told (outside w) p
 outside-told missing p h = low p (omega arith) (omega arith)
 outside-told unexpected p h = low p (omega arith) (omega arith)
@@ -133,21 +167,25 @@ outside-told contents p h = low p (omega arith) (omega arith)
 outside-told limit p h = low p (omega arith) (omega arith)
 outside-told (named n) p h = absurd h
 
-argument-told : (w : Fault) (p : ℕ) → Plain w → 8 ≤ p → Told (inArgument w) p
-argument-told missing p h l = inr (omega arith, omega arith, l)
-argument-told unexpected p h l = inr (omega arith, omega arith, l)
-argument-told cut p h l = inr (omega arith, omega arith, l)
-argument-told form p h l = low p (omega arith) (omega arith)
-argument-told shortest p h l = inr (omega arith, omega arith, l)
-argument-told contents p h l = inr (omega arith, omega arith, l)
-argument-told limit p h l = inr (omega arith, omega arith, l)
+-- 40 to 45, after the eighth octet, or 2
+argument-number : (n p : ℕ) → 40 ≤ n → n ≤ 45 → 8 ≤ p → Inside (named n) p
+argument-number n p a b l = (inr (a, b, l), whole (λ e. omega (arith, e)) (λ e. omega (arith, e)) (λ e. omega (arith, e)))
+
+argument-told : (w : Fault) (p : ℕ) → Plain w → 8 ≤ p → Inside (inArgument w) p
+argument-told missing p h l = argument-number 40 p (omega arith) (omega arith) l
+argument-told unexpected p h l = argument-number 41 p (omega arith) (omega arith) l
+argument-told cut p h l = argument-number 42 p (omega arith) (omega arith) l
+argument-told form p h l = own 2 p (omega arith) (omega arith) (whole (λ e. omega (arith, e)) (λ e. omega (arith, e)) (λ e. omega (arith, e)))
+argument-told shortest p h l = argument-number 43 p (omega arith) (omega arith) l
+argument-told contents p h l = argument-number 44 p (omega arith) (omega arith) l
+argument-told limit p h l = argument-number 45 p (omega arith) (omega arith) l
 argument-told (named n) p h l = absurd h
 
-marked-placed : {A : Type 0} (f : Run A) → Placed Unnamed 8 f → Placed Told 8 (marked inArgument f)
+marked-placed : {A : Type 0} (f : Run A) → Placed Unnamed 8 f → Placed Inside 8 (marked inArgument f)
 unfolding marked blamed
 marked-placed {A} f F = record { ends = λ s a e h i. go a e h (f .read s a e) (F .ends s a e h i) }
   where
-    go : (a e : ℕ) → 8 ≤ a → (x : Ans A) → Ends Unnamed a e x → Ends Told a e (blamed inArgument x)
+    go : (a e : ℕ) → 8 ≤ a → (x : Ans A) → Ends Unnamed a e x → Ends Inside a e (blamed inArgument x)
     go a e h (got v n) q = q
     go a e h (halt w p) q = (argument-told w p (q .0) (omega (arith, h, q .1)), q .1, q .2)
 
@@ -191,17 +229,16 @@ bad-good : {w : Fault} {x : ℕ} → bad w ≡ good x → ⊥
 bad-good q = subst isBad q tt
 
 id-some : (x : ℕ) → identifier .judge [] ≡ good x → ⊥
-unfolding identifier signed16
+unfolding identifier integer Contents.shortest
 id-some x q = bad-good q
 
 module _ (k : ℕ) where
-  id-placed : Placed Told k (prim 0x02 identifier)
-  id-placed = prim-placed Told plainly k 0x02 identifier (identifier-blames Told plainly)
+  id-placed : Placed Inside k (prim 0x02 identifier)
+  id-placed = prim-placed Inside inside k 0x02 identifier (identifier-blames Inside inside)
 
-  value-placed : (u : ℕ) (ks : List ℕ) → 1 ≤ u → u ≤ 8 → Placed Told k (value u ks)
+  value-placed : (u : ℕ) (ks : List ℕ) → ((p : ℕ) → Inside (named u) p) → Placed Inside k (value u ks)
   unfolding value
-  value-placed u ks a b =
-      barring-placed Told plainly k _ _ _ (λ p. low p a b) (prim-placed Told plainly k _ _ (listed-blames Told plainly u ks (λ p. low p a b)))
+  value-placed u ks h = barring-placed Inside inside k _ _ _ h (prim-placed Inside inside k _ _ (listed-blames Inside inside u ks h))
 
 value-some : (u : ℕ) (ks : List ℕ) (x : ℕ) → (listed u ks) .judge [] ≡ good x → ⊥
 unfolding listed listing Contents.shortest
@@ -216,58 +253,58 @@ value-takes u ks s a e n x h q =
     ]
 
 -- an argument or result
-request-placed : (i : ℕ) → Placed Told 8 (request i)
+request-placed : (i : ℕ) → Placed Inside 8 (request i)
 unfolding request
 request-placed i =
-    canonical-placed Told plainly 8 _ _ _ _ (marked-placed _ (prim-placed Unnamed unnamed 8 _ _ (number-blames Unnamed unnamed _ _)))
+    canonical-placed Inside inside 8 _ _ _ _ (marked-placed _ (prim-placed Unnamed unnamed 8 _ _ (number-blames Unnamed unnamed _ _)))
 
-carrying-placed : (k i o : ℕ) → Placed Told 8 (carrying k i o)
+carrying-placed : (k i o : ℕ) → Placed Inside 8 (carrying k i o)
 unfolding carrying
-carrying-placed k i o = canonical-placed Told plainly 8 _ _ _ _ (marked-placed _ (charge-placed 8 o))
+carrying-placed k i o = canonical-placed Inside inside 8 _ _ _ _ (marked-placed _ (charge-placed 8 o))
 
-argument-placed : (i o : ℕ) → Placed Told 8 (argument i o)
+argument-placed : (i o : ℕ) → Placed Inside 8 (argument i o)
 unfolding argument
-argument-placed i o = either-placed Told plainly 8 (eqb o 30) _ _ (request-placed i) (carrying-placed 1 i o)
+argument-placed i o = either-placed Inside inside 8 (eqb o 30) _ _ (request-placed i) (carrying-placed 1 i o)
 
-invoke-placed : Placed Told 2 invoke
+invoke-placed : Placed Inside 2 invoke
 unfolding invoke
 invoke-placed =
-    leads-placed Told plainly 2 3 _ _ _ (id-placed 2) (prim-takes _ _ id-some) (λ i.
-    leads-placed Told plainly 5 3 _ _ _ (value-placed 5 7 operations (omega arith) (omega arith)) (value-takes 7 operations) (argument-placed i))
+    leads-placed Inside inside 2 3 _ _ _ (id-placed 2) (prim-takes _ _ id-some) (λ i.
+    leads-placed Inside inside 5 3 _ _ _ (value-placed 5 7 operations seven) (value-takes 7 operations) (argument-placed i))
 
-result-placed : Placed Told 2 returnResult
+result-placed : Placed Inside 2 returnResult
 unfolding returnResult
 result-placed =
-    leads-placed Told plainly 2 3 _ _ _ (id-placed 2) (prim-takes _ _ id-some) (λ i.
-    cons-placed Told plainly 5 _ _
-    (leads-placed Told plainly 5 3 _ _ _ (value-placed 5 7 (30 ∷ []) (omega arith) (omega arith)) (value-takes 7 (30 ∷ [])) (carrying-placed 2 i)))
+    leads-placed Inside inside 2 3 _ _ _ (id-placed 2) (prim-takes _ _ id-some) (λ i.
+    cons-placed Inside inside 5 _ _
+    (leads-placed Inside inside 5 3 _ _ _ (value-placed 5 7 (30 ∷ []) seven) (value-takes 7 (30 ∷ [])) (carrying-placed 2 i)))
 
-error-placed : Placed Told 2 returnError
+error-placed : Placed Inside 2 returnError
 unfolding returnError failed
 error-placed =
-    leads-placed Told plainly 2 3 _ _ _ (id-placed 2) (prim-takes _ _ id-some) (λ i.
-    canonical-placed Told plainly 5 _ _ _ _ (value-placed 5 8 errors (omega arith) (omega arith)))
+    leads-placed Inside inside 2 3 _ _ _ (id-placed 2) (prim-takes _ _ id-some) (λ i.
+    canonical-placed Inside inside 5 _ _ _ _ (value-placed 5 8 errors eight))
 
-problem-placed : (tag most : ℕ) (c : Unit {0} ⊎ ℕ) → Placed Told 2 (problem tag most c)
+problem-placed : (tag most : ℕ) (c : Unit {0} ⊎ ℕ) → Placed Inside 2 (problem tag most c)
 unfolding problem
-problem-placed tag most c = canonical-placed Told plainly 2 _ _ _ _ (prim-placed Told plainly 2 _ _ (number-blames Told plainly _ _))
+problem-placed tag most c = canonical-placed Inside inside 2 _ _ _ _ (prim-placed Inside inside 2 _ _ (number-blames Inside inside _ _))
 
-reject-placed : Placed Told 2 reject
+reject-placed : Placed Inside 2 reject
 unfolding reject caller problems
 reject-placed =
-    leads-placed Told plainly 2 0 _ _ _
-    (alt-placed Told plainly 2 _ _ _ (prim-placed Told plainly 2 _ _ (null-blames Told plainly)) (id-placed 2))
+    leads-placed Inside inside 2 0 _ _ _
+    (alt-placed Inside inside 2 _ _ _ (prim-placed Inside inside 2 _ _ (null-blames Inside inside)) (id-placed 2))
     (λ s a e n x h q. omega (arith, h)) (λ c.
-    sort-placed Told plainly 2 _ _ _ _ (problem-placed 0x80 2 c)
-    (sort-placed Told plainly 2 _ _ _ _ (problem-placed 0x81 7 c)
-    (sort-placed Told plainly 2 _ _ _ _ (problem-placed 0x82 2 c) (problem-placed 0x83 4 c))))
+    sort-placed Inside inside 2 _ _ _ _ (problem-placed 0x80 2 c)
+    (sort-placed Inside inside 2 _ _ _ _ (problem-placed 0x81 7 c)
+    (sort-placed Inside inside 2 _ _ _ _ (problem-placed 0x82 2 c) (problem-placed 0x83 4 c))))
 
-frame-placed : (tag : ℕ) → Placed Told 2 (frame tag)
+pub frame-placed : (tag : ℕ) → Placed Inside 2 (frame tag)
 unfolding frame
 frame-placed tag =
-    either-placed Told plainly 2 (eqb tag 0xa1) _ _ invoke-placed
-    (either-placed Told plainly 2 (eqb tag 0xa2) _ _ result-placed
-    (either-placed Told plainly 2 (eqb tag 0xa3) _ _ error-placed reject-placed))
+    either-placed Inside inside 2 (eqb tag 0xa1) _ _ invoke-placed
+    (either-placed Inside inside 2 (eqb tag 0xa2) _ _ result-placed
+    (either-placed Inside inside 2 (eqb tag 0xa3) _ _ error-placed reject-placed))
 
 -- ---- a component
 
@@ -294,7 +331,7 @@ component-told s =
     let g = any-got _ outside (named 5) s 0 e q in
     let r = spans-range (opened-sound (getD s 0 0) s 0 e v n (g .1) .0) in
     let inner : Ans Record = (frame (getD s 0 0)) .read s (v .start) (v .stop) in
-    let body = frame-placed (getD s 0 0) .ends s (v .start) (v .stop) (omega (arith, r .0)) (r .1) in
+    let body = weaker Inside Told (v .start) (v .stop) inner (λ w p h. h .0) (frame-placed (getD s 0 0) .ends s (v .start) (v .stop) (omega (arith, r .0)) (r .1)) in
     follows Told 0 e inner _ (nearer Told 0 (v .start) e inner (omega arith) (farther Told (v .start) (v .stop) e inner (omega (arith, r .2, y)) body))
     (λ u last z m j. closed-ends Told plainly u last (v .stop) n e 0 m (before-end Told (v .start) (v .stop) inner z body) (r .2) y))
   where

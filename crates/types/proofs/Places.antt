@@ -16,9 +16,9 @@ use Rattle.coding.specs.Reader.Ans.{got, halt}
 use Rattle.coding.specs.Reader.Judged.{good, bad}
 use Rattle.coding.specs.Reader.Fault.{missing, unexpected, cut, form, shortest, contents, limit, named}
 use Rattle.coding.specs.Codec.{Leaf, Run, has, prim, cons, nothing, pair, alt, over, shape, canonical, maybe, some·more, leafOver, leads, barring, marked, sort, pickRun}
-use Rattle.coding.specs.Contents.{natural, negative, numberFrom, text, every, null}
+use Rattle.coding.specs.Contents.{natural, valueOf, negative, numberFrom, text, every, null}
 use Rattle.coding.specs.Contents as Contents
-use Rattle.coding.specs.Leaves.{number, string, nullLeaf, signed16, identifier, listing, listed, only}
+use Rattle.coding.specs.Leaves.{number, string, nullLeaf, inOctets, integer, identifier, listing, listed, only}
 use Rattle.coding.proofs.Header.{opened-sound, spans-range, read-element, element-range}
 
 -- one of two by a test
@@ -58,6 +58,10 @@ nearer P a b e (halt w p) l h = (h .0, omega (arith, h .1), h .2)
 pub farther : {A : Type 0} (P : Fault → ℕ → Type 0) (a d e : ℕ) (x : Ans A) → d ≤ e → Ends P a d x → Ends P a e x
 farther P a d e (got v n) l h = (h .0, omega (arith, h .1))
 farther P a d e (halt w p) l h = (h .0, h .1, omega (arith, h .2))
+
+pub weaker : {A : Type 0} (P Q : Fault → ℕ → Type 0) (a e : ℕ) (x : Ans A) → ((w : Fault) (p : ℕ) → P w p → Q w p) → Ends P a e x → Ends Q a e x
+weaker P Q a e (got v n) f h = h
+weaker P Q a e (halt w p) f h = (f w p (h .0), h .1, h .2)
 
 -- a value's place is before the end
 pub before-end : {A : Type 0} (P : Fault → ℕ → Type 0) (a e : ℕ) (x : Ans A) {v : A} {n : ℕ} → x ≡ got v n → Ends P a e x → n ≤ e
@@ -293,11 +297,9 @@ module _ (P : Fault → ℕ → Type 0) (plain : (w : Fault) (p : ℕ) → Plain
   null-blames (x ∷ xs) = λ p. plain contents p tt
 
   pub identifier-blames : (xs : List ℕ) → Blames P (identifier .judge xs)
-  unfolding identifier signed16
-  identifier-blames [] = λ p. plain shortest p tt
-  identifier-blames (x ∷ []) = tt
-  identifier-blames (x ∷ y ∷ []) = pick (Blames P) (Contents.shortest (x ∷ y ∷ [])) _ _ (λ q. tt) (λ q p. plain shortest p tt)
-  identifier-blames (x ∷ y ∷ z ∷ zs) = pick (Blames P) (Contents.shortest (x ∷ y ∷ z ∷ zs)) _ _ (λ q p. plain contents p tt) (λ q p. plain shortest p tt)
+  unfolding identifier integer
+  identifier-blames xs =
+      pick (Blames P) (Contents.shortest xs) _ _ (λ q. pick (Blames P) (inOctets 2 (valueOf xs)) _ _ (λ q. tt) (λ q p. plain contents p tt)) (λ q p. plain shortest p tt)
 
   pub listed-blames : (u : ℕ) (ks : List ℕ) → ((p : ℕ) → P (named u) p) → (xs : List ℕ) → Blames P ((listed u ks) .judge xs)
   unfolding listed listing

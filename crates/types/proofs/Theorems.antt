@@ -188,6 +188,14 @@ read-fits s x os e =
 pub none-shorter : (s : List ℕ) (x : Record) → Octets s → Encodes component x s → length (component .write x) ≤ length s
 none-shorter = Whole.none-shorter component componentLaws
 
+-- and those that are as many are those: of the octets that mean a record one only is shortest
+pub the-shortest : (s : List ℕ) (x : Record) → Octets s → length s ≤ 254 → Encodes component x s → length s ≡ length (component .write x) → s ≡ component .write x
+the-shortest s x os l m e = Whole.the-shortest component componentLaws s x os (omega arith) m e
+
+-- what is written of a valid record are octets
+pub written-octets : (x : Record) → component .valid x ≡ true → length (component .write x) ≤ 254 → Octets (component .write x)
+written-octets x v l = componentLaws .octets x v (omega arith)
+
 -- two valid records that are written alike are one
 pub written-once : (x y : Record) → component .valid x ≡ true → component .valid y ≡ true → length (component .write x) ≤ 254
     → component .write x ≡ component .write y → x ≡ y

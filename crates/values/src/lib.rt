@@ -110,17 +110,36 @@ impl Services {
         self
     }
 
+    pub fn has_s(self) -> bool
+        ensures { λ r. ⌜ r ≡ has self 1 ⌝ }
+    {
+        self.s != 0
+    }
+
+    pub fn has_d(self) -> bool
+        ensures { λ r. ⌜ r ≡ has self 2 ⌝ }
+    {
+        self.d != 0
+    }
+
+    pub fn has_e(self) -> bool
+        ensures { λ r. ⌜ r ≡ has self 3 ⌝ }
+    {
+        self.e != 0
+    }
+
+    // Whether a service is in the set.
     pub fn has(self, service: u8) -> bool
         ensures { λ r. ⌜ r ≡ has self service ⌝ }
     {
         if service == 1 {
-            return self.s != 0;
+            return self.has_s();
         }
         if service == 2 {
-            return self.d != 0;
+            return self.has_d();
         }
         if service == 3 {
-            return self.e != 0;
+            return self.has_e();
         }
         false
     }

@@ -11,7 +11,7 @@ returns : tie.Need-returns
 returns c = (sym (ap length (id-low-write _ (omega arith))), omega arith)
 
 returns-2 : tie.Need-returns-2
-returns-2 c = (sym (ap length (id-high-write _ (omega arith))), omega arith)
+returns-2 c = (sym (ap length (id-high-write _ (omega arith) (omega arith))), omega arith)
 
 returns-3 : tie.Need-returns-3
 returns-3 c = (sym (ap length (id-two-write _ (omega arith) (omega arith))), omega arith)

@@ -16,7 +16,7 @@ add-t10 : tie.Need-add-t10
 add-t10 c = omega (arith, c .before .before .tiny .ensures .1 .1 (omega arith) .inside)
 
 returns-2 : tie.Need-returns-2
-returns-2 c = (tiny-negative _ _ _ _ (omega arith) (c .before .before .tiny .ensures .1 .1 (omega arith)) (omega arith), omega arith)
+returns-2 c = (tiny-negative _ _ _ _ (omega arith) (c .before .before .tiny .ensures .1 .1 (omega arith)) (omega arith) (omega arith), omega arith)
 
 returns-3 : tie.Need-returns-3
 returns-3 c = search needs

@@ -16,10 +16,10 @@ returns : tie.Need-returns
 returns c = let a = c .before .before .before .before .before .before .args in wrote-as (sym (id-low (a .tag) (a .id) (omega arith))) (c .before .before .put-one .ensures)
 
 put-one-requires-2 : tie.Need-put-one-requires-2
-put-one-requires-2 c κs = let a = c .before .before .before .before .args in omega (arith, ap length (id-high (a .tag) (a .id) (omega arith)))
+put-one-requires-2 c κs = let a = c .before .before .before .before .args in omega (arith, ap length (id-high (a .tag) (a .id) (omega arith) (omega arith)))
 
 returns-2 : tie.Need-returns-2
-returns-2 c = let a = c .before .before .before .before .before .before .before .args in wrote-as (sym (id-high (a .tag) (a .id) (omega arith))) (c .before .before .put-one2 .ensures)
+returns-2 c = let a = c .before .before .before .before .before .before .before .args in wrote-as (sym (id-high (a .tag) (a .id) (omega arith) (omega arith))) (c .before .before .put-one2 .ensures)
 
 slice-write-buf : tie.Need-slice-write-buf
 slice-write-buf c = let a = c .before .before .before .args in omega (arith, ap length (id-two (a .tag) (a .id) (omega arith) (omega arith)))
