@@ -8,6 +8,9 @@ T <number> <multiplier>  thousandths      <thousandths>
 A <event>;<event>;...    account          outcome,service,phase,rate,running,closing,its service,marks,pending,identifiers;...
 Y <rows> <hex>           why no price     <number> <reason> <event>
 
+D <event>;~<event>;...   the same of a list from which the events with ~ are left out: here the whole list is judged, and the answers
+                         of the events that remain are given; the library is given those events alone
+
 Events: S <id>,<id>,<id> Setup, C Connect, X Clear, L Released, P Suspend, U Resume, M<hex> Component.
 
 A row's six numbers are four hex digits each. Hex is small and without spaces. An empty last field leaves the space before it.
@@ -76,7 +79,9 @@ def bits(services):
 def answer_account(rest):
     account, answers = aoc.Account(), []
     for event in rest.split(";") if rest else ():
-        outcome = do(account, event)
+        outcome = do(account, event.lstrip("~"))
+        if event[0] == "~":
+            continue
         # D is bit 2 and E bit 4 of the services; their conflicts are bits 8 and 16.
         marks = bits(account.unavailable) | bits(account.conflict) << 2
         answers.append(f"{outcome},{account.service},{account.phase},{figure(account.rate)},{figure(account.running)},"
@@ -92,7 +97,7 @@ def answer_why(rest):
 
 
 ANSWERS = {"R": answer_read, "W": answer_write, "E": answer_element, "J": answer_reply,
-           "T": answer_thousandths, "A": answer_account, "Y": answer_why}
+           "T": answer_thousandths, "A": answer_account, "D": answer_account, "Y": answer_why}
 
 
 def answer(line):

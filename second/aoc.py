@@ -880,6 +880,11 @@ def same_currency(a, b):
     return bytes(a.octets[:a.count]).rstrip(b"\x20") == bytes(b.octets[:b.count]).rstrip(b"\x20")
 
 
+def is_noise(outcome):
+    """Refused, or an outcome with no effect: an archive may leave such an event out (02, request 12)."""
+    return 0 < outcome < 20 or outcome in (26, 27, 28, 30, 31, 32) or outcome >= 40
+
+
 def same_final(a, b):
     """Billing and association are not compared."""
     if a.figure.kind != b.figure.kind:

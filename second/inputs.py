@@ -11,6 +11,7 @@ import random
 import sys
 from itertools import count as counting
 
+import answer
 import aoc
 
 # ---------------------------------------------------------------- trees
@@ -1023,6 +1024,16 @@ def why_input(rng, length):
     return "Y " + "".join(f"{n:04x}" for n in rows) + " " + octets.hex()
 
 
+def dropped_input(rng, length):
+    """A list of events from which some of those with no effect are to be left out."""
+    share = rng.choice((0.3, 0.7, 1.0))
+    account, events = aoc.Account(), []
+    for event in account_input(rng, length)[2:].split(";"):
+        outcome = answer.do(account, event)
+        events.append("~" + event if aoc.is_noise(outcome) and rng.random() < share else event)
+    return "D " + ";".join(events)
+
+
 # ---------------------------------------------------------------- the mix
 
 def component_source(rng):
@@ -1039,7 +1050,7 @@ def lines(seed, count):
     records = record_sweep(rng)
     turn = counting()
     for _ in range(count):
-        kind = rng.choices("RWEJTAY", (38, 20, 6, 8, 1, 27, 12))[0]
+        kind = rng.choices("RWEJTADY", (38, 20, 6, 8, 1, 22, 5, 12))[0]
         if kind == "R":
             yield "R " + next(octets).hex()
         elif kind == "W":
@@ -1053,6 +1064,8 @@ def lines(seed, count):
             yield f"T {number(rng)} {rng.choice((0, 1, 2, 3, 4, 5, 6, 6, 7, 8, 255))}"
         elif kind == "Y":
             yield why_input(rng, rng.randint(0, 12))
+        elif kind == "D":
+            yield dropped_input(rng, rng.randint(4, 16))
         else:
             # Every length 0 to 12 in turn, the longer ones twice.
             yield account_input(rng, (0, 1, 2, 3, 4, 5, 6, 7, 8, 9, 10, 11, 12, 9, 10, 11, 12)[next(turn) % 17])

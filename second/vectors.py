@@ -7,6 +7,7 @@ import random
 import re
 import sys
 
+import answer
 import aoc
 import inputs
 import why
@@ -434,6 +435,20 @@ def parked():
             check(f"parked {number}: {what}", getattr(made, what), value)
 
 
+def dropped():
+    """Without noise, whichever of it is left out, the other events have the outcomes they had and the end is the same."""
+    rng = random.Random(12)
+    for _ in range(300):
+        events = inputs.dropped_input(rng, 14)[2:].split(";")
+        whole, part = aoc.Account(), aoc.Account()
+        for event in events:
+            outcome = answer.do(whole, event.lstrip("~"))
+            if event[0] != "~":
+                check("a remaining event", answer.do(part, event), outcome)
+        for what in ("phase", "pending", "pending_identifiers", "unavailable", "conflict", "rate", "running", "closing"):
+            check(f"{what} without noise", getattr(part, what), getattr(whole, what))
+
+
 def line_program():
     given = (C3_LOOSE.hex(" ").upper() + "\nA1 80 02 01 05 02 01 1E 0A 01 01 00 00\n"
              + C7.hex(" ").lower() + "\n")
@@ -485,6 +500,7 @@ def main():
     padded()
     reasons()
     parked()
+    dropped()
     line_program()
     generated(count)
     print(f"{passed} passed, {failed} failed")

@@ -177,7 +177,18 @@ static aoc_outcome do_event(aoc_account *account, const char *text)
 static void answer_account(const char *rest)
 {
     aoc_account account = aoc_fresh();
+    int told = 0;
     while (*rest) {
+        if (*rest == '~') {
+            /* an event that is left out */
+            rest = strchr(rest, ';');
+            if (!rest)
+                return;
+            rest++;
+            continue;
+        }
+        if (told++)
+            putchar(';');
         aoc_outcome outcome = do_event(&account, rest);
         aoc_charge rate = aoc_rate_of(&account), running = aoc_running_of(&account);
         aoc_closing closing = aoc_closing_of(&account);
@@ -192,7 +203,7 @@ static void answer_account(const char *rest)
         rest = strchr(rest, ';');
         if (!rest)
             return;
-        putchar(*rest++);
+        rest++;
     }
 }
 
@@ -232,6 +243,7 @@ int main(void)
             answer_thousandths(line + 2);
             break;
         case 'A':
+        case 'D':
             answer_account(line + 2);
             break;
         case 'Y':
