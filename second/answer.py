@@ -6,10 +6,9 @@ E <hex>                  Facility element <number> <count> <starts, comma separa
 J <room> <hex>           reject in reply  <number> <count> <hex>
 T <number> <multiplier>  thousandths      <thousandths>
 A <event>;<event>;...    account          outcome,service,phase,rate,running,closing,its service,marks,pending,identifiers;...
-Y <rows> <hex>           why no price     <number> <reason> <event>
-
 D <event>;~<event>;...   the same of a list from which the events with ~ are left out: here the whole list is judged, and the answers
                          of the events that remain are given; the library is given those events alone
+Y <rows> <hex>           why no price     <number> <reason> <event>
 
 Events: S <id>,<id>,<id> Setup, C Connect, X Clear, L Released, P Suspend, U Resume, M<hex> Component.
 
