@@ -11,7 +11,7 @@ use borrow.Author.Tests.{lt-leb, eq-eqb}
 use Rattle.coding.specs.declared.Extent.{Extent}
 use Rattle.coding.specs.Reader.{Ans, after, blamed, closed, lengthAt, enteredAny}
 use Rattle.coding.specs.Reader.Ans.{got, halt}
-use Rattle.coding.specs.Reader.Fault.{named}
+use Rattle.coding.specs.Reader.Fault.{unexpected, named}
 use Rattle.coding.specs.Codec.{Element, has, frames}
 use Rattle.coding.proofs.Basic.{picked, unpicked}
 use Rattle.coding.proofs.Header.{element-read, element-range}
@@ -33,11 +33,14 @@ none a b c = (a, b, c)
 -- what was read inside, and then that nothing is left over
 ended : (a e next : ℕ) (r : Ans Record) → Ends Inside a e r → Fine (after r (λ v last. closed v last e next))
 unfolding after closed
-ended a e next (got v n) h = pick Fine (eqb n e) _ _ (λ q. none (λ z. omega (arith, z)) (λ z. omega (arith, z)) (λ z. omega (arith, z))) (λ q. plain-whole _ tt)
+ended a e next (got v n) h = pick Fine (eqb n e) _ _ (λ q. none (λ z. omega (arith, z)) (λ z. omega (arith, z)) (λ z. omega (arith, z))) (λ q. plain-whole unexpected tt)
 ended a e next (halt w p) h = h .0 .1
 
 module _ (s : List ℕ) (c m : ℕ) (o : Element s 0 c m (length s)) where
-  entered : enteredAny tags outside (named 5) s 0 (length s) ≡ cond (has tags (getD s 0 0)) (got (record { start = c; stop = m }) (length s)) (halt (named 4) 0)
+  abbrev found : Bool → Ans Extent
+  found known = cond known (got (record { start = c; stop = m }) (length s)) (halt (named 4) 0)
+
+  entered : enteredAny tags outside (named 5) s 0 (length s) ≡ found (has tags (getD s 0 0))
   unfolding enteredAny after blamed
   entered =
       let g = element-range o in
@@ -46,16 +49,20 @@ module _ (s : List ℕ) (c m : ℕ) (o : Element s 0 c m (length s)) where
       (element-read s 0 c m (length s) (length s) (omega arith) o)
       ∙ ap (λ (r : Ans Extent). cond (has tags (getD s 0 0)) r (halt (named 4) 0)) (picked _ _ (eq-eqb (length s) (length s) refl))
 
+  -- what follows the component's own tag and length octets
+  abbrev inner : Ans Extent → Ans Record
+  inner r = after r (λ (x : Extent) next. after ((frame (getD s 0 0)) .read s (x .start) (x .stop)) (λ v last. closed v last (x .stop) next))
+
+  inner-fine : (known : Bool) → Fine (inner (found known))
+  unfolding after
+  inner-fine true =
+      let g = element-range o in
+      ended c m (length s) ((frame (getD s 0 0)) .read s c m) (frame-placed (getD s 0 0) .ends s c m (omega (arith, g .0)) (g .1))
+  inner-fine false = none (λ z. omega (arith, z)) (λ z. omega (arith, z)) (λ z. omega (arith, z))
+
   read-fine : Fine (component .read s 0 (length s))
-  unfolding component frames after
-  read-fine =
-      subst (λ (r : Ans Extent). Fine (after r (λ x next. after ((frame (getD s 0 0)) .read s (x .start) (x .stop)) (λ v last. closed v last (x .stop) next)))) (sym entered) (go (has tags (getD s 0 0)))
-    where
-      go : (b : Bool) → Fine (after (cond b (got (record { start = c; stop = m }) (length s)) (halt (named 4) 0)) (λ x next. after ((frame (getD s 0 0)) .read s (x .start) (x .stop)) (λ v last. closed v last (x .stop) next)))
-      go true =
-          let g = element-range o in
-          ended c m (length s) ((frame (getD s 0 0)) .read s c m) (frame-placed (getD s 0 0) .ends s c m (omega (arith, g .0)) (g .1))
-      go false = none (λ z. omega (arith, z)) (λ z. omega (arith, z)) (λ z. omega (arith, z))
+  unfolding component frames
+  read-fine = subst (λ (r : Ans Extent). Fine (inner r)) (sym entered) (inner-fine (has tags (getD s 0 0)))
 
   -- A part of a Facility element that is one element, of at most 254 octets, is never refused 1, 3 or 5 as a component.
   pub tile-whole : length s ≤ 254 → Whole (readOf s .number)
