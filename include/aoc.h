@@ -516,19 +516,19 @@ aoc_account aoc_fresh(void);
  * any list of events, the outcome and all that can be read off are what the specification picks out of that list. */
 aoc_outcome aoc_step(aoc_account *account, aoc_event event, const uint8_t *octets, size_t length);
 
-/* Inline, over aoc_step. The events, one function for each. A CONNECT's components are given before aoc_connect, a clearing
- * message's after aoc_clear. A Setup has a request for each service asked for; the identifier of another service is not
- * looked at. */
-static inline aoc_outcome aoc_setup(aoc_account *account, aoc_services asked, aoc_identifiers ids);
-static inline aoc_outcome aoc_connect(aoc_account *account);
-static inline aoc_outcome aoc_clear(aoc_account *account);
-static inline aoc_outcome aoc_released(aoc_account *account);
-static inline aoc_outcome aoc_component(aoc_account *account, const uint8_t *octets, size_t length);
+/* Proved. The events, one function for each, each as aoc_step takes it. A CONNECT's components are given before aoc_connect, a
+ * clearing message's after aoc_clear. A Setup has a request for each service asked for; the identifier of another service is
+ * not looked at. */
+aoc_outcome aoc_setup(aoc_account *account, aoc_services asked, aoc_identifiers ids);
+aoc_outcome aoc_connect(aoc_account *account);
+aoc_outcome aoc_clear(aoc_account *account);
+aoc_outcome aoc_released(aoc_account *account);
+aoc_outcome aoc_component(aoc_account *account, const uint8_t *octets, size_t length);
 
-/* Inline, over aoc_step. A call in AOC_PHASE_ACTIVE is parked and taken up again, as often as wanted. While it is parked every
+/* Proved. A call in AOC_PHASE_ACTIVE is parked and taken up again, as often as wanted. While it is parked every
  * component that can be read has AOC_OUTCOME_OUT_OF_PHASE and changes nothing; aoc_clear works from there too. */
-static inline aoc_outcome aoc_suspend(aoc_account *account);
-static inline aoc_outcome aoc_resume(aoc_account *account);
+aoc_outcome aoc_suspend(aoc_account *account);
+aoc_outcome aoc_resume(aoc_account *account);
 
 /* Inline: they read the account where it stands. The rate of the last AOC_OUTCOME_NEW_RATE or granted S request, the running
  * figure of the last AOC_OUTCOME_NEW_RUNNING: kind AOC_CHARGE_NONE where there is none. */

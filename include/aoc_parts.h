@@ -109,49 +109,6 @@ static inline aoc_rate_entry aoc_rate_at(const aoc_charge *charge, size_t index)
 
 /* ------------------------------------------------------------------ one call's account */
 
-static inline aoc_outcome aoc_phase_event(aoc_account *account, uint8_t kind)
-{
-    aoc_event event = {kind, {0, 0, 0}, 0, 0, 0};
-    return aoc_step(account, event, NULL, 0);
-}
-
-static inline aoc_outcome aoc_setup(aoc_account *account, aoc_services asked, aoc_identifiers ids)
-{
-    aoc_event event = {AOC_EVENT_SETUP, asked, ids.s, ids.d, ids.e};
-    return aoc_step(account, event, NULL, 0);
-}
-
-static inline aoc_outcome aoc_connect(aoc_account *account)
-{
-    return aoc_phase_event(account, AOC_EVENT_CONNECT);
-}
-
-static inline aoc_outcome aoc_clear(aoc_account *account)
-{
-    return aoc_phase_event(account, AOC_EVENT_CLEAR);
-}
-
-static inline aoc_outcome aoc_released(aoc_account *account)
-{
-    return aoc_phase_event(account, AOC_EVENT_RELEASED);
-}
-
-static inline aoc_outcome aoc_suspend(aoc_account *account)
-{
-    return aoc_phase_event(account, AOC_EVENT_SUSPEND);
-}
-
-static inline aoc_outcome aoc_resume(aoc_account *account)
-{
-    return aoc_phase_event(account, AOC_EVENT_RESUME);
-}
-
-static inline aoc_outcome aoc_component(aoc_account *account, const uint8_t *octets, size_t length)
-{
-    aoc_event event = {AOC_EVENT_COMPONENT, {0, 0, 0}, 0, 0, 0};
-    return aoc_step(account, event, octets, length);
-}
-
 static inline aoc_charge aoc_rate_of(const aoc_account *account)
 {
     return account->rate;

@@ -2,7 +2,7 @@
 //
 // Each is thin: it hands on what it is handed, and promises what the function that it calls promises.
 ghost use mathlib.Core.Path.{_≡_};
-ghost use mathlib.Core.List.{List};
+ghost use mathlib.Core.List.{List, []};
 ghost use mathlib.Core.Bool.{false, _&&_, _||_};
 ghost use Prim.Native.Nat.{ℕ, _*_, _≤_};
 ghost use lib.ListN.{getD, length};
@@ -21,6 +21,8 @@ ghost use Rattle.values.specs.Sets.{emptySet, isService, has, with};
 ghost use Rattle.why.specs.Reasons.{whyOf};
 ghost use Rattle.account.specs.History.{Given, event, judged, accountBy, currentRate, running, closing, marks, phase, requests, stepped, steppedBy, fresh, pendingOf};
 ghost use Rattle.account.specs.Step.{requestsOf, steppedOf, closingOf, marksOf};
+ghost use Rattle.account.specs.Outcome.{Connect, Clear, Released, Component, Suspend, Resume};
+ghost use Rattle.aoc.specs.Events.{plainEvent, setupEvent, Took};
 
 // ---- components
 
@@ -138,6 +140,122 @@ pub extern "C" fn aoc_step(
 ) -> account::Outcome
     ensures { λ r. ⌜ (stepped r (now (a .exit)) ≡ steppedOf (now (a .entry)) e (now (octets .entry))) × ((h : List Given) → now (a .entry) ≡ accountBy (judged h) → stepped r (now (a .exit)) ≡ steppedBy (event e (now (octets .entry))) h) ⌝ }
 {
+    account::step_in(a, e, octets)
+}
+
+// The events, one function for each. An event without octets is taken by value, and the account stored behind the reference.
+
+fn after(a: account::Account, e: account::Event) -> account::Stepped
+    ensures { λ r. ⌜ Took a e [] r ⌝ }
+{
+    account::step_whole(a, e, b"")
+}
+
+fn set_up(a: account::Account, asked: values::Services, ids: values::Three) -> account::Stepped
+    ensures { λ r. ⌜ Took a (setupEvent asked ids) [] r ⌝ }
+{
+    after(
+        a,
+        account::Event {
+            kind: 1,
+            asked,
+            s: ids.s,
+            d: ids.d,
+            e: ids.e,
+        },
+    )
+}
+
+fn moved(a: account::Account, kind: u8) -> account::Stepped
+    ensures { λ r. ⌜ Took a (plainEvent kind) [] r ⌝ }
+{
+    after(
+        a,
+        account::Event {
+            kind,
+            asked: values::Services::EMPTY,
+            s: 0,
+            d: 0,
+            e: 0,
+        },
+    )
+}
+
+fn component_event() -> account::Event
+    ensures { λ r. ⌜ r ≡ plainEvent Component ⌝ }
+{
+    account::Event {
+        kind: 5,
+        asked: values::Services::EMPTY,
+        s: 0,
+        d: 0,
+        e: 0,
+    }
+}
+
+#[no_mangle]
+pub extern "C" fn aoc_setup(
+    a: &mut account::Account,
+    asked: values::Services,
+    ids: values::Three,
+) -> account::Outcome
+    ensures { λ r. ⌜ Took (now (a .entry)) (setupEvent asked ids) [] (stepped r (now (a .exit))) ⌝ }
+{
+    let r = set_up(*a, asked, ids);
+    *a = r.account;
+    r.outcome
+}
+
+#[no_mangle]
+pub extern "C" fn aoc_connect(a: &mut account::Account) -> account::Outcome
+    ensures { λ r. ⌜ Took (now (a .entry)) (plainEvent Connect) [] (stepped r (now (a .exit))) ⌝ }
+{
+    let r = moved(*a, 2);
+    *a = r.account;
+    r.outcome
+}
+
+#[no_mangle]
+pub extern "C" fn aoc_clear(a: &mut account::Account) -> account::Outcome
+    ensures { λ r. ⌜ Took (now (a .entry)) (plainEvent Clear) [] (stepped r (now (a .exit))) ⌝ }
+{
+    let r = moved(*a, 3);
+    *a = r.account;
+    r.outcome
+}
+
+#[no_mangle]
+pub extern "C" fn aoc_released(a: &mut account::Account) -> account::Outcome
+    ensures { λ r. ⌜ Took (now (a .entry)) (plainEvent Released) [] (stepped r (now (a .exit))) ⌝ }
+{
+    let r = moved(*a, 4);
+    *a = r.account;
+    r.outcome
+}
+
+#[no_mangle]
+pub extern "C" fn aoc_suspend(a: &mut account::Account) -> account::Outcome
+    ensures { λ r. ⌜ Took (now (a .entry)) (plainEvent Suspend) [] (stepped r (now (a .exit))) ⌝ }
+{
+    let r = moved(*a, 6);
+    *a = r.account;
+    r.outcome
+}
+
+#[no_mangle]
+pub extern "C" fn aoc_resume(a: &mut account::Account) -> account::Outcome
+    ensures { λ r. ⌜ Took (now (a .entry)) (plainEvent Resume) [] (stepped r (now (a .exit))) ⌝ }
+{
+    let r = moved(*a, 7);
+    *a = r.account;
+    r.outcome
+}
+
+#[no_mangle]
+pub extern "C" fn aoc_component(a: &mut account::Account, octets: &[u8]) -> account::Outcome
+    ensures { λ r. ⌜ Took (now (a .entry)) (plainEvent Component) (now (octets .entry)) (stepped r (now (a .exit))) ⌝ }
+{
+    let e = component_event();
     account::step_in(a, e, octets)
 }
 
