@@ -12,7 +12,7 @@ ghost use Prim.Native.Nat.{ℕ};
 ghost use Rattle.types.specs.Arguments.{noCharge};
 ghost use Rattle.types.specs.Frames.{readOf};
 ghost use Rattle.account.specs.Outcome.{serviceOf, clash, asking, clashes, holderOf, judgeFinal, judgeFailure, outcome, noService};
-ghost use Rattle.account.specs.History.{Given, event, judged, accountBy, currentRate, running, closing, marks, phase, requests, fresh, stepped, steppedBy, pendingOf};
+ghost use Rattle.account.specs.History.{Given, event, was, judged, accountBy, currentRate, running, closing, marks, phase, requests, fresh, stepped, steppedBy, pendingOf};
 ghost use Rattle.account.specs.Step.{requestsOf, firstFigure, moved, noted, placeOf, changeOf, changed, steppedOf, closingOf, marksOf};
 ghost use Rattle.account.specs.Parts.{nextPhase, runsBy, closesBy, claimFigure, claimInvoke, fitsBy, claimResult, claimFrame, serviceBy, claimRecord, resolved, taken};
 
@@ -605,6 +605,16 @@ fn plain(number: u8, status: Status) -> Change
     still(outcome, status)
 }
 
+// Whether an outcome keeps no figure, and is no final that is still to be compared.
+fn idles(o: Outcome) -> bool
+    ensures { λ r. ⌜ r ≡ not (was 22 o) && eqb (placeOf o) 0 ⌝ }
+{
+    if o.number == 22 {
+        return false;
+    }
+    place_of(o) == 0
+}
+
 fn taken(a: Account, octets: &[u8]) -> Change
     ensures { λ r. ⌜ r ≡ taken a (readOf (now (octets .entry))) ⌝ }
 {
@@ -625,6 +635,10 @@ fn taken(a: Account, octets: &[u8]) -> Change
         figure.kind,
         figure.total,
     );
+    if idles(claim) {
+        let same = noted(t, claim);
+        return still(claim, same);
+    }
     let charge = Charge {
         figure,
         entries: types::Entries {
@@ -635,15 +649,18 @@ fn taken(a: Account, octets: &[u8]) -> Change
     let outcome = resolved(a, claim, charge);
     let status = noted(t, outcome);
     let place = place_of(outcome);
-    if place == 0 {
-        return still(outcome, status);
-    }
-    Change {
+    let mut w = Change {
         outcome,
         place,
         status,
         charge,
+    };
+    if place != 0 {
+        return w;
     }
+    let none = no_charge();
+    w.charge = none;
+    w
 }
 
 // The step by value: what an event changes.
