@@ -11,7 +11,7 @@ use lib.ListN.{length, take, set, length-append, length-set}
 use lib.Seq.{take-all, take-append-le, take-suc-set}
 use lib.Dec.{leb, ltb, eqb}
 use borrow.Author.Tests.{le-leb, lt-leb, lt-ltb, ltb-true, ltb-false, leb-false, ne-eqb, eq-eqb}
-use Rattle.types.specs.Frames.{readOf}
+use Rattle.types.specs.Frames.{readWhole, readOf}
 use Rattle.lines.specs.declared.input.Line.{Line}
 use Rattle.lines.specs.Text.{refusedText}
 use Rattle.lines.specs.Lines.{digitOf, Meant, led, pairs, lineOf, replyTo, answerTo, before, linesOf, answersTo, outputOf}
@@ -222,7 +222,7 @@ module _ (l : Line) (o : List ℕ) (c : ℕ) where
 -- ---- so its answer is the line's
 
 reply-long : (os : List ℕ) → 254 < length os → replyTo os ≡ refusedText 3
-unfolding replyTo readOf
+unfolding replyTo readOf readWhole
 reply-long os h = rw (lt-ltb 254 (length os) h)
 
 answer-good : (l : Line) (os o : List ℕ) → length o ≡ 254 → Kept os (l .count) o
