@@ -43,7 +43,12 @@ static unsigned rewrite_one(long i)
 static unsigned element_one(long i)
 {
     (void)i;
-    return aoc_element(element, element_length).count;
+    aoc_answer a;
+    unsigned frames = 0;
+    size_t place = AOC_FIRST_PLACE;
+    while (aoc_next(element, element_length, &place, &a))
+        frames += a.record.frame;
+    return frames;
 }
 
 /* A call of nine events: Setup that asks for D, Connect, C1 (ignored), C4 (granted), C1, Clear, C2, C2 again, Released. */

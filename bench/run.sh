@@ -49,7 +49,7 @@ line() { # NAME JOB PEER
 }
 line 'component read' read $libpri
 line 'component read and written' rewrite $libpri
-line 'element of eight components' element no
+line 'element of eight components, gone through' element no
 line 'event of an account' step no
 
 # The line program: the row's components as lines of text.

@@ -132,13 +132,12 @@ static void take_element(struct call *call, const char *time, const char *hex)
         printf("%s  room %s  call %u  not the octets of an element\n", time, call->room, call->number);
         return;
     }
-    aoc_starts found = aoc_element(octets, n);
-    if (aoc_is_refusal(found.refusal))
-        printf("%s  room %s  call %u  %s\n", time, call->room, call->number, aoc_refusal_text(found.refusal));
-    for (unsigned i = 0; i < found.count; i++) {
-        size_t from = found.starts[i], to = i + 1 < found.count ? found.starts[i + 1] : n;
-        take_component(call, time, octets + from, to - from);
-    }
+    size_t place = AOC_FIRST_PLACE, from = place;
+    aoc_answer answer;
+    for (; aoc_next(octets, n, &place, &answer); from = place)
+        take_component(call, time, octets + from, place - from);
+    if (aoc_is_refusal(answer.refusal))
+        printf("%s  room %s  call %u  %s\n", time, call->room, call->number, aoc_refusal_text(answer.refusal));
 }
 
 static void take_line(const char *line)

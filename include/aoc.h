@@ -52,6 +52,7 @@ extern "C" {
     ROW(AOC_REFUSED_BAD_SETUP, 13, "two requests with one identifier")                                 \
     ROW(AOC_REFUSED_WRONG_PHASE, 14, "an event that is not allowed in this phase")                     \
     ROW(AOC_REFUSED_BAD_ELEMENT, 15, "a malformed Facility element")                                   \
+    ROW(AOC_REFUSED_BAD_PLACE, 16, "a place where no component begins")                                \
     ROW(AOC_REFUSED_LENGTHS, 48, "lengths that do not add up")                                         \
     AOC_ARGUMENT_REFUSALS(ROW)
 
@@ -267,6 +268,7 @@ enum {
     AOC_LIMIT_ELEMENT_OCTETS = 257,     /* of a whole Facility element */
     AOC_LIMIT_REPLY_OCTETS = 9,         /* of a reject in reply */
     AOC_LIMIT_COMPONENTS = 127,         /* of a Facility element */
+    AOC_FIRST_PLACE = 3,                /* where the first component of a Facility element begins */
     AOC_LIMIT_UNITS = 32,
     AOC_LIMIT_RATES = 10,
     AOC_LIMIT_CURRENCY_OCTETS = 10,
@@ -373,12 +375,6 @@ typedef struct {
     uint32_t count;             /* of octets written */
 } aoc_written;
 
-typedef struct {
-    uint8_t refusal;            /* AOC_ACCEPTED or AOC_REFUSED_BAD_ELEMENT */
-    uint8_t count;
-    uint8_t starts[AOC_LIMIT_COMPONENTS];
-} aoc_starts;
-
 /* A set of services, a mark for each: 0 is out of the set, any other mark is in it. */
 typedef struct {
     uint8_t s;
@@ -459,9 +455,15 @@ static inline aoc_written aoc_write(const aoc_record *record, uint8_t *buffer, s
  * begin with A4. Otherwise the count is 0: there is nothing to send. Refusal: AOC_REFUSED_NO_ROOM. */
 aoc_written aoc_reply(const uint8_t *octets, size_t length, uint8_t *buffer, size_t room);
 
-/* Proved. Where the components of a whole Facility element begin, counted with its first octet (1C) as 0; each ends where the
- * next one begins, the last at the element's end. They are not judged here: give each to aoc_read, or to an account. */
-aoc_starts aoc_element(const uint8_t *octets, size_t length);
+/* Inline, over a proved function. Goes through a whole Facility element, from its first octet (1C), which is place 0: reads the
+ * component that begins at the place into an answer, as aoc_read does, moves the place to the one after it, and returns true; a
+ * component that is refused does not stop the pass. The first begins at AOC_FIRST_PLACE.
+ * It returns false, with the place as it was and a zero record, at the end (AOC_ACCEPTED), for a malformed element
+ * (AOC_REFUSED_BAD_ELEMENT, whatever the place) and for a place where no component begins (AOC_REFUSED_BAD_PLACE).
+ *
+ *     size_t place = AOC_FIRST_PLACE, from = place;
+ *     for (; aoc_next(element, length, &place, &answer); from = place) { .. element + from, place - from are its octets .. } */
+static inline bool aoc_next(const uint8_t *octets, size_t length, size_t *place, aoc_answer *answer);
 
 /* ------------------------------------------------------------------ values */
 

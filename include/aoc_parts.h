@@ -36,8 +36,15 @@ typedef struct {
     uint8_t currency, multiplier, party, plan, kind, total, billed, billing, arrangement, count;
 } aoc_outline;
 
-/* Proved. What aoc_read and aoc_write say, over the parts. */
+/* What stands at a place of an element: a component's short answer with the place after it, or the end. */
+typedef struct {
+    size_t after, ended;
+    aoc_short_answer answer;
+} aoc_next_answer;
+
+/* Proved. What aoc_read, aoc_next and aoc_write say, over the parts. */
 aoc_short_answer aoc_read_into(const uint8_t *octets, size_t length, uint32_t (*numbers)[32], uint8_t (*rows)[192]);
+aoc_next_answer aoc_next_into(const uint8_t *octets, size_t length, size_t place, uint32_t (*numbers)[32], uint8_t (*rows)[192]);
 aoc_written aoc_write_from(aoc_front front, aoc_outline outline, uint32_t number, const uint8_t (*currency)[10],
                            const uint8_t (*digits)[20], const uint32_t (*numbers)[32], const uint8_t (*rows)[192],
                            uint8_t *buffer, size_t room);
@@ -48,6 +55,17 @@ static inline aoc_refusal aoc_read(const uint8_t *octets, size_t length, aoc_ans
     aoc_short_answer a = aoc_read_into(octets, length, &charge->numbers, &charge->octets);
     memcpy(answer, &a, sizeof a);
     return (aoc_refusal)a.refusal;
+}
+
+static inline bool aoc_next(const uint8_t *octets, size_t length, size_t *place, aoc_answer *answer)
+{
+    aoc_charge *charge = &answer->record.charge;
+    aoc_next_answer next = aoc_next_into(octets, length, *place, &charge->numbers, &charge->octets);
+    memcpy(answer, &next.answer, sizeof next.answer);
+    if (next.after == 0)
+        return false;
+    *place = next.after;
+    return true;
 }
 
 static inline aoc_written aoc_write(const aoc_record *record, uint8_t *buffer, size_t room)
@@ -192,7 +210,7 @@ AOC_LAYOUT(sizeof(aoc_outline) == 14 && offsetof(aoc_outline, count) == 13);
 AOC_LAYOUT(sizeof(aoc_short_answer) == 64 && offsetof(aoc_short_answer, front) == 8);
 AOC_LAYOUT(offsetof(aoc_short_answer, figure) == 16);
 AOC_LAYOUT(sizeof(aoc_written) == 8 && offsetof(aoc_written, count) == 4);
-AOC_LAYOUT(sizeof(aoc_starts) == 129 && offsetof(aoc_starts, starts) == 2);
+AOC_LAYOUT(sizeof(aoc_next_answer) == 16 + 64 && offsetof(aoc_next_answer, answer) == 16);
 AOC_LAYOUT(sizeof(aoc_services) == 3 && sizeof(aoc_identifiers) == 6 && sizeof(aoc_outcome) == 2);
 AOC_LAYOUT(sizeof(aoc_event) == 10 && offsetof(aoc_event, asked) == 1 && offsetof(aoc_event, s) == 4);
 AOC_LAYOUT(sizeof(aoc_account) == 1488 && offsetof(aoc_account, asked) == 1 && offsetof(aoc_account, s) == 4);

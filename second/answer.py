@@ -3,6 +3,7 @@
 R <hex>                  read             <number> <offset> <packed record>
 W <room> <packed record> write            <number> <count> <hex>
 E <hex>                  Facility element <number> <count> <starts, comma separated>
+N <place> <hex>          one of its places <number> <offset> <the place after> <1 at the end> <packed record>
 J <room> <hex>           reject in reply  <number> <count> <hex>
 T <number> <multiplier>  thousandths      <thousandths>
 A <event>;<event>;...    account          outcome,service,phase,rate,running,closing,its service,marks,pending,identifiers;...
@@ -38,6 +39,12 @@ def answer_write(rest):
 def answer_element(rest):
     number, starts = aoc.element(bytes.fromhex(rest))
     return f"{number} {len(starts)} {','.join(map(str, starts))}"
+
+
+def answer_next(rest):
+    place, _, octets = rest.partition(" ")
+    number, offset, record, after, ended = aoc.step_through(bytes.fromhex(octets), int(place))
+    return f"{number} {offset} {after} {int(ended)} {aoc.pack(record).hex() if record else NO_RECORD}"
 
 
 def answer_reply(rest):
@@ -96,7 +103,7 @@ def answer_why(rest):
 
 
 ANSWERS = {"R": answer_read, "W": answer_write, "E": answer_element, "J": answer_reply,
-           "T": answer_thousandths, "A": answer_account, "D": answer_account, "Y": answer_why}
+           "T": answer_thousandths, "N": answer_next, "A": answer_account, "D": answer_account, "Y": answer_why}
 
 
 def answer(line):

@@ -11,7 +11,7 @@ from dataclasses import dataclass, field
 CUT, LENGTH_FORM, TOO_LONG, UNKNOWN_COMPONENT, TRAILING = 1, 2, 3, 4, 5
 BAD_FRAME, UNKNOWN_OPERATION, UNKNOWN_ERROR = 6, 7, 8
 BAD_RECORD, LONG_RECORD, NO_ROOM = 10, 11, 12
-BAD_SETUP, WRONG_PHASE, BAD_ELEMENT = 13, 14, 15
+BAD_SETUP, WRONG_PHASE, BAD_ELEMENT, BAD_PLACE = 13, 14, 15, 16
 # Those of 02's request 8, in place of 01's 9.
 MISSING, UNEXPECTED, LACKING, NOT_SHORTEST, BAD_CONTENTS, PAST_LIMIT = range(40, 46)
 
@@ -815,6 +815,19 @@ def element(octets):
         except Refused:
             return BAD_ELEMENT, []
     return 0, starts
+
+
+def step_through(octets, place):
+    """What stands at a place of an element: (number, offset, record or None, the place after it, whether it is the end)."""
+    number, starts = element(octets)
+    if number:
+        return number, 0, None, 0, False
+    if place == len(octets):
+        return 0, 0, None, 0, True
+    if place not in starts:
+        return BAD_PLACE, 0, None, 0, False
+    after = (starts + [len(octets)])[starts.index(place) + 1]
+    return (*locate(octets[place:after]), after, False)
 
 
 # ---------------------------------------------------------------- reject in reply

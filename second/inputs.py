@@ -1024,6 +1024,14 @@ def why_input(rng, length):
     return "Y " + "".join(f"{n:04x}" for n in rows) + " " + octets.hex()
 
 
+def next_input(rng):
+    """An element, and most often a place of it: a component's start or the end, at times one inside or past it."""
+    octets = facility(rng)
+    places = aoc.element(octets)[1] + [len(octets)]
+    place = rng.choice(places) if rng.random() < 0.7 else rng.choice((rng.randint(0, len(octets) + 2), 3, 65535))
+    return f"N {place} {octets.hex()}"
+
+
 def dropped_input(rng, length):
     """A list of events from which some of those with no effect are to be left out."""
     share = rng.choice((0.3, 0.7, 1.0))
@@ -1050,13 +1058,15 @@ def lines(seed, count):
     records = record_sweep(rng)
     turn = counting()
     for _ in range(count):
-        kind = rng.choices("RWEJTADY", (38, 20, 6, 8, 1, 22, 5, 12))[0]
+        kind = rng.choices("RWENJTADY", (38, 20, 4, 5, 8, 1, 22, 5, 12))[0]
         if kind == "R":
             yield "R " + next(octets).hex()
         elif kind == "W":
             yield writer_input(rng, records)
         elif kind == "E":
             yield "E " + facility(rng).hex()
+        elif kind == "N":
+            yield next_input(rng)
         elif kind == "J":
             room = rng.choice((254, 254, rng.randint(0, 10), rng.randint(6, 9)))
             yield f"J {room} {next(octets).hex()}"

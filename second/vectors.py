@@ -435,6 +435,45 @@ def parked():
             check(f"parked {number}: {what}", getattr(made, what), value)
 
 
+# One pass over an element (document 02, request 7): an element, a place, and what stands there.
+PASSED_WHOLE = "1C 26 91 A1 80 02 01 05 02 01 1E 0A 01 01 00 00 A1 08 02 01 03 02 01 23 81 00 A4 00 A1 0A 02 01 04 02 01 23 30 02 81 00"
+PASSED_BROKEN = PASSED_WHOLE[:-2] + "7F"
+PASSED_UNTILED = PASSED_WHOLE.replace("A1 0A 02 01 04", "A1 0B 02 01 04")
+PASSED = (
+    (PASSED_WHOLE, 3, "A1 09 02 01 05 02 01 1E 0A 01 01", 16), (PASSED_WHOLE, 16, "41@8", 26), (PASSED_WHOLE, 26, "6", 28),
+    (PASSED_WHOLE, 28, "A1 0A 02 01 04 02 01 23 30 02 81 00", 40), (PASSED_WHOLE, 40, "end", 0), (PASSED_WHOLE, 0, "16", 0),
+    (PASSED_WHOLE, 2, "16", 0), (PASSED_WHOLE, 5, "16", 0), (PASSED_WHOLE, 14, "16", 0), (PASSED_WHOLE, 41, "16", 0),
+    (PASSED_WHOLE, 65535, "16", 0), (PASSED_BROKEN, 28, "42@10", 40), (PASSED_BROKEN, 3, "A1 09 02 01 05 02 01 1E 0A 01 01", 16),
+    (PASSED_UNTILED, 3, "15", 0), (PASSED_UNTILED, 41, "15", 0), ("1C 01 91", 3, "15", 0), ("", 0, "15", 0),
+)
+
+
+def passes():
+    for number, (given, place, wanted, after) in enumerate(PASSED, 1):
+        got = aoc.step_through(octets(given), place)
+        if wanted == "end":
+            check(f"pass {number}", got, (0, 0, None, 0, True))
+        elif " " in wanted:
+            check(f"pass {number}", (got[0], aoc.write(got[2], 254)[1], got[3:]), (0, octets(wanted), (after, False)))
+        else:
+            check(f"pass {number}", got, (*refusal(wanted), after, False))
+    # Going through an element gives what its starts give, one by one, and then the end.
+    rng = random.Random(7)
+    for _ in range(300):
+        given = inputs.facility(rng)
+        number, starts = aoc.element(given)
+        place, seen = 3, []
+        while True:
+            got = aoc.step_through(given, place)
+            if not got[3]:
+                break
+            seen.append((place, got[:3]))
+            place = got[3]
+        parts = zip(starts, starts[1:] + [len(given)])
+        check("going through", seen, [(a, aoc.locate(given[a:b])) for a, b in parts])
+        check("its end", got[0] if number else got, number or (0, 0, None, 0, True))
+
+
 def dropped():
     """Without noise, whichever of it is left out, the other events have the outcomes they had and the end is the same."""
     rng = random.Random(12)
@@ -501,6 +540,7 @@ def main():
     reasons()
     parked()
     dropped()
+    passes()
     line_program()
     generated(count)
     print(f"{passed} passed, {failed} failed")

@@ -71,6 +71,23 @@ static inline int holds(const uint8_t *buffer, size_t room, const uint8_t *octet
            all(buffer + count, room - count, MARK);
 }
 
+/* An element gone through: where its components begin, and why the pass ended. */
+struct walked {
+    uint32_t refusal;
+    size_t count, starts[AOC_LIMIT_COMPONENTS + 1];
+};
+
+static inline struct walked walk(const uint8_t *octets, size_t n)
+{
+    struct walked w = {0, 0, {0}};
+    size_t place = AOC_FIRST_PLACE, from = place;
+    aoc_answer a;
+    for (; aoc_next(octets, n, &place, &a) && w.count <= AOC_LIMIT_COMPONENTS; from = place)
+        w.starts[w.count++] = from;
+    w.refusal = a.refusal;
+    return w;
+}
+
 /* What is read into memory that held anything, with nothing beside it touched. */
 static inline aoc_answer read_octets(const uint8_t *octets, size_t n)
 {

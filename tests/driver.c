@@ -92,12 +92,29 @@ static void answer_reply(const char *rest)
 
 static void answer_element(const char *rest)
 {
-    aoc_starts s = aoc_element(octets, unhex(rest, octets));
-    printf("%u %u ", s.refusal, s.count);
-    for (int i = 0; i < s.count && i < AOC_LIMIT_COMPONENTS; i++)
-        printf(i ? ",%u" : "%u", s.starts[i]);
-    if (s.count > AOC_LIMIT_COMPONENTS || !all(s.starts + s.count, AOC_LIMIT_COMPONENTS - s.count, 0))
-        fputs(" not zero", stdout);
+    size_t n = unhex(rest, octets), place = AOC_FIRST_PLACE, starts[AOC_LIMIT_COMPONENTS + 1] = {AOC_FIRST_PLACE};
+    unsigned count = 0;
+    aoc_answer a;
+    while (count < AOC_LIMIT_COMPONENTS && aoc_next(octets, n, &place, &a))
+        starts[++count] = place;
+    if (count == AOC_LIMIT_COMPONENTS && aoc_next(octets, n, &place, &a))
+        fputs("too many ", stdout);
+    printf("%u %u ", (unsigned)a.refusal, count);
+    for (unsigned i = 0; i < count; i++)
+        printf(i ? ",%u" : "%u", (unsigned)starts[i]);
+}
+
+static void answer_next(const char *rest)
+{
+    char *next;
+    size_t from = strtoul(rest, &next, 10), place = from, n = unhex(next + 1, octets);
+    aoc_answer a;
+    memset(&a, MARK, sizeof a);
+    bool found = aoc_next(octets, n, &place, &a);
+    printf("%u %u %u %d ", (unsigned)a.refusal, (unsigned)a.offset, found ? (unsigned)place : 0, !found && a.refusal == AOC_ACCEPTED);
+    put_hex(&a.record, sizeof a.record);
+    if (!found && place != from)
+        fputs(" moved", stdout);
 }
 
 static void answer_thousandths(const char *rest)
@@ -235,6 +252,9 @@ int main(void)
             break;
         case 'E':
             answer_element(line + 2);
+            break;
+        case 'N':
+            answer_next(line + 2);
             break;
         case 'J':
             answer_reply(line + 2);

@@ -562,16 +562,16 @@ static void test_reply(void)
 
 /* ------------------------------------------------------------------ the Facility element */
 
-static int bad_element(aoc_starts s)
+static int bad_element(struct walked s)
 {
-    return s.refusal == AOC_REFUSED_BAD_ELEMENT && s.count == 0 && all(s.starts, sizeof s.starts, 0);
+    return s.refusal == AOC_REFUSED_BAD_ELEMENT && s.count == 0;
 }
 
-static aoc_starts element_hex(const char *hex)
+static struct walked element_hex(const char *hex)
 {
     uint8_t octets[600];
     size_t n = unhex(hex, octets);
-    return aoc_element(lend(octets, n), n);
+    return walk(lend(octets, n), n);
 }
 
 static void test_element(void)
@@ -584,20 +584,20 @@ static void test_element(void)
         octets[1] = (uint8_t)(n - 2);
         octets[n - 2] = (uint8_t)(count + 0x7F);
         octets[n - 1] = 0;
-        aoc_starts s = aoc_element(lend(octets, n), n);
+        struct walked s = walk(lend(octets, n), n);
         int right = s.refusal == AOC_ACCEPTED && s.count == count;
-        for (size_t i = 0; i < AOC_LIMIT_COMPONENTS; i++)
-            right = right && s.starts[i] == (i < count ? 3 + 2 * i : 0);
+        for (size_t i = 0; i < count; i++)
+            right = right && s.starts[i] == 3 + 2 * i;
         CHECK(right, "components of two octets");
-        CHECK(bad_element(aoc_element(lend(octets, n + 1), n + 1)), "one octet over");
+        CHECK(bad_element(walk(lend(octets, n + 1), n + 1)), "one octet over");
     }
     for (size_t n = 0; n < 257; n++)
-        CHECK(bad_element(aoc_element(lend(octets, n), n)), "a cut element");
-    CHECK(aoc_element(lend(octets, 257), 257).count == 127, "the longest element");
-    CHECK(bad_element(aoc_element(lend(octets, 258), 258)), "one octet over the longest");
-    CHECK(bad_element(aoc_element(NULL, 0)), "null");
+        CHECK(bad_element(walk(lend(octets, n), n)), "a cut element");
+    CHECK(walk(lend(octets, 257), 257).count == 127, "the longest element");
+    CHECK(bad_element(walk(lend(octets, 258), 258)), "one octet over the longest");
+    CHECK(bad_element(walk(NULL, 0)), "null");
 
-    aoc_starts s = element_hex("1C 0F 91 A1 81 03 00 00 00 A2 82 00 02 00 00 05 00");
+    struct walked s = element_hex("1C 0F 91 A1 81 03 00 00 00 A2 82 00 02 00 00 05 00");
     CHECK(s.refusal == AOC_ACCEPTED && s.count == 3, "three forms of a length");
     CHECK(s.starts[0] == 3 && s.starts[1] == 9 && s.starts[2] == 15, "three forms of a length");
     s = element_hex("1C 14 91 A1 80 02 01 05 02 01 1E 0A 01 01 00 00 A1 04 02 01 07 06");
@@ -614,6 +614,48 @@ static void test_element(void)
     };
     for (size_t i = 0; i < sizeof bad / sizeof *bad; i++)
         CHECK(bad_element(element_hex(bad[i])), bad[i]);
+}
+
+/* Every place of an element, and some past it. */
+static void test_places(void)
+{
+    static const char *const whole = "1C 26 91 A1 80 02 01 05 02 01 1E 0A 01 01 00 00 A1 08 02 01 03 02 01 23 81 00 A4 00 "
+                                     "A1 0A 02 01 04 02 01 23 30 02 81 00";
+    static const struct {
+        size_t place, after;
+        uint32_t refusal, offset;
+    } components[] = {{3, 16, 0, 0}, {16, 26, 41, 8}, {26, 28, 6, 0}, {28, 40, 0, 0}};
+    uint8_t octets[600];
+    size_t n = unhex(whole, octets), at = 0;
+    for (size_t place = 0; place <= 70000; place++) {
+        struct {
+            uint8_t before[GUARD];
+            aoc_answer answer;
+            uint8_t after[GUARD];
+        } a;
+        memset(&a, MARK, sizeof a);
+        size_t moved = place;
+        bool found = aoc_next(lend(octets, n), n, &moved, &a.answer);
+        CHECK(all(a.before, GUARD, MARK) && all(a.after, GUARD, MARK), "a place");
+        if (at < 4 && place == components[at].place) {
+            aoc_answer alone = read_octets(lend(octets + place, components[at].after - place), components[at].after - place);
+            CHECK(found && moved == components[at].after && !memcmp(&alone, &a.answer, sizeof alone), "a component's place");
+            CHECK(a.answer.refusal == components[at].refusal && a.answer.offset == components[at].offset, "a component's place");
+            at++;
+        } else {
+            CHECK(!found && moved == place && a.answer.offset == 0 && all(&a.answer.record, sizeof a.answer.record, 0), "another place");
+            CHECK(a.answer.refusal == (place == n ? (uint32_t)AOC_ACCEPTED : (uint32_t)AOC_REFUSED_BAD_PLACE), "another place");
+        }
+    }
+    CHECK(at == 4, "all components");
+
+    /* a malformed element is refused at every place, the end too */
+    octets[29] = 0x0B;
+    for (size_t place = 0; place <= 60; place++) {
+        aoc_answer a;
+        size_t moved = place;
+        CHECK(!aoc_next(lend(octets, n), n, &moved, &a) && a.refusal == AOC_REFUSED_BAD_ELEMENT && moved == place, "malformed");
+    }
 }
 
 /* ------------------------------------------------------------------ values */
@@ -677,7 +719,7 @@ static void test_noise(void)
         CHECK(reply.refusal == AOC_ACCEPTED && holds(buffer, AOC_LIMIT_REPLY_OCTETS, buffer, reply.count), "any octets");
         CHECK((reply.count == 0) == (a.refusal == 0 || (n && octets[0] == 0xA4)), "any octets");
         CHECK(!reply.count || read_octets(buffer, reply.count).refusal == AOC_ACCEPTED, "a reply is a component");
-        aoc_starts s = aoc_element(lent, n);
+        struct walked s = walk(lent, n);
         CHECK(s.refusal ? bad_element(s) : s.count > 0, "any octets");
         if (a.refusal == 0) {
             aoc_written w = aoc_write(&a.record, form, sizeof form);
@@ -701,6 +743,7 @@ int main(void)
     test_changed_octets();
     test_reply();
     test_element();
+    test_places();
     test_values();
     test_noise();
     return report("host");

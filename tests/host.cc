@@ -54,8 +54,10 @@ static void test_components()
     CHECK(aoc_read(running, 5, &answer) == AOC_REFUSED_CUT);
     aoc_written reply = aoc_reply(running, 5, buffer, sizeof buffer);
     CHECK(reply.count == 7 && aoc_reply(running, 5, buffer, 6).refusal == AOC_REFUSED_NO_ROOM);
-    aoc_starts starts = aoc_element(element, sizeof element);
-    CHECK(starts.refusal == AOC_ACCEPTED && starts.count == 2 && starts.starts[0] == 3 && starts.starts[1] == 5);
+    size_t place = AOC_FIRST_PLACE;
+    CHECK(aoc_next(element, sizeof element, &place, &answer) && place == 5);
+    CHECK(aoc_next(element, sizeof element, &place, &answer) && place == sizeof element);
+    CHECK(!aoc_next(element, sizeof element, &place, &answer) && answer.refusal == AOC_ACCEPTED);
 }
 
 static void test_call()

@@ -37,13 +37,13 @@ static void check_tiles(const uint8_t *octets, size_t n, const char *name)
 {
     uint8_t element[300] = {0x1C, (uint8_t)(n + 1), 0x91};
     memcpy(element + 3, octets, n);
-    aoc_starts s = aoc_element(lend(element, n + 3), n + 3);
+    struct walked s = walk(lend(element, n + 3), n + 3);
     CHECK(s.count == 1 && s.starts[0] == 3, name);
     element[1] = (uint8_t)n;
-    CHECK(aoc_element(lend(element, n + 2), n + 2).count == 0, name);
+    CHECK(walk(lend(element, n + 2), n + 2).count == 0, name);
     if (n <= 252) {
         element[1] = (uint8_t)(n + 3);
-        s = aoc_element(lend(element, n + 5), n + 5);
+        s = walk(lend(element, n + 5), n + 5);
         CHECK(s.count == 2 && s.starts[0] == 3 && s.starts[1] == n + 3, name);
     }
 }

@@ -14,7 +14,7 @@ ghost use Rattle.component.specs.Whole.{wholeAnswer};
 ghost use Rattle.writer.specs.Handed.{handed};
 ghost use Rattle.writer.specs.Outcome.{writeOf, leftOf};
 ghost use Rattle.reply.specs.Reply.{replyOf, replyLeft};
-ghost use Rattle.facility.specs.Element.{elementOf};
+ghost use Rattle.pass.specs.Pass.{passOf, wholeNext};
 ghost use Rattle.values.specs.Amounts.{powers};
 ghost use Rattle.values.specs.Identifiers.{nextOf, oneUp};
 ghost use Rattle.values.specs.Sets.{emptySet, isService, has, with};
@@ -67,11 +67,15 @@ pub extern "C" fn aoc_reply(octets: &[u8], buf: &mut [u8]) -> writer::Written
 // ---- the Facility element
 
 #[no_mangle]
-pub extern "C" fn aoc_element(octets: &[u8]) -> facility::Starts
-    ensures { λ r. ⌜ r ≡ elementOf (now (octets .entry)) ⌝ }
-    ensures few { λ r. ⌜ r .count ≤ 127 ⌝ }
+pub extern "C" fn aoc_next_into(
+    octets: &[u8],
+    place: usize,
+    numbers: &mut [u32; 32],
+    rows: &mut [u8; 192],
+) -> pass::Next
+    ensures { λ r. ⌜ wholeNext r (now (numbers .exit)) (now (rows .exit)) ≡ passOf (now (octets .entry)) place ⌝ }
 {
-    facility::element(octets)
+    pass::next_into(octets, place, numbers, rows)
 }
 
 // ---- values
