@@ -13,7 +13,7 @@ use lib.Seq.{drop-cons}
 use lib.Dec.{eqb}
 use borrow.Author.Tests.{eqb-true}
 use Rattle.coding.specs.Reader.{Ans, Fault, got, halt, after}
-use Rattle.coding.specs.Codec.{Holds, has, apart}
+use Rattle.coding.specs.Codec.{Holds, oneOf, apart}
 use Rattle.coding.proofs.Laws.{Octets}
 
 -- ---- answers
@@ -106,32 +106,32 @@ or-false false z = z
 
 -- ---- tags
 
-pub has-left : (xs ys : List ℕ) (o : ℕ) → has xs o ≡ true → has (xs ++ ys) o ≡ true
-unfolding has
+pub has-left : (xs ys : List ℕ) (o : ℕ) → oneOf xs o ≡ true → oneOf (xs ++ ys) o ≡ true
+unfolding oneOf
 has-left [] ys o e = absurd (true≢false (sym e))
-has-left (x ∷ xs) ys o e = go (eqb o x) (has xs o) (has (xs ++ ys) o) e (has-left xs ys o)
+has-left (x ∷ xs) ys o e = go (eqb o x) (oneOf xs o) (oneOf (xs ++ ys) o) e (has-left xs ys o)
   where
     go : (a b c : Bool) → a || b ≡ true → (b ≡ true → c ≡ true) → a || c ≡ true
     go true b c p f = refl
     go false b c p f = f p
 
-pub has-right : (xs ys : List ℕ) (o : ℕ) → has ys o ≡ true → has (xs ++ ys) o ≡ true
-unfolding has
+pub has-right : (xs ys : List ℕ) (o : ℕ) → oneOf ys o ≡ true → oneOf (xs ++ ys) o ≡ true
+unfolding oneOf
 has-right [] ys o e = e
-has-right (x ∷ xs) ys o e = go (eqb o x) (has (xs ++ ys) o) (has-right xs ys o e)
+has-right (x ∷ xs) ys o e = go (eqb o x) (oneOf (xs ++ ys) o) (has-right xs ys o e)
   where
     go : (a c : Bool) → c ≡ true → a || c ≡ true
     go true c p = refl
     go false c p = p
 
 -- an octet that is one of the tags is not in a set that they are apart from
-pub apart-has : (ts : List ℕ) (p : ℕ → Bool) (o : ℕ) → apart ts p ≡ true → has ts o ≡ true → p o ≡ false
-unfolding has apart
+pub apart-has : (ts : List ℕ) (p : ℕ → Bool) (o : ℕ) → apart ts p ≡ true → oneOf ts o ≡ true → p o ≡ false
+unfolding oneOf apart
 apart-has [] p o h e = absurd (true≢false (sym e))
 apart-has (t ∷ ts) p o h e =
     go (eqb o t) refl e (apart-has ts p o (and-right (not (p t)) (apart ts p) h))
   where
-    go : (b : Bool) → eqb o t ≡ b → b || has ts o ≡ true → (has ts o ≡ true → p o ≡ false) → p o ≡ false
+    go : (b : Bool) → eqb o t ≡ b → b || oneOf ts o ≡ true → (oneOf ts o ≡ true → p o ≡ false) → p o ≡ false
     go true q r f = ap p (eqb-true o t q) ∙ not-yes (p t) (and-left (not (p t)) (apart ts p) h)
     go false q r f = f r
 

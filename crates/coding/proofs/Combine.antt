@@ -11,8 +11,8 @@ use lib.ListN.{length, getD, take, drop, length-append, length-take, length-drop
 use lib.Seq.{getD-take, getD-drop, length-take-le}
 use lib.Dec.{ltb, leb, eqb}
 use borrow.Author.Tests.{ltb-true, ltb-false, leb-true, leb-false, eqb-true, lt-ltb, le-leb, lt-leb, eq-eqb}
-use Rattle.coding.specs.Reader.{got, tagged, choice, opened, closed, constructed, Judged, judged, part, primitive, optional, entries, listOf, composite}
-use Rattle.coding.specs.Codec.{lengthOctets, Opens, Spans, definite, Walk, here, Holds, isTag, simple, has, apart, Leaf, Run, prim, cons, nothing, pair, eitherMeans, alt, over, writeAll, all, MeansAll, some·more, maybe, MeansMaybe}
+use Rattle.coding.specs.Reader.{got, tagged, choice, opened, closed, constructed, Ruling, ruled, part, primitive, optional, entries, listOf, composite}
+use Rattle.coding.specs.Codec.{lengthOctets, Opens, Spans, definite, Walk, here, Holds, isTag, simple, oneOf, apart, Leaf, Run, prim, cons, nothing, pair, eitherMeans, alt, over, writeAll, all, MeansAll, some·more, maybe, MeansMaybe}
 use Rattle.coding.proofs.Basic.{never, passing, failing, either-way, chain, same-got, picked, unpicked, followed, and-left, and-right, and-both, or-left, or-right, or-no, or-false, not-yes, has-left, has-right, apart-has, holds-left, holds-right, holds-both, holds-part, part-holds, octets-none, octets-both}
 use Rattle.coding.specs.declared.Extent.{Extent}
 use Rattle.coding.proofs.Header.{tagged-yes, tagged-is, opened-sound, opened-complete, opened-forward, opened-written, opened-shortest, opened-only, spans-only, element-octets, spans-simple, spans-complete, spans-tag, spans-range, spans-forward, spans-shortest, opened-walk, spans-walk}
@@ -61,7 +61,7 @@ module _ {A B : Type 0} (f : Run A) (g : Run B) (F : RunLaws f) (G : RunLaws g) 
       → clear (λ o. g .avoid o || g .empty && f .avoid o) s n e ≡ true → g .Means y s m n → clear (f .avoid) s m e ≡ true
   pair-clear ok s m n e y cl v = elim (G .heads s m n y v) [ inl h ↦ some h | inr h ↦ none h ]
     where
-      some : (m < n) × (has (g .first) (getD s m 0) ≡ true) → clear (f .avoid) s m e ≡ true
+      some : (m < n) × (oneOf (g .first) (getD s m 0) ≡ true) → clear (f .avoid) s m e ≡ true
       some h = or-no (leb e m) (f .avoid (getD s m 0)) (apart-has (g .first) (f .avoid) (getD s m 0) ok (h .1))
 
       none : (m ≡ n) × (g .empty ≡ true) → clear (f .avoid) s m e ≡ true
@@ -71,24 +71,24 @@ module _ {A B : Type 0} (f : Run A) (g : Run B) (F : RunLaws f) (G : RunLaws g) 
           (or-right (leb e n) (g .avoid (getD s n 0)) (g .empty && f .avoid (getD s n 0)) cl))
 
   pair-heads : (s : List ℕ) (a n : ℕ) (x : A × B) → (pair f g) .Means x s a n
-      → ((a < n) × (has ((pair f g) .first) (getD s a 0) ≡ true)) ⊎ ((a ≡ n) × ((pair f g) .empty ≡ true))
+      → ((a < n) × (oneOf ((pair f g) .first) (getD s a 0) ≡ true)) ⊎ ((a ≡ n) × ((pair f g) .empty ≡ true))
   unfolding pair
   pair-heads s a n x (m, u, v) = elim (F .heads s a m (x .0) u) [ inl h ↦ inl (some h) | inr h ↦ none h (G .heads s m n (x .1) v) ]
     where
       mn : m ≤ n
       mn = forward G s m n (x .1) v
 
-      some : (a < m) × (has (f .first) (getD s a 0) ≡ true) → (a < n) × (has (f .first ++ cond (f .empty) (g .first) []) (getD s a 0) ≡ true)
+      some : (a < m) × (oneOf (f .first) (getD s a 0) ≡ true) → (a < n) × (oneOf (f .first ++ cond (f .empty) (g .first) []) (getD s a 0) ≡ true)
       some h = (omega (arith, h .0, mn), has-left (f .first) (cond (f .empty) (g .first) []) (getD s a 0) (h .1))
 
-      none : (a ≡ m) × (f .empty ≡ true) → ((m < n) × (has (g .first) (getD s m 0) ≡ true)) ⊎ ((m ≡ n) × (g .empty ≡ true))
-          → ((a < n) × (has (f .first ++ cond (f .empty) (g .first) []) (getD s a 0) ≡ true)) ⊎ ((a ≡ n) × (f .empty && g .empty ≡ true))
+      none : (a ≡ m) × (f .empty ≡ true) → ((m < n) × (oneOf (g .first) (getD s m 0) ≡ true)) ⊎ ((m ≡ n) × (g .empty ≡ true))
+          → ((a < n) × (oneOf (f .first ++ cond (f .empty) (g .first) []) (getD s a 0) ≡ true)) ⊎ ((a ≡ n) × (f .empty && g .empty ≡ true))
       none h (inl k) =
           inl (
             omega (arith, h .0, k .0),
             has-right (f .first) (cond (f .empty) (g .first) []) (getD s a 0)
-                (subst (λ (b : Bool). has (cond b (g .first) []) (getD s a 0) ≡ true) (sym (h .1))
-                (subst (λ (j : ℕ). has (g .first) (getD s j 0) ≡ true) (sym (h .0)) (k .1))),
+                (subst (λ (b : Bool). oneOf (cond b (g .first) []) (getD s a 0) ≡ true) (sym (h .1))
+                (subst (λ (j : ℕ). oneOf (g .first) (getD s j 0) ≡ true) (sym (h .0)) (k .1))),
           )
       none h (inr k) = inr (h .0 ∙ k .0, and-both (f .empty) (g .empty) (h .1) (k .1))
 
@@ -144,21 +144,21 @@ octets-part s k c os i = go (ltb i k) refl
 tag-octet : (tag : ℕ) → isTag tag ≡ true → tag < 256
 tag-octet tag real = ltb-true tag 256 (and-right (ltb 0 tag) (ltb tag 256) real)
 
-judged-is : {A : Type 0} (j : Judged A) (tag next : ℕ) {x : A} {n : ℕ} → judged j tag next ≡ got x n → (j ≡ Judged.good x) × (next ≡ n)
-unfolding judged
-judged-is (Judged.good v) tag next e = same-got (λ y k. (Judged.good v ≡ Judged.good y) × (next ≡ k)) e (refl, refl)
-judged-is (Judged.bad w) tag next e = absurd (never e)
+judged-is : {A : Type 0} (j : Ruling A) (tag next : ℕ) {x : A} {n : ℕ} → ruled j tag next ≡ got x n → (j ≡ Ruling.good x) × (next ≡ n)
+unfolding ruled
+judged-is (Ruling.good v) tag next e = same-got (λ y k. (Ruling.good v ≡ Ruling.good y) × (next ≡ k)) e (refl, refl)
+judged-is (Ruling.bad w) tag next e = absurd (never e)
 
-pub first-is : (tag o : ℕ) → has (tag ∷ []) o ≡ true → o ≡ tag
-unfolding has
+pub first-is : (tag o : ℕ) → oneOf (tag ∷ []) o ≡ true → o ≡ tag
+unfolding oneOf
 first-is tag o q = eqb-true o tag (or-false (eqb o tag) q)
 
-pub has-one : (tag o : ℕ) → o ≡ tag → has (tag ∷ []) o ≡ true
-unfolding has
+pub has-one : (tag o : ℕ) → o ≡ tag → oneOf (tag ∷ []) o ≡ true
+unfolding oneOf
 has-one tag o q = ap (λ b. b || false) (eq-eqb o tag q)
 
 pub primLaws : {A : Type 0} (tag : ℕ) (l : Leaf A) → LeafLaws l → simple tag ≡ true → RunLaws (prim tag l)
-unfolding prim primitive judged part
+unfolding prim primitive ruled part
 primLaws tag l L plain = record {
   sound = λ s a e n x os ae es r.
       let c = chain (opened tag s a e) _ r in
@@ -178,8 +178,8 @@ primLaws tag l L plain = record {
       );
   complete = λ s a n e x ne es cl (c, op, w, v).
       followed _ (opened-complete tag s a c n e ne op)
-      ∙ ap (λ (xs : List ℕ). judged (l .judge xs) a n) w
-      ∙ ap (λ (j : Judged _). judged j a n) (L .complete x v);
+      ∙ ap (λ (xs : List ℕ). ruled (l .judge xs) a n) w
+      ∙ ap (λ (j : Ruling _). ruled j a n) (L .complete x v);
   written = λ s a x v b h.
       let w : List ℕ = l .write x in
       let o = opened-written tag s a w (omega (arith, length-append (lengthOctets (length w)) w)) h in
@@ -321,7 +321,7 @@ module _ {A B : Type 0} (tag : ℕ) (f : Run A) (g : Run B) (F : RunLaws f) (G :
       let o : ℕ = getD s n 0 in
       elim (F .heads s a n x m) [
         | inl h ↦
-            picked _ _ (tagged-yes s a e tag (omega (arith, h .0)) (first-is tag (getD s a 0) (subst (λ (ts : List ℕ). has ts (getD s a 0) ≡ true) one-tag (h .1))))
+            picked _ _ (tagged-yes s a e tag (omega (arith, h .0)) (first-is tag (getD s a 0) (subst (λ (ts : List ℕ). oneOf ts (getD s a 0) ≡ true) one-tag (h .1))))
             ∙ followed _ (F .complete s a n e x ne es (or-left (leb e n) (f .avoid o) (g .avoid o || g .empty && eqb o tag) cl) m)
         | inr h ↦ absurd (true≢false (sym (h .1) ∙ full))
       ]
@@ -332,10 +332,10 @@ module _ {A B : Type 0} (tag : ℕ) (f : Run A) (g : Run B) (F : RunLaws f) (G :
       ∙ followed _ (G .complete s a n e y ne es (or-left (leb e n) (g .avoid o) (g .empty && eqb o tag) cr) m)
 
   alt-heads : f .first ≡ tag ∷ [] → f .empty ≡ false → (s : List ℕ) (a n : ℕ) (x : A ⊎ B) → Alt x s a n
-      → ((a < n) × (has (tag ∷ g .first) (getD s a 0) ≡ true)) ⊎ ((a ≡ n) × (g .empty ≡ true))
+      → ((a < n) × (oneOf (tag ∷ g .first) (getD s a 0) ≡ true)) ⊎ ((a ≡ n) × (g .empty ≡ true))
   alt-heads one-tag full s a n (inl x) m =
       elim (F .heads s a n x m) [
-        | inl h ↦ inl (h .0, has-left (tag ∷ []) (g .first) (getD s a 0) (subst (λ (ts : List ℕ). has ts (getD s a 0) ≡ true) one-tag (h .1)))
+        | inl h ↦ inl (h .0, has-left (tag ∷ []) (g .first) (getD s a 0) (subst (λ (ts : List ℕ). oneOf ts (getD s a 0) ≡ true) one-tag (h .1)))
         | inr h ↦ absurd (true≢false (sym (h .1) ∙ full))
       ]
   alt-heads one-tag full s a n (inr y) m =
@@ -364,7 +364,7 @@ module _ {A : Type 0} (tag : ℕ) (f : Run A) (F : RunLaws f) (full : f .empty �
   abbrev Rows : List A → List ℕ → ℕ → ℕ → Type 0
   Rows = MeansAll (f .Means)
 
-  entry-heads : (s : List ℕ) (a n : ℕ) (x : A) → f .Means x s a n → (a < n) × (has (f .first) (getD s a 0) ≡ true)
+  entry-heads : (s : List ℕ) (a n : ℕ) (x : A) → f .Means x s a n → (a < n) × (oneOf (f .first) (getD s a 0) ≡ true)
   entry-heads s a n x m = elim (F .heads s a n x m) [ inl h ↦ h | inr h ↦ absurd (true≢false (sym (h .1) ∙ full)) ]
 
   rows-forward : (s : List ℕ) (a n : ℕ) (xs : List A) → Rows xs s a n → a ≤ n
@@ -480,7 +480,7 @@ module _ {A : Type 0} (tag : ℕ) (f : Run A) (F : RunLaws f) (full : f .empty �
   nonempty s a n [] h m = absurd (omega (arith, m))
   nonempty s a n (x ∷ xs) h m = omega arith
 
-  grows : (s : List ℕ) (a n : ℕ) (xs : List A) → 0 < length xs → Rows xs s a n → (a < n) × (has (f .first) (getD s a 0) ≡ true)
+  grows : (s : List ℕ) (a n : ℕ) (xs : List A) → 0 < length xs → Rows xs s a n → (a < n) × (oneOf (f .first) (getD s a 0) ≡ true)
   grows s a n [] h m = absurd (omega (arith, h))
   grows s a n (x ∷ xs) h (k, u, v) = let q = entry-heads s a k x u in (omega (arith, q .0, rows-forward s k n xs v), q .1)
 
@@ -533,7 +533,7 @@ module _ {A : Type 0} (tag : ℕ) (f : Run A) (F : RunLaws f) where
   maybe-complete one-tag full s a n e (some x) ne es cl m =
       elim (F .heads s a n x m) [
         | inl h ↦
-            picked _ _ (tagged-yes s a e tag (omega (arith, h .0)) (first-is tag (getD s a 0) (subst (λ (ts : List ℕ). has ts (getD s a 0) ≡ true) one-tag (h .1))))
+            picked _ _ (tagged-yes s a e tag (omega (arith, h .0)) (first-is tag (getD s a 0) (subst (λ (ts : List ℕ). oneOf ts (getD s a 0) ≡ true) one-tag (h .1))))
             ∙ followed _ (F .complete s a n e x ne es (or-left (leb e n) (f .avoid (getD s n 0)) (eqb (getD s n 0) tag) cl) m)
         | inr h ↦ absurd (true≢false (sym (h .1) ∙ full))
       ]
@@ -555,7 +555,7 @@ module _ {A : Type 0} (tag : ℕ) (f : Run A) (F : RunLaws f) where
     heads = λ s a n. elim [
       | none ↦ λ m. inr (m, refl)
       | some x ↦ λ m. elim (F .heads s a n x m) [
-        | inl h ↦ inl (h .0, subst (λ (ts : List ℕ). has ts (getD s a 0) ≡ true) one-tag (h .1))
+        | inl h ↦ inl (h .0, subst (λ (ts : List ℕ). oneOf ts (getD s a 0) ≡ true) one-tag (h .1))
         | inr h ↦ absurd (true≢false (sym (h .1) ∙ full))
       ]
     ];

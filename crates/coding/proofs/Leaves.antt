@@ -7,7 +7,7 @@ use mathlib.Core.Bool.{Bool, true, false, _&&_, true≢false, cond}
 use lib.ListN.{length}
 use lib.Dec.{ltb, leb}
 use borrow.Author.Tests.{ltb-false, leb-true, le-ltb, le-leb}
-use Rattle.coding.specs.Reader.{Judged}
+use Rattle.coding.specs.Reader.{Ruling}
 use Rattle.coding.specs.Contents.{every, text, null}
 use Rattle.coding.specs.Leaves.{string, nullLeaf}
 use Rattle.coding.proofs.Basic.{picked, unpicked, and-left, and-right, and-both, octets-none, octets-cons}
@@ -49,7 +49,7 @@ stringLaws low high ok small = record {
 pub nullLaws : LeafLaws nullLeaf
 unfolding nullLeaf null
 nullLaws = record {
-  sound = λ xs x os. elim xs as (λ ys. null ys ≡ Judged.good x → (ys ≡ []) × (true ≡ true)) [ [] ↦ λ r. (refl, refl) | y ∷ ys ↦ λ r. absurd (unfit r) ];
+  sound = λ xs x os. elim xs as (λ ys. null ys ≡ Ruling.good x → (ys ≡ []) × (true ≡ true)) [ [] ↦ λ r. (refl, refl) | y ∷ ys ↦ λ r. absurd (unfit r) ];
   complete = λ x v. refl;
   octets = λ x v. octets-none;
 }

@@ -11,9 +11,9 @@ use native.Mathlib.Omega.{arith}
 use lib.ListN.{length, getD, length-append}
 use lib.Dec.{ltb, leb, eqb}
 use borrow.Author.Tests.{ltb-true, leb-true, le-leb, le-ltb, eqb-true}
-use Rattle.coding.specs.Reader.{Ans, Fault, got, halt, tagged, choice, blamed, Judged, mapped}
+use Rattle.coding.specs.Reader.{Ans, Fault, got, halt, tagged, choice, blamed, Ruling, mapped}
 use Rattle.coding.specs.Contents.{natural, shortest, negative, numberFrom}
-use Rattle.coding.specs.Codec.{Leaf, Run, Holds, simple, has, apart, all, prim, leafOver, marked, sort, leads}
+use Rattle.coding.specs.Codec.{Leaf, Run, Holds, simple, oneOf, apart, all, prim, leafOver, marked, sort, leads}
 use Rattle.coding.specs.Leaves.{digits, width, number, listing, listed, isSome, or0, given}
 use Rattle.coding.specs.declared.Chosen.{Chosen}
 use Rattle.coding.proofs.Basic.{never, either-way, chain, picked, unpicked, followed, and-left, and-right, and-both, or-left, or-right, or-no, or-false, has-left, has-right, holds-left, holds-right, holds-both, octets-both}
@@ -25,10 +25,10 @@ use Rattle.coding.proofs.Number.{unfit, judged-pass, judged-fail, numbe
 
 -- ---- contents for another type
 
-mapped-is : {A B : Type 0} (to : A → B) (j : Judged A) {y : B} → mapped to j ≡ Judged.good y → (x : A) × (j ≡ Judged.good x) × (to x ≡ y)
+mapped-is : {A B : Type 0} (to : A → B) (j : Ruling A) {y : B} → mapped to j ≡ Ruling.good y → (x : A) × (j ≡ Ruling.good x) × (to x ≡ y)
 unfolding mapped
-mapped-is to (Judged.good v) e = (v, refl, cc)
-mapped-is to (Judged.bad w) e = absurd (unfit e)
+mapped-is to (Ruling.good v) e = (v, refl, cc)
+mapped-is to (Ruling.bad w) e = absurd (unfit e)
 
 pub leafOverLaws : {A B : Type 0} (to : A → B) (from : B → A) (fine : B → Bool) (l : Leaf A)
     → ((x : A) → l .valid x ≡ true → (fine (to x) ≡ true) × (from (to x) ≡ x))
@@ -46,7 +46,7 @@ leafOverLaws to from fine l back forth L = record {
       );
   complete = λ y v.
       let w = and-right (fine y) (l .valid (from y)) v in
-      ap (mapped to) (L .complete (from y) w) ∙ ap Judged.good (forth y (and-left (fine y) (l .valid (from y)) v) w);
+      ap (mapped to) (L .complete (from y) w) ∙ ap Ruling.good (forth y (and-left (fine y) (l .valid (from y)) v) w);
   octets = λ y v. L .octets (from y) (and-right (fine y) (l .valid (from y)) v);
 }
 
@@ -109,7 +109,7 @@ module _ {A : Type 0} (tag : ℕ) (test : A → Bool) (f g : Run A) (F : RunLaws
           | inl k ↦
               elim (F .heads s a n x (k .1)) [
                 | inl h ↦
-                    picked _ _ (tagged-yes s a e tag (omega (arith, h .0)) (first-is tag (getD s a 0) (subst (λ (ts : List ℕ). has ts (getD s a 0) ≡ true) one-tag (h .1))))
+                    picked _ _ (tagged-yes s a e tag (omega (arith, h .0)) (first-is tag (getD s a 0) (subst (λ (ts : List ℕ). oneOf ts (getD s a 0) ≡ true) one-tag (h .1))))
                     ∙ F .complete s a n e x ne es (or-left (leb e n) (f .avoid o) (g .avoid o || g .empty && eqb o tag) cl) (k .1)
                 | inr h ↦ absurd (true≢false (sym (h .1) ∙ full))
               ]
@@ -128,7 +128,7 @@ module _ {A : Type 0} (tag : ℕ) (test : A → Bool) (f g : Run A) (F : RunLaws
         elim m [
           | inl k ↦
               elim (F .heads s a n x (k .1)) [
-                | inl h ↦ inl (h .0, has-left (tag ∷ []) (g .first) (getD s a 0) (subst (λ (ts : List ℕ). has ts (getD s a 0) ≡ true) one-tag (h .1)))
+                | inl h ↦ inl (h .0, has-left (tag ∷ []) (g .first) (getD s a 0) (subst (λ (ts : List ℕ). oneOf ts (getD s a 0) ≡ true) one-tag (h .1)))
                 | inr h ↦ absurd (true≢false (sym (h .1) ∙ full))
               ]
           | inr k ↦
@@ -201,12 +201,12 @@ module _ {A B : Type 0} (f : Run A) (head : B → A) (g : A → Run B) (F : RunL
 
 -- ---- numbers of a list
 
-known-small : (known : List ℕ) (n : ℕ) → all (λ k. ltb k 0x80000000) known ≡ true → has known n ≡ true → n ≤ 0x7fffffff
-unfolding has
+known-small : (known : List ℕ) (n : ℕ) → all (λ k. ltb k 0x80000000) known ≡ true → oneOf known n ≡ true → n ≤ 0x7fffffff
+unfolding oneOf
 known-small [] n h e = absurd (true≢false (sym e))
 known-small (k ∷ ks) n h e = go (eqb n k) refl e (known-small ks n (and-right (ltb k 0x80000000) _ h))
   where
-    go : (b : Bool) → eqb n k ≡ b → b || has ks n ≡ true → (has ks n ≡ true → n ≤ 0x7fffffff) → n ≤ 0x7fffffff
+    go : (b : Bool) → eqb n k ≡ b → b || oneOf ks n ≡ true → (oneOf ks n ≡ true → n ≤ 0x7fffffff) → n ≤ 0x7fffffff
     go true q r f = omega (arith, eqb-true n k q, ltb-true k 0x80000000 (and-left (ltb k 0x80000000) _ h))
     go false q r f = f r
 
@@ -227,13 +227,13 @@ listedLaws unknown known small = record {
       let p₁ = judged-pass (shortest xs) _ _ r in
       let p₂ = judged-fail (ltb 4 (length xs)) _ _ (p₁ .1) in
       let p₃ = judged-fail (negative xs) _ _ (p₂ .1) in
-      let p₄ = judged-pass (has known (numberFrom 0 xs)) _ _ (p₃ .1) in
+      let p₄ = judged-pass (oneOf known (numberFrom 0 xs)) _ _ (p₃ .1) in
       let e : numberFrom 0 xs ≡ n = cc (p₄ .1) in
       let le = known-small known (numberFrom 0 xs) small (p₄ .0) in
-      let r' : natural 0 0x7fffffff xs ≡ Judged.good n =
+      let r' : natural 0 0x7fffffff xs ≡ Ruling.good n =
       picked _ _ (p₁ .0) ∙ unpicked _ _ (p₃ .0) ∙ picked _ _ (le-leb 0 (numberFrom 0 xs) (omega arith))
-      ∙ picked _ _ (le-leb (numberFrom 0 xs) 0x7fffffff le) ∙ ap Judged.good e in
-      (numberLaws 0 0x7fffffff (omega arith) .sound xs n os r' .0, ap (has known) (sym e) ∙ p₄ .0);
+      ∙ picked _ _ (le-leb (numberFrom 0 xs) 0x7fffffff le) ∙ ap Ruling.good e in
+      (numberLaws 0 0x7fffffff (omega arith) .sound xs n os r' .0, ap (oneOf known) (sym e) ∙ p₄ .0);
   complete = λ n v.
       let xs : List ℕ = digits (width n) n in
       let le = known-small known n small v in
@@ -244,14 +244,14 @@ listedLaws unknown known small = record {
       let p₄ = judged-pass (leb (numberFrom 0 xs) 0x7fffffff) _ _ (p₃ .1) in
       let e : numberFrom 0 xs ≡ n = cc (p₄ .1) in
       let short : length xs ≤ 4 = omega (arith, length-digits (width n) n, width-most n) in
-      picked _ _ (p₁ .0) ∙ unpicked _ _ (le-ltb 4 (length xs) short) ∙ unpicked _ _ (p₂ .0) ∙ picked _ _ (ap (has known) e ∙ v) ∙ ap Judged.good e;
+      picked _ _ (p₁ .0) ∙ unpicked _ _ (le-ltb 4 (length xs) short) ∙ unpicked _ _ (p₂ .0) ∙ picked _ _ (ap (oneOf known) e ∙ v) ∙ ap Ruling.good e;
   octets = λ n v. octets-digits (width n) n;
 }
 
 -- ---- a number that may be absent
 
 pub givenLaws : (tag low high : ℕ) → high < 0x80000000 → simple tag ≡ true → RunLaws (given tag low high)
-unfolding given prim apart has
+unfolding given prim apart oneOf
 givenLaws tag low high h plain =
     overLaws _ _ (λ c. c .given || eqb (c .value) 0) _
     (λ o v. (fine o, back o)) (λ c o v. forth (c .given) (c .value) o)

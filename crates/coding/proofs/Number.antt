@@ -10,7 +10,7 @@ use lib.Arith.{digits-div, digits-lt, mod-mul}
 use lib.ListN.{length}
 use lib.Dec.{ltb, leb, eqb}
 use borrow.Author.Tests.{ltb-true, ltb-false, leb-true, leb-false, eqb-true, eqb-false, lt-ltb, le-ltb, le-leb, lt-leb, ne-eqb}
-use Rattle.coding.specs.Reader.{Fault, Judged}
+use Rattle.coding.specs.Reader.{Fault, Ruling}
 use Rattle.coding.specs.Contents.{numberFrom, negative, shortest, natural}
 use Rattle.coding.specs.Leaves.{digits, width, number}
 use Rattle.coding.proofs.Basic.{picked, unpicked, and-left, and-right, and-both}
@@ -206,19 +206,19 @@ fits (x ∷ y ∷ xs) os h e =
 
 -- ---- the leaf
 
-abbrev isGood : {A : Type 0} → Judged A → Type 0
-isGood (Judged.good x) = Unit {0}
-isGood (Judged.bad w) = ⊥
+abbrev isGood : {A : Type 0} → Ruling A → Type 0
+isGood (Ruling.good x) = Unit {0}
+isGood (Ruling.bad w) = ⊥
 
 module _ {A : Type 0} where
-  pub unfit : {w : Fault} {x : A} → Judged.bad w ≡ Judged.good x → ⊥
+  pub unfit : {w : Fault} {x : A} → Ruling.bad w ≡ Ruling.good x → ⊥
   unfit e = subst isGood (sym e) tt
 
-  pub judged-pass : (t : Bool) (j : Judged A) (w : Fault) {x : A} → cond t j (Judged.bad w) ≡ Judged.good x → (t ≡ true) × (j ≡ Judged.good x)
+  pub judged-pass : (t : Bool) (j : Ruling A) (w : Fault) {x : A} → cond t j (Ruling.bad w) ≡ Ruling.good x → (t ≡ true) × (j ≡ Ruling.good x)
   judged-pass true j w e = (refl, e)
   judged-pass false j w e = absurd (unfit e)
 
-  pub judged-fail : (t : Bool) (w : Fault) (j : Judged A) {x : A} → cond t (Judged.bad w) j ≡ Judged.good x → (t ≡ false) × (j ≡ Judged.good x)
+  pub judged-fail : (t : Bool) (w : Fault) (j : Ruling A) {x : A} → cond t (Ruling.bad w) j ≡ Ruling.good x → (t ≡ false) × (j ≡ Ruling.good x)
   judged-fail true w j e = absurd (unfit e)
   judged-fail false w j e = (refl, e)
 
@@ -243,7 +243,7 @@ numberLaws low high hh = record {
       let e : numberFrom 0 xs ≡ n = number-digits (width n) n ∙ mod-eq-of-lt (small n lt) in
       let f = fits xs (octets-digits (width n) n) (subst (λ (m : ℕ). m < 0x80000000) (sym e) lt) (length-digits (width n) n ∙ ap width (sym e)) in
       picked _ _ (f .0) ∙ unpicked _ _ (f .1)
-      ∙ ap (λ (m : ℕ). cond (leb low m) (cond (leb m high) (Judged.good m) (Judged.bad Fault.contents)) (Judged.bad Fault.contents)) e
+      ∙ ap (λ (m : ℕ). cond (leb low m) (cond (leb m high) (Ruling.good m) (Ruling.bad Fault.contents)) (Ruling.bad Fault.contents)) e
       ∙ picked _ _ l ∙ picked _ _ h;
   octets = λ n v. octets-digits (width n) n;
 }

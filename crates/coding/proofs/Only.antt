@@ -2,20 +2,20 @@
 -- Assumes nothing.
 use mathlib.Core.Path.{_≡_, sym, ap, _∙_}
 use mathlib.Core.Bool.{Bool, true}
-use Rattle.coding.specs.Reader.{Judged, narrowed}
+use Rattle.coding.specs.Reader.{Ruling, narrowed}
 use Rattle.coding.specs.Codec.{Leaf}
 use Rattle.coding.specs.Leaves.{only}
 use Rattle.coding.proofs.Basic.{picked, and-left, and-right, and-both}
 use Rattle.coding.proofs.Laws.{LeafLaws}
 use Rattle.coding.proofs.Number.{unfit, judged-pass}
 
-narrowed-is : {A : Type 0} (ok : A → Bool) (j : Judged A) {x : A} → narrowed ok j ≡ Judged.good x → (j ≡ Judged.good x) × (ok x ≡ true)
+narrowed-is : {A : Type 0} (ok : A → Bool) (j : Ruling A) {x : A} → narrowed ok j ≡ Ruling.good x → (j ≡ Ruling.good x) × (ok x ≡ true)
 unfolding narrowed
-narrowed-is ok (Judged.good v) {x} e =
+narrowed-is ok (Ruling.good v) {x} e =
     let p = judged-pass (ok v) _ _ e in
     let q : v ≡ x = cc (p .1) in
     (p .1, ap ok (sym q) ∙ p .0)
-narrowed-is ok (Judged.bad w) e = absurd (unfit e)
+narrowed-is ok (Ruling.bad w) e = absurd (unfit e)
 
 pub onlyLaws : {A : Type 0} (ok : A → Bool) (l : Leaf A) → LeafLaws l → LeafLaws (only ok l)
 unfolding only narrowed

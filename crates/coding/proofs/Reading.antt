@@ -7,10 +7,10 @@ use mathlib.Core.Bool.{Bool, true, false, cond}
 use mathlib.Core.List.{List}
 use Prim.Native.Nat.{_<_, _≤_}
 use borrow.Author.Tests.{le-ltb, lt-ltb, eq-eqb, ne-eqb}
-use Rattle.coding.specs.Reader.{Ans, Reader, Fault, code, after, judged, Judged, closed, choice, neither, tagged}
+use Rattle.coding.specs.Reader.{Ans, Reader, Fault, code, after, ruled, Ruling, closed, choice, neither, tagged}
 use Rattle.coding.specs.Reader.Ans.{got, halt}
 use Rattle.coding.specs.Reader.Fault.{missing, unexpected, cut, form, shortest, contents, limit, named}
-use Rattle.coding.specs.Reader.Judged.{good, bad}
+use Rattle.coding.specs.Reader.Ruling.{good, bad}
 use Rattle.coding.specs.Shown.{shown, verdict}
 
 -- no fault has the number 0
@@ -90,15 +90,15 @@ unfolding shown
 halts z w p = refl
 
 -- contents that are good give the value, and others a fault at the tag
-pub passes : {A : Type 0} (z : A) (j : Judged A) (at next : ℕ) {k : ℕ} {v : A} →
-    (k, v) ≡ verdict z j → k ≡ 0 → (0, 0, v, next) ≡ shown z (judged j at next)
-unfolding shown judged verdict
+pub passes : {A : Type 0} (z : A) (j : Ruling A) (at next : ℕ) {k : ℕ} {v : A} →
+    (k, v) ≡ verdict z j → k ≡ 0 → (0, 0, v, next) ≡ shown z (ruled j at next)
+unfolding shown ruled verdict
 passes z (good v') at next e k0 = ap (λ q. (0, 0, q .1, next)) e
 passes z (bad w) at next e k0 = absurd (some-code w (sym (ap (λ q. q .0) e) ∙ k0))
 
-pub fails : {A : Type 0} (z : A) (j : Judged A) (at next : ℕ) {k : ℕ} {v : A} →
-    (k, v) ≡ verdict z j → (k ≡ 0 → ⊥) → (k, at, z, 0) ≡ shown z (judged j at next)
-unfolding shown judged verdict
+pub fails : {A : Type 0} (z : A) (j : Ruling A) (at next : ℕ) {k : ℕ} {v : A} →
+    (k, v) ≡ verdict z j → (k ≡ 0 → ⊥) → (k, at, z, 0) ≡ shown z (ruled j at next)
+unfolding shown ruled verdict
 fails z (good v') at next e k0 = absurd (k0 (ap (λ q. q .0) e))
 fails z (bad w) at next e k0 = ap (λ q. (q .0, at, z, 0)) e
 

@@ -9,7 +9,7 @@ use lib.ListN.{length, getD}
 use lib.Dec.{ltb, leb, eqb}
 use borrow.Author.Tests.{eqb-true, lt-ltb, le-ltb, le-leb, lt-leb, eq-eqb, ne-eqb}
 use Rattle.coding.specs.declared.Extent.{Extent}
-use Rattle.coding.specs.Reader.{got, opened, part, judged, Judged, primitive}
+use Rattle.coding.specs.Reader.{got, opened, part, ruled, Ruling, primitive}
 use Rattle.coding.specs.Contents.{natural, shortest, negative, numberFrom, null}
 use Rattle.coding.specs.Codec.{short, Leaf, prim}
 use Rattle.coding.specs.Leaves.{number, nullLeaf, identifier}
@@ -119,15 +119,15 @@ module _ (s : List ℕ) (at end tag : ℕ) where
   short-shown z t = sym (ap (shown z) (short-opens t))
 
   -- a primitive element of no octets and of one
-  pub bare-read : {A : Type 0} (l : Leaf A) → Short s at end tag 0 → (prim tag l) .read s at end ≡ judged (l .judge []) at (at + 2)
+  pub bare-read : {A : Type 0} (l : Leaf A) → Short s at end tag 0 → (prim tag l) .read s at end ≡ ruled (l .judge []) at (at + 2)
   unfolding prim primitive
   bare-read l t =
       let e : at + 2 + 0 ≡ at + 2 = omega arith in
       followed _ (short-opens t)
-      ∙ ap (λ (p : ℕ). judged (l .judge (part s (at + 2) p)) at p) e
-      ∙ ap (λ (xs : List ℕ). judged (l .judge xs) at (at + 2)) (part-none s (at + 2) (at + 2) (omega arith))
+      ∙ ap (λ (p : ℕ). ruled (l .judge (part s (at + 2) p)) at p) e
+      ∙ ap (λ (xs : List ℕ). ruled (l .judge xs) at (at + 2)) (part-none s (at + 2) (at + 2) (omega arith))
 
-  pub tiny-read : {A : Type 0} {x : ℕ} (l : Leaf A) → end ≤ length s → Tiny s at end tag x → (prim tag l) .read s at end ≡ judged (l .judge (x ∷ [])) at (at + 3)
+  pub tiny-read : {A : Type 0} {x : ℕ} (l : Leaf A) → end ≤ length s → Tiny s at end tag x → (prim tag l) .read s at end ≡ ruled (l .judge (x ∷ [])) at (at + 3)
   unfolding prim primitive
   tiny-read {x = x} l es t =
       let sh : Short s at end tag 1 = record { inside = omega (arith, t .inside); named = t .named; small = omega arith; octet = t .single } in
@@ -137,14 +137,14 @@ module _ (s : List ℕ) (at end tag : ℕ) where
       ∙ ap (λ (xs : List ℕ). getD s (at + 2) 0 ∷ xs) (part-none s (at + 2 + 1) (at + 3) (omega arith))
       ∙ ap (λ (o : ℕ). o ∷ []) (t .octet) in
       followed _ (short-opens sh)
-      ∙ ap (λ (q : ℕ). judged (l .judge (part s (at + 2) q)) at q) e
-      ∙ ap (λ (xs : List ℕ). judged (l .judge xs) at (at + 3)) p
+      ∙ ap (λ (q : ℕ). ruled (l .judge (part s (at + 2) q)) at q) e
+      ∙ ap (λ (xs : List ℕ). ruled (l .judge xs) at (at + 3)) p
 
   -- a primitive element whose one octet is good contents
-  pub tiny-shown : {A : Type 0} {x : ℕ} {v : A} (z : A) (l : Leaf A) → end ≤ length s → Tiny s at end tag x → l .judge (x ∷ []) ≡ Judged.good v
+  pub tiny-shown : {A : Type 0} {x : ℕ} {v : A} (z : A) (l : Leaf A) → end ≤ length s → Tiny s at end tag x → l .judge (x ∷ []) ≡ Ruling.good v
       → (0, 0, v, at + 3) ≡ shown z ((prim tag l) .read s at end)
-  unfolding shown judged
-  tiny-shown z l es t g = sym (ap (shown z) (tiny-read l es t ∙ ap (λ j. judged j at (at + 3)) g))
+  unfolding shown ruled
+  tiny-shown z l es t g = sym (ap (shown z) (tiny-read l es t ∙ ap (λ j. ruled j at (at + 3)) g))
 
   pub tiny-natural : (low high : ℕ) {x : ℕ} → end ≤ length s → Tiny s at end tag x → x < 128 → low ≤ x → x ≤ high
       → (0, 0, x, at + 3) ≡ shown 0 ((prim tag (number low high)) .read s at end)
@@ -162,5 +162,5 @@ module _ (s : List ℕ) (at end tag : ℕ) where
   tiny-negative {x} es t h l = tiny-shown 0 identifier es t (one-high x h l)
 
   pub bare-null : Short s at end tag 0 → (0, 0, tt {0}, at + 2) ≡ shown (tt {0}) ((prim tag nullLeaf) .read s at end)
-  unfolding shown judged nullLeaf null
+  unfolding shown ruled nullLeaf null
   bare-null t = sym (ap (shown (tt {0})) (bare-read nullLeaf t))

@@ -13,7 +13,7 @@ use lib.IntN.{ℤ, pos, negsuc}
 use mir.Syntax.{w16}
 use mir.Val.{toZ, sel}
 use borrow.Author.Tests.{ltb-true, ltb-false, leb-true, leb-false, eqb-true, eqb-false, lt-ltb, le-ltb, le-leb, lt-leb, eq-eqb}
-use Rattle.coding.specs.Reader.{Fault, Judged}
+use Rattle.coding.specs.Reader.{Fault, Ruling}
 use Rattle.coding.specs.Contents.{numberFrom, negative, valueOf, shortest}
 use Rattle.coding.specs.Leaves.{digits, inOctets, patternOf, integer, shorten, signed, identifier}
 use Rattle.coding.proofs.Basic.{picked, unpicked, octets-none, octets-cons}
@@ -243,8 +243,8 @@ signedLaws k = record {
   complete = λ p v.
       let ds : List ℕ = digits (suc k) p in
       picked _ _ (shorten-shortest _ (digits k p))
-      ∙ ap (λ (z : ℤ). cond (inOctets (suc k) z) (Judged.good (patternOf (suc k) z)) (Judged.bad Fault.contents)) (shorten-value ds (octets-digits (suc k) p))
-      ∙ picked _ _ (digits-in k p) ∙ ap Judged.good (digits-pattern (suc k) p (ltb-true p _ v));
+      ∙ ap (λ (z : ℤ). cond (inOctets (suc k) z) (Ruling.good (patternOf (suc k) z)) (Ruling.bad Fault.contents)) (shorten-value ds (octets-digits (suc k) p))
+      ∙ picked _ _ (digits-in k p) ∙ ap Ruling.good (digits-pattern (suc k) p (ltb-true p _ v));
   octets = λ p v. shorten-octets (digits (suc k) p) (octets-digits (suc k) p);
 }
 
@@ -254,28 +254,28 @@ identifierLaws = signedLaws 1
 
 -- ---- contents of 16 bits by how many octets they are
 
-judged-at : (k : ℕ) (xs : List ℕ) (z : ℤ) → shortest xs ≡ true → valueOf xs ≡ z → inOctets k z ≡ true → integer k xs ≡ Judged.good (patternOf k z)
+judged-at : (k : ℕ) (xs : List ℕ) (z : ℤ) → shortest xs ≡ true → valueOf xs ≡ z → inOctets k z ≡ true → integer k xs ≡ Ruling.good (patternOf k z)
 unfolding integer
-judged-at k xs z s e h = picked _ _ s ∙ ap (λ (y : ℤ). cond (inOctets k y) (Judged.good (patternOf k y)) (Judged.bad Fault.contents)) e ∙ picked _ _ h
+judged-at k xs z s e h = picked _ _ s ∙ ap (λ (y : ℤ). cond (inOctets k y) (Ruling.good (patternOf k y)) (Ruling.bad Fault.contents)) e ∙ picked _ _ h
 
 module _ (x : ℕ) where
-  pub one-low : x < 128 → integer 2 (x ∷ []) ≡ Judged.good x
+  pub one-low : x < 128 → integer 2 (x ∷ []) ≡ Ruling.good x
   unfolding shortest numberFrom
   one-low h = judged-at 2 (x ∷ []) (pos x) refl (value-low x [] h ∙ ap pos (omega arith)) (lt-ltb x 32768 (omega arith))
 
-  pub one-high : 128 ≤ x → x < 256 → integer 2 (x ∷ []) ≡ Judged.good (0xff00 + x)
+  pub one-high : 128 ≤ x → x < 256 → integer 2 (x ∷ []) ≡ Ruling.good (0xff00 + x)
   unfolding shortest numberFrom
   one-high l h =
       judged-at 2 (x ∷ []) (negsuc (255 - x)) refl (value-high x [] (octets-cons x [] h octets-none) l ∙ ap negsuc (omega arith)) (lt-ltb (255 - x) 32768 (omega arith))
-      ∙ ap Judged.good (omega arith)
+      ∙ ap Ruling.good (omega arith)
 
-  pub both-octets : (y : ℕ) → x < 256 → y < 256 → shortest (x ∷ y ∷ []) ≡ true → integer 2 (x ∷ y ∷ []) ≡ Judged.good (x * 256 + y)
+  pub both-octets : (y : ℕ) → x < 256 → y < 256 → shortest (x ∷ y ∷ []) ≡ true → integer 2 (x ∷ y ∷ []) ≡ Ruling.good (x * 256 + y)
   unfolding numberFrom
   both-octets y h k s =
       let os = octets-cons x (y ∷ []) h (octets-cons y [] k octets-none) in
-      judged-at 2 (x ∷ y ∷ []) _ s refl (value-in x (y ∷ []) os) ∙ ap Judged.good (pattern-value (x ∷ y ∷ []) os ∙ omega arith)
+      judged-at 2 (x ∷ y ∷ []) _ s refl (value-in x (y ∷ []) os) ∙ ap Ruling.good (pattern-value (x ∷ y ∷ []) os ∙ omega arith)
 
-pub too-many : (xs : List ℕ) → Octets xs → shortest xs ≡ true → 2 < length xs → integer 2 xs ≡ Judged.bad Fault.contents
+pub too-many : (xs : List ℕ) → Octets xs → shortest xs ≡ true → 2 < length xs → integer 2 xs ≡ Ruling.bad Fault.contents
 unfolding integer
 too-many xs os s l = picked _ _ s ∙ unpicked _ _ (go (inOctets 2 (valueOf xs)) refl)
   where
@@ -293,7 +293,7 @@ number-pattern (negsuc n) h =
     let back : 65536 - suc p ≡ n = omega arith in
     ap (λ t. sel t (pos p) (negsuc (65536 - suc p))) (le-ltb p 32768 (omega arith)) ∙ ap negsuc back
 
-pub read-number : (xs : List ℕ) (p : ℕ) → identifier .judge xs ≡ Judged.good p → toZ w16 p ≡ valueOf xs
+pub read-number : (xs : List ℕ) (p : ℕ) → identifier .judge xs ≡ Ruling.good p → toZ w16 p ≡ valueOf xs
 unfolding identifier integer
 read-number xs p r =
     let a = judged-pass (shortest xs) _ _ r in

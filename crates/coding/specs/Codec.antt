@@ -9,8 +9,8 @@ use mathlib.Core.Logic.{_⊎_, inl, inr}
 use mathlib.Core.Option.{Option, none, some}
 use lib.ListN.{length, getD, take, drop, replicate}
 use lib.Dec.{ltb, leb, eqb}
-use Rattle.coding.specs.Reader.{Reader, Fault, composite, got, halt, after, choice, pure, primitive, constructed, Judged, mapped, blamed, enteredAny, closed, optional, listOf}
-unfoldable pub use Rattle.coding.specs.Reader.{has}
+use Rattle.coding.specs.Reader.{Reader, Fault, composite, got, halt, after, choice, pure, primitive, constructed, Ruling, mapped, blamed, enteredAny, closed, optional, listOf}
+unfoldable pub use Rattle.coding.specs.Reader.{oneOf}
 
 -- ---- lengths
 
@@ -69,7 +69,7 @@ apart (t ∷ ts) p = not (p t) && apart ts p
 
 -- a primitive element's contents
 pub record Leaf (A : Type 0) : Type 0 where
-  pub judge : List ℕ → Judged A
+  pub judge : List ℕ → Ruling A
   pub write : A → List ℕ
   pub valid : A → Bool
 
@@ -281,8 +281,8 @@ module _ {A : Type 0} where
         after (enteredAny tags m w s a e) (λ x next.
         after ((f (getD s a 0)) .read s (x .start) (x .stop)) (λ v last. closed v last (x .stop) next));
     write = λ x. tagOf x ∷ lengthOctets (length ((f (tagOf x)) .write x)) ++ (f (tagOf x)) .write x;
-    valid = λ x. has tags (tagOf x) && (f (tagOf x)) .valid x;
-    Means = λ x s a n. (has tags (tagOf x) ≡ true) × ((c m : ℕ) × Spans (tagOf x) s a c m n × (f (tagOf x)) .Means x s c m);
+    valid = λ x. oneOf tags (tagOf x) && (f (tagOf x)) .valid x;
+    Means = λ x s a n. (oneOf tags (tagOf x) ≡ true) × ((c m : ℕ) × Spans (tagOf x) s a c m n × (f (tagOf x)) .Means x s c m);
     first = tags;
     empty = false;
     avoid = λ o. true;

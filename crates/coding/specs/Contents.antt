@@ -5,7 +5,7 @@ use mathlib.Core.Bool.{Bool, true, false, cond}
 use lib.ListN.{length}
 use lib.Dec.{ltb, leb, eqb}
 use lib.IntN.{ℤ, pos, subℕ}
-use Rattle.coding.specs.Reader.{Fault, Judged}
+use Rattle.coding.specs.Reader.{Fault, Ruling}
 
 -- the number that octets say, high first
 unfoldable pub numberFrom : ℕ → List ℕ → ℕ
@@ -29,14 +29,14 @@ shortest (x ∷ y ∷ xs) =
     cond (eqb x 0) (leb 0x80 y) (cond (eqb x 0xff) (ltb y 0x80) true)
 
 -- INTEGER or ENUMERATED from `low` to `high`, none below 0
-unfoldable pub natural : ℕ → ℕ → List ℕ → Judged ℕ
+unfoldable pub natural : ℕ → ℕ → List ℕ → Ruling ℕ
 natural low high xs =
     cond (shortest xs)
-    (cond (negative xs) (Judged.bad Fault.contents)
+    (cond (negative xs) (Ruling.bad Fault.contents)
     (cond (leb low (numberFrom 0 xs))
-    (cond (leb (numberFrom 0 xs) high) (Judged.good (numberFrom 0 xs)) (Judged.bad Fault.contents))
-    (Judged.bad Fault.contents)))
-    (Judged.bad Fault.shortest)
+    (cond (leb (numberFrom 0 xs) high) (Ruling.good (numberFrom 0 xs)) (Ruling.bad Fault.contents))
+    (Ruling.bad Fault.contents)))
+    (Ruling.bad Fault.shortest)
 
 -- every octet passes
 unfoldable pub every : (ℕ → Bool) → List ℕ → Bool
@@ -44,13 +44,13 @@ every ok [] = true
 every ok (x ∷ xs) = cond (ok x) (every ok xs) false
 
 -- a string of `low` to `high` octets that all pass
-unfoldable pub text : ℕ → ℕ → (ℕ → Bool) → List ℕ → Judged (List ℕ)
+unfoldable pub text : ℕ → ℕ → (ℕ → Bool) → List ℕ → Ruling (List ℕ)
 text low high ok xs =
-    cond (ltb (length xs) low) (Judged.bad (cond (eqb (length xs) 0) Fault.shortest Fault.contents))
-    (cond (ltb high (length xs)) (Judged.bad Fault.contents)
-    (cond (every ok xs) (Judged.good xs) (Judged.bad Fault.contents)))
+    cond (ltb (length xs) low) (Ruling.bad (cond (eqb (length xs) 0) Fault.shortest Fault.contents))
+    (cond (ltb high (length xs)) (Ruling.bad Fault.contents)
+    (cond (every ok xs) (Ruling.good xs) (Ruling.bad Fault.contents)))
 
 -- NULL
-unfoldable pub null : List ℕ → Judged (Unit {0})
-null [] = Judged.good tt
-null (x ∷ xs) = Judged.bad Fault.contents
+unfoldable pub null : List ℕ → Ruling (Unit {0})
+null [] = Ruling.good tt
+null (x ∷ xs) = Ruling.bad Fault.contents

@@ -5,10 +5,10 @@ use mathlib.Core.Bool.{Bool, true, false, _&&_, _||_, cond}
 use lib.ListN.{length}
 use lib.Dec.{ltb, leb, eqb}
 use lib.IntN.{ℤ, pos, negsuc}
-use Rattle.coding.specs.Reader.{Fault, Judged, narrowed}
+use Rattle.coding.specs.Reader.{Fault, Ruling, narrowed}
 use Rattle.coding.specs.Contents.{natural, negative, numberFrom, valueOf, shortest, every, text, null}
 use mathlib.Core.Option.{Option, none, some}
-use Rattle.coding.specs.Codec.{Leaf, Run, prim, maybe, over, has}
+use Rattle.coding.specs.Codec.{Leaf, Run, prim, maybe, over, oneOf}
 use Rattle.coding.specs.declared.Chosen.{Chosen}
 
 -- the k low octets of n, high first
@@ -50,11 +50,11 @@ abbrev pub patternOf : ℕ → ℤ → ℕ
 patternOf k (pos n) = n
 patternOf k (negsuc n) = 256 ^ k - suc n
 
-unfoldable pub integer : ℕ → List ℕ → Judged ℕ
+unfoldable pub integer : ℕ → List ℕ → Ruling ℕ
 integer k xs =
     cond (shortest xs)
-    (cond (inOctets k (valueOf xs)) (Judged.good (patternOf k (valueOf xs))) (Judged.bad Fault.contents))
-    (Judged.bad Fault.shortest)
+    (cond (inOctets k (valueOf xs)) (Ruling.good (patternOf k (valueOf xs))) (Ruling.bad Fault.contents))
+    (Ruling.bad Fault.shortest)
 
 -- what is left without the octets in front that are not needed
 unfoldable pub shorten : List ℕ → List ℕ
@@ -73,19 +73,19 @@ unfoldable pub identifier : Leaf ℕ
 identifier = signed 2
 
 -- INTEGER of 1 to 4 octets that is one of the list; another is refused by its own number
-unfoldable pub listing : ℕ → List ℕ → List ℕ → Judged ℕ
+unfoldable pub listing : ℕ → List ℕ → List ℕ → Ruling ℕ
 listing unknown known xs =
     cond (shortest xs)
-    (cond (ltb 4 (length xs)) (Judged.bad Fault.contents)
-    (cond (negative xs) (Judged.bad (Fault.named unknown))
-    (cond (has known (numberFrom 0 xs)) (Judged.good (numberFrom 0 xs)) (Judged.bad (Fault.named unknown)))))
-    (Judged.bad Fault.shortest)
+    (cond (ltb 4 (length xs)) (Ruling.bad Fault.contents)
+    (cond (negative xs) (Ruling.bad (Fault.named unknown))
+    (cond (oneOf known (numberFrom 0 xs)) (Ruling.good (numberFrom 0 xs)) (Ruling.bad (Fault.named unknown)))))
+    (Ruling.bad Fault.shortest)
 
 unfoldable pub listed : ℕ → List ℕ → Leaf ℕ
 listed unknown known = record {
   judge = listing unknown known;
   write = λ n. digits (width n) n;
-  valid = has known;
+  valid = oneOf known;
 }
 
 -- the same contents, of which only some values pass

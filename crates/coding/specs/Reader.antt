@@ -56,9 +56,9 @@ unfoldable pub tagged : List ℕ → ℕ → ℕ → ℕ → Bool
 tagged s at end tag = cond (ltb at end) (eqb (getD s at 0) tag) false
 
 -- one of the tags
-unfoldable pub has : List ℕ → ℕ → Bool
-has [] o = false
-has (t ∷ ts) o = eqb o t || has ts o
+unfoldable pub oneOf : List ℕ → ℕ → Bool
+oneOf [] o = false
+oneOf (t ∷ ts) o = eqb o t || oneOf ts o
 
 -- nothing that may stand here does: missing at the end, else an unexpected tag
 unfoldable pub neither : {A : Type 0} → Reader A
@@ -148,34 +148,34 @@ constructed tag body s at end =
 unfoldable pub enteredAny : List ℕ → (Fault → Fault) → Fault → Reader Extent
 enteredAny tags m over s at end =
     cond (leb end at) (halt (m missing) end)
-    (cond (has tags (getD s at 0))
+    (cond (oneOf tags (getD s at 0))
     (after (blamed m (lengthAt at s (at + 1) end)) (λ e next. cond (eqb next end) (got e next) (halt over next)))
     (halt (m unexpected) at))
 
 -- A primitive element's contents are judged as a list of octets.
-pub data Judged (A : Type 0) : Type 0 where
-  good : A → Judged A
-  bad : Fault → Judged A
+pub data Ruling (A : Type 0) : Type 0 where
+  good : A → Ruling A
+  bad : Fault → Ruling A
 
 unfoldable pub part : List ℕ → ℕ → ℕ → List ℕ
 part s start stop = take (stop - start) (drop start s)
 
 -- the same contents for another type
-unfoldable pub mapped : {A B : Type 0} → (A → B) → Judged A → Judged B
+unfoldable pub mapped : {A B : Type 0} → (A → B) → Ruling A → Ruling B
 mapped f (good v) = good (f v)
 mapped f (bad w) = bad w
 
 -- the same contents where only some values pass
-unfoldable pub narrowed : {A : Type 0} → (A → Bool) → Judged A → Judged A
+unfoldable pub narrowed : {A : Type 0} → (A → Bool) → Ruling A → Ruling A
 narrowed ok (good v) = cond (ok v) (good v) (bad contents)
 narrowed ok (bad w) = bad w
 
-unfoldable pub judged : {A : Type 0} → Judged A → ℕ → ℕ → Ans A
-judged (good v) tag next = got v next
-judged (bad w) tag next = halt w tag
+unfoldable pub ruled : {A : Type 0} → Ruling A → ℕ → ℕ → Ans A
+ruled (good v) tag next = got v next
+ruled (bad w) tag next = halt w tag
 
-unfoldable pub primitive : {A : Type 0} → ℕ → (List ℕ → Judged A) → Reader A
-primitive tag judge s at end = after (opened tag s at end) (λ e next. judged (judge (part s (e .start) (e .stop))) at next)
+unfoldable pub primitive : {A : Type 0} → ℕ → (List ℕ → Ruling A) → Reader A
+primitive tag judge s at end = after (opened tag s at end) (λ e next. ruled (judge (part s (e .start) (e .stop))) at next)
 
 -- An optional element is absent when its tag does not come next.
 unfoldable pub optional : {A : Type 0} → ℕ → Reader A → Reader (Option A)

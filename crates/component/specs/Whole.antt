@@ -6,8 +6,8 @@ use Rattle.types.specs.declared.Answer.{Answer}
 use Rattle.component.specs.declared.MainAnswer.{MainAnswer}
 
 -- the two arrays, as they stand in a record
-abbrev pub entries : List ℕ → List ℕ → Entries
-entries numbers rows = record { numbers = numbers; octets = rows }
+abbrev pub entriesIn : List ℕ → List ℕ → Entries
+entriesIn numbers rows = record { numbers = numbers; octets = rows }
 
 -- the answer with its list
 abbrev pub withEntries : MainAnswer → Entries → Answer
@@ -28,4 +28,4 @@ withEntries m e = record {
 
 -- what an answer and the two arrays say together
 abbrev pub wholeAnswer : MainAnswer → List ℕ → List ℕ → Answer
-wholeAnswer m numbers rows = withEntries m (entries numbers rows)
+wholeAnswer m numbers rows = withEntries m (entriesIn numbers rows)

@@ -30,14 +30,14 @@ abbrev pub countAt : List ℕ → ℕ → ℕ
 countAt rows i = getD rows (i * 6 + 5) 0
 
 -- whether the counts of k rows from i on add up to the octets that are left
-unfoldable pub fits : List ℕ → ℕ → ℕ → ℕ → Bool
-fits rows i zero left = eqb left 0
-fits rows i (suc k) left = leb (countAt rows i) left && fits rows (i + 1) k (left - countAt rows i)
+unfoldable pub rowsFit : List ℕ → ℕ → ℕ → ℕ → Bool
+rowsFit rows i zero left = eqb left 0
+rowsFit rows i (suc k) left = leb (countAt rows i) left && rowsFit rows (i + 1) k (left - countAt rows i)
 
 -- whether the slices are an event list: whole rows, whose counts add up to the octets
 unfoldable pub addsUp : List ℕ → ℕ → Bool
-unfolding fits
-addsUp rows total = eqb (length rows % 6) 0 && fits rows 0 (length rows / 6) total
+unfolding rowsFit
+addsUp rows total = eqb (length rows % 6) 0 && rowsFit rows 0 (length rows / 6) total
 
 -- the events of k rows from i on, whose octets begin at a place
 unfoldable pub eventsFrom : List ℕ → List ℕ → ℕ → ℕ → ℕ → List Given
@@ -52,4 +52,4 @@ eventsOf rows octets = eventsFrom rows octets 0 (length rows / 6) 0
 pub record Going (rows octets : List ℕ) (i at : ℕ) : Type 0 where
   pub row : i ≤ length rows / 6
   pub place : at ≤ length octets
-  pub rest : fits rows i (length rows / 6 - i) (length octets - at) ≡ true
+  pub rest : rowsFit rows i (length rows / 6 - i) (length octets - at) ≡ true

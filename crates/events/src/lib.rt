@@ -4,7 +4,7 @@
 ghost use Prim.Native.Nat.{ℕ, _<_, _/_, _%_};
 ghost use mathlib.Core.Path.{_≡_};
 ghost use lib.ListN.{length};
-ghost use Rattle.events.specs.Events.{kindOf, setOf, rowAt, countAt, addsUp, fits};
+ghost use Rattle.events.specs.Events.{kindOf, setOf, rowAt, countAt, addsUp, rowsFit};
 
 fn wide(n: u16) -> usize
     ensures { λ r. ⌜ r ≡ n ⌝ }
@@ -14,7 +14,7 @@ fn wide(n: u16) -> usize
 
 // Whether the counts of the rows add up to the octets.
 fn rows_fit(rows: &[u16], total: usize) -> bool
-    ensures { λ r. ⌜ r ≡ fits (now (rows .entry)) 0 (length (now (rows .entry)) / 6) total ⌝ }
+    ensures { λ r. ⌜ r ≡ rowsFit (now (rows .entry)) 0 (length (now (rows .entry)) / 6) total ⌝ }
 {
     let n = rows.len() / 6;
     let mut left = total;

@@ -18,7 +18,7 @@ use Rattle.coding.proofs.Basic.{never, chain, same-got, picked, unpicked, follo
 use Rattle.coding.proofs.Header.{read-element, element-read, element-range}
 use Rattle.coding.proofs.Moved.{Same, element-moved}
 use Rattle.coding.proofs.Parts.{part-length}
-use Rattle.facility.specs.Element.{tiled, led, answered, malformed, elementOf}
+use Rattle.facility.specs.Element.{tiled, led, startsFound, malformed, elementOf}
 use Rattle.facility.specs.Parts.{startsOf, firstOr, partsOf, joined, Tile, Tiles, placesOf}
 
 -- ---- an accepted element is cut into components
@@ -82,9 +82,9 @@ cut (suc turns) s i xs {last} h e = go (eqb i (length s)) refl e (λ n ys m. cut
         same-got (λ ys m. Cut s i ys) (b .3) (cut-here s i (b .0) (a .2) (more (a .1) (b .0) (b .1) (part-tile s i (a .2) .1) (b .2)))
 
 -- an answer of 0 is that of starts that were found
-pub answer-found : (b : Bool) (x : Ans (List ℕ)) → (cond b (answered x) malformed) .number ≡ 0
-    → (b ≡ true) × ((xs : List ℕ) × (last : ℕ) × (x ≡ got xs last) × (startsOf (cond b (answered x) malformed) ≡ xs))
-unfolding answered pad
+pub answer-found : (b : Bool) (x : Ans (List ℕ)) → (cond b (startsFound x) malformed) .number ≡ 0
+    → (b ≡ true) × ((xs : List ℕ) × (last : ℕ) × (x ≡ got xs last) × (startsOf (cond b (startsFound x) malformed) ≡ xs))
+unfolding startsFound pad
 answer-found true (got xs last) e = (refl, (xs, last, refl, take-append-seam xs _))
 answer-found true (halt w p) e = absurd (omega (arith, e))
 answer-found false x e = absurd (omega (arith, e))
@@ -153,7 +153,7 @@ led-so xs h =
 -- An element whose third octet is followed by components, one at least, is accepted, and its starts are where they begin.
 pub found : (ps : List (List ℕ)) → 0 < length ps → Tiles ps
     → elementOf (0x1c ∷ (1 + length (joined ps)) ∷ 0x91 ∷ joined ps) ≡ record { number = 0; count = length ps; starts = pad 127 0 (placesOf 3 ps) }
-unfolding elementOf answered
+unfolding elementOf startsFound
 found ps h t =
     let n : ℕ = length (joined ps) in
     let head : List ℕ = 0x1c ∷ (1 + n) ∷ 0x91 ∷ [] in

@@ -29,10 +29,10 @@ abbrev pub malformed : Starts
 malformed = record { number = 15; count = 0; starts = pad 127 0 [] }
 
 -- the starts in an array of 127 places, those past the count zero
-unfoldable pub answered : Ans (List ℕ) → Starts
-answered (got starts last) = record { number = 0; count = length starts; starts = pad 127 0 starts }
-answered (halt fault place) = malformed
+unfoldable pub startsFound : Ans (List ℕ) → Starts
+startsFound (got starts last) = record { number = 0; count = length starts; starts = pad 127 0 starts }
+startsFound (halt fault place) = malformed
 
 -- Fewer than three octets, another lead, length or third octet, none after it, or tag and length octets that do not tile to the end: 15.
 unfoldable pub elementOf : List ℕ → Starts
-elementOf s = cond (led s) (answered (tiled (length s) s 3 (length s))) malformed
+elementOf s = cond (led s) (startsFound (tiled (length s) s 3 (length s))) malformed

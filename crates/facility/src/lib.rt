@@ -3,7 +3,7 @@ ghost use mathlib.Core.Path.{_≡_};
 ghost use mathlib.Core.Bool.{true, false};
 ghost use Prim.Native.Nat.{_≤_, _<_};
 ghost use lib.ListN.{length};
-ghost use Rattle.facility.specs.Element.{elementOf, malformed, answered, tiled, led};
+ghost use Rattle.facility.specs.Element.{elementOf, malformed, startsFound, tiled, led};
 
 // What reading an element answers. number: 0, or 15 for a malformed one; then all else is zero.
 // The components begin at the first count of starts, counted with the lead octet 1C as 0; the places past them are zero.
@@ -52,7 +52,7 @@ fn is_led(octets: &[u8]) -> bool
 // The starts of the components, which begin after the third octet.
 fn starts_from(octets: &[u8]) -> Starts
     requires { ⌜ (4 ≤ length (now octets)) × (length (now octets) ≤ 257) ⌝ }
-    ensures { λ r. ⌜ r ≡ answered (tiled (length (now (octets .entry))) (now (octets .entry)) 3 (length (now (octets .entry)))) ⌝ }
+    ensures { λ r. ⌜ r ≡ startsFound (tiled (length (now (octets .entry))) (now (octets .entry)) 3 (length (now (octets .entry)))) ⌝ }
     ensures few { λ r. ⌜ r .count ≤ 127 ⌝ }
 {
     let end = octets.len();

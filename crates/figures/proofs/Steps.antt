@@ -5,10 +5,10 @@ use mathlib.Core.Path.{_≡_, refl, sym, _∙_}
 use mathlib.Core.Bool.{Bool, true, false, cond}
 use mathlib.Core.List.{List}
 use lib.Dec.{eqb}
-use Rattle.coding.specs.Reader.{Ans, after, opened, closed, constructed, primitive, judged, Judged, mapped, narrowed}
+use Rattle.coding.specs.Reader.{Ans, after, opened, closed, constructed, primitive, ruled, Ruling, mapped, narrowed}
 use Rattle.coding.specs.Reader.Ans.{got, halt}
 use Rattle.coding.specs.Reader.Fault.{unexpected, contents}
-use Rattle.coding.specs.Reader.Judged.{good, bad}
+use Rattle.coding.specs.Reader.Ruling.{good, bad}
 use Rattle.coding.specs.Codec.{Run, Leaf, prim, cons, pair, over, canonical}
 use Rattle.coding.specs.Leaves.{number, given, only}
 use Rattle.coding.proofs.Reading.{flat, after-assoc, after-got}
@@ -35,18 +35,18 @@ cons-told tag to from same f s at end = simp (after-assoc, after-got, closed-tol
 
 -- ---- contents for another type; contents of which only some values pass
 
-judged-told : {A B C : Type 0} (to : A → B) (j : Judged A) (at next : ℕ) (g : B → ℕ → Ans C) →
-    after (judged (mapped to j) at next) g ≡ after (judged j at next) (λ x n. g (to x) n)
-unfolding after judged mapped
+judged-told : {A B C : Type 0} (to : A → B) (j : Ruling A) (at next : ℕ) (g : B → ℕ → Ans C) →
+    after (ruled (mapped to j) at next) g ≡ after (ruled j at next) (λ x n. g (to x) n)
+unfolding after ruled mapped
 judged-told to (good v) at next g = refl
 judged-told to (bad w) at next g = refl
 
-judged-only : {A C : Type 0} (ok : A → Bool) (j : Judged A) (at next : ℕ) (g : A → ℕ → Ans C) →
-    after (judged (narrowed ok j) at next) g ≡ after (judged j at next) (λ x n. cond (ok x) (g x n) (halt contents at))
-unfolding after judged narrowed
+judged-only : {A C : Type 0} (ok : A → Bool) (j : Ruling A) (at next : ℕ) (g : A → ℕ → Ans C) →
+    after (ruled (narrowed ok j) at next) g ≡ after (ruled j at next) (λ x n. cond (ok x) (g x n) (halt contents at))
+unfolding after ruled narrowed
 judged-only ok (good v) at next g = go (ok v)
   where
-    go : (b : Bool) → after (judged (cond b (good v) (bad contents)) at next) g ≡ cond b (g v next) (halt contents at)
+    go : (b : Bool) → after (ruled (cond b (good v) (bad contents)) at next) g ≡ cond b (g v next) (halt contents at)
     go true = refl
     go false = refl
 judged-only ok (bad w) at next g = refl

@@ -2,7 +2,7 @@
 use Prim.Native.Nat.{ℕ}
 use mathlib.Core.List.{List}
 use lib.ListN.{length}
-use Rattle.coding.specs.Reader.{Judged, mapped}
+use Rattle.coding.specs.Reader.{Ruling, mapped}
 use Rattle.coding.specs.Codec.{pad}
 use Rattle.types.specs.declared.Association.{Association}
 use Rattle.types.specs.Charges.{digitsLeaf}
@@ -11,5 +11,5 @@ use Rattle.types.specs.Charges.{digitsLeaf}
 abbrev pub byDigits : ℕ → ℕ → List ℕ → Association
 byDigits kind plan xs = record { id = 0; count = length xs; kind = kind; plan = plan; digits = pad 20 0 xs }
 
-unfoldable pub numbered : ℕ → ℕ → List ℕ → Judged Association
+unfoldable pub numbered : ℕ → ℕ → List ℕ → Ruling Association
 numbered kind plan xs = mapped (byDigits kind plan) (digitsLeaf .judge xs)

@@ -9,7 +9,7 @@ use mathlib.Core.List.{List, [], _∷_, _++_}
 use lib.ListN.{length, length-append}
 use lib.Dec.{leb, eqb}
 use borrow.Author.Tests.{leb-true, eqb-true, eq-eqb, ne-eqb}
-use Rattle.coding.specs.Codec.{has}
+use Rattle.coding.specs.Codec.{oneOf}
 use Rattle.coding.specs.Leaves.{identifier}
 use Rattle.coding.specs.Written.{lead, fullNumber}
 use Rattle.coding.proofs.Basic.{and-left, and-right}
@@ -20,8 +20,8 @@ use Rattle.heads.proofs.Codes.{has-below}
 use Rattle.fronts.specs.declared.Front.{Front}
 use Rattle.fronts.specs.Fronts.{frontFine, frontOctets, idOctets, problemFine, sameFront, frontBy, called}
 
-pub operation-30 : (o : ℕ) → o ≡ 30 → has operations o ≡ true
-unfolding has
+pub operation-30 : (o : ℕ) → o ≡ 30 → oneOf operations o ≡ true
+unfolding oneOf
 operation-30 o e = rw e
 
 -- ---- by the frame
@@ -51,10 +51,10 @@ module _ (f : Front) (v : frontFine f ≡ true) where
   pub small-1 : f .frame ≡ 1 → (f .operation < 128) × (f .detail < 128)
   unfolding frontFine
   small-1 e =
-      let w : has operations (f .operation)
+      let w : oneOf operations (f .operation)
       && cond (eqb (f .operation) 30) (sameFront (frontBy 1 0 (f .id) 30 0 0 (f .detail)) f && leb (f .detail) 2) (sameFront (frontBy 1 0 (f .id) (f .operation) 0 0 0) f)
       ≡ true = rw (eq-eqb _ _ e) at v in
-      (has-below 128 operations (f .operation) refl (and-left (has operations (f .operation)) _ w), go (eqb (f .operation) 30) (and-right (has operations (f .operation)) _ w))
+      (has-below 128 operations (f .operation) refl (and-left (oneOf operations (f .operation)) _ w), go (eqb (f .operation) 30) (and-right (oneOf operations (f .operation)) _ w))
     where
       go : (b : Bool) → cond b (sameFront (frontBy 1 0 (f .id) 30 0 0 (f .detail)) f && leb (f .detail) 2) (sameFront (frontBy 1 0 (f .id) (f .operation) 0 0 0) f) ≡ true
           → f .detail < 128
@@ -72,14 +72,14 @@ module _ (f : Front) (v : frontFine f ≡ true) where
   pub small-2 : f .frame ≡ 2 → f .operation < 128
   unfolding frontFine
   small-2 e =
-      let w : has (30 ∷ []) (f .operation) && sameFront (frontBy 2 0 (f .id) (f .operation) 0 0 0) f ≡ true =
+      let w : oneOf (30 ∷ []) (f .operation) && sameFront (frontBy 2 0 (f .id) (f .operation) 0 0 0) f ≡ true =
       rw (ne-eqb (f .frame) 1 (λ h. omega (arith, e, h)), eq-eqb _ _ e) at v in
-      has-below 128 (30 ∷ []) (f .operation) refl (and-left (has (30 ∷ []) (f .operation)) _ w)
+      has-below 128 (30 ∷ []) (f .operation) refl (and-left (oneOf (30 ∷ []) (f .operation)) _ w)
 
   pub small-3 : f .frame ≡ 3 → f .error < 128
   unfolding frontFine
   small-3 e =
-      let w : sameFront (frontBy 3 0 (f .id) 0 (f .error) 0 0) f && has errors (f .error) ≡ true =
+      let w : sameFront (frontBy 3 0 (f .id) 0 (f .error) 0 0) f && oneOf errors (f .error) ≡ true =
       rw (ne-eqb (f .frame) 1 (λ h. omega (arith, e, h)), ne-eqb (f .frame) 2 (λ h. omega (arith, e, h)), eq-eqb _ _ e) at v in
       has-below 128 errors (f .error) refl (and-right (sameFront (frontBy 3 0 (f .id) 0 (f .error) 0 0) f) _ w)
 

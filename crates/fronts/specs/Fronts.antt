@@ -3,7 +3,7 @@ use Prim.Native.Nat.{ℕ, _+_}
 use mathlib.Core.List.{List, [], _∷_, _++_}
 use mathlib.Core.Bool.{Bool, false, not, _&&_, _||_, cond}
 use lib.Dec.{leb, eqb}
-use Rattle.coding.specs.Codec.{has, prim}
+use Rattle.coding.specs.Codec.{oneOf, prim}
 use Rattle.coding.specs.Leaves.{identifier}
 use Rattle.coding.specs.Written.{lead, fullNumber}
 use Rattle.types.specs.Frames.{operations, errors}
@@ -32,9 +32,9 @@ problemFine p d =
 unfoldable pub frontFine : Front → Bool
 frontFine f =
     cond (eqb (f .frame) 1)
-    (has operations (f .operation) && cond (eqb (f .operation) 30) (sameFront (frontBy 1 0 (f .id) 30 0 0 (f .detail)) f && leb (f .detail) 2) (sameFront (frontBy 1 0 (f .id) (f .operation) 0 0 0) f))
-    (cond (eqb (f .frame) 2) (has (30 ∷ []) (f .operation) && sameFront (frontBy 2 0 (f .id) (f .operation) 0 0 0) f)
-    (cond (eqb (f .frame) 3) (sameFront (frontBy 3 0 (f .id) 0 (f .error) 0 0) f && has errors (f .error))
+    (oneOf operations (f .operation) && cond (eqb (f .operation) 30) (sameFront (frontBy 1 0 (f .id) 30 0 0 (f .detail)) f && leb (f .detail) 2) (sameFront (frontBy 1 0 (f .id) (f .operation) 0 0 0) f))
+    (cond (eqb (f .frame) 2) (oneOf (30 ∷ []) (f .operation) && sameFront (frontBy 2 0 (f .id) (f .operation) 0 0 0) f)
+    (cond (eqb (f .frame) 3) (sameFront (frontBy 3 0 (f .id) 0 (f .error) 0 0) f && oneOf errors (f .error))
     (cond (eqb (f .frame) 4) (called f && (sameFront (frontBy 4 (f .unnamed) (f .id) 0 0 (f .problem) (f .detail)) f && problemFine (f .problem) (f .detail)))
     false)))
 

@@ -4,7 +4,7 @@ ghost use mathlib.Core.Bool.{true, false, cond};
 ghost use mathlib.Core.List.{[], _++_};
 ghost use Prim.Native.Nat.{_+_, _≤_, _<_};
 ghost use lib.ListN.{length};
-ghost use Rattle.coding.specs.Codec.{has};
+ghost use Rattle.coding.specs.Codec.{oneOf};
 ghost use Rattle.coding.specs.Written.{Wrote, lead, fullNumber};
 ghost use lib.Dec.{eqb};
 ghost use Rattle.types.specs.Frames.{operations};
@@ -26,7 +26,7 @@ pub struct Front {
 
 // As `heads::known_operation`, of an octet: measured, 23 instructions less for each component than a call of that.
 fn is_operation(n: u8) -> bool
-    ensures { λ r. ⌜ r ≡ has operations n ⌝ }
+    ensures { λ r. ⌜ r ≡ oneOf operations n ⌝ }
 {
     if n < 30 {
         return false;

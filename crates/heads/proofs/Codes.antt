@@ -12,7 +12,7 @@ use Rattle.coding.specs.Reader.{Fault, code}
 use Rattle.coding.specs.Reader.Fault.{missing, unexpected, cut, form, shortest, contents, limit, named}
 use Rattle.coding.specs.Contents.{negative, numberFrom}
 use Rattle.coding.specs.Contents as Contents
-use Rattle.coding.specs.Codec.{has, all}
+use Rattle.coding.specs.Codec.{oneOf, all}
 use Rattle.coding.specs.Leaves.{listing}
 use Rattle.coding.specs.Shown.{verdict}
 use Rattle.coding.proofs.Basic.{and-left, and-right}
@@ -81,27 +81,27 @@ module _ (u : ℕ) (ks xs : List ℕ) where
       unfolding listing verdict
       list-negative n = rw (s, le-ltb _ _ l, n)
 
-      pub list-known : {k : ℕ} → negative xs ≡ false → k ≡ numberFrom 0 xs → has ks k ≡ true → (0, k) ≡ verdict 0 (listing u ks xs)
+      pub list-known : {k : ℕ} → negative xs ≡ false → k ≡ numberFrom 0 xs → oneOf ks k ≡ true → (0, k) ≡ verdict 0 (listing u ks xs)
       unfolding listing verdict
       list-known n e h = rw (s, le-ltb _ _ l, n, ← e, h)
 
-      pub list-unknown : negative xs ≡ false → has ks (numberFrom 0 xs) ≡ false → (100 + u, 0) ≡ verdict 0 (listing u ks xs)
+      pub list-unknown : negative xs ≡ false → oneOf ks (numberFrom 0 xs) ≡ false → (100 + u, 0) ≡ verdict 0 (listing u ks xs)
       unfolding listing verdict
       list-unknown n h = rw (s, le-ltb _ _ l, n, h)
 
-pub has-below : (most : ℕ) (ks : List ℕ) (n : ℕ) → all (λ k. ltb k most) ks ≡ true → has ks n ≡ true → n < most
-unfolding has
+pub has-below : (most : ℕ) (ks : List ℕ) (n : ℕ) → all (λ k. ltb k most) ks ≡ true → oneOf ks n ≡ true → n < most
+unfolding oneOf
 has-below most [] n a h = absurd (true≢false (sym h))
 has-below most (k ∷ ks) n a h = go (eqb n k) refl h (has-below most ks n (and-right (ltb k most) _ a))
   where
-    go : (b : Bool) → eqb n k ≡ b → b || has ks n ≡ true → (has ks n ≡ true → n < most) → n < most
+    go : (b : Bool) → eqb n k ≡ b → b || oneOf ks n ≡ true → (oneOf ks n ≡ true → n < most) → n < most
     go true q r f = omega (arith, eqb-true n k q, ltb-true k most (and-left (ltb k most) _ a))
     go false q r f = f r
 
-has-above : (most : ℕ) (ks : List ℕ) (n : ℕ) → all (λ k. ltb k most) ks ≡ true → most ≤ n → has ks n ≡ false
-has-above most ks n a h = go (has ks n) refl
+has-above : (most : ℕ) (ks : List ℕ) (n : ℕ) → all (λ k. ltb k most) ks ≡ true → most ≤ n → oneOf ks n ≡ false
+has-above most ks n a h = go (oneOf ks n) refl
   where
-    go : (b : Bool) → has ks n ≡ b → b ≡ false
+    go : (b : Bool) → oneOf ks n ≡ b → b ≡ false
     go true q = absurd (omega (arith, has-below most ks n a q))
     go false q = refl
 
@@ -118,24 +118,24 @@ known-all most k l = go (eqb k 1) (eqb k 2)
     go false true = simp (lt 30 (omega arith))
     go false false = simp (lt 0 (omega arith), lt 3 (omega arith), lt 4 (omega arith), lt 7 (omega arith), lt 26 (omega arith))
 
-pub known-low : (u n : ℕ) → has (knownIn u) n ≡ true → n < 256
+pub known-low : (u n : ℕ) → oneOf (knownIn u) n ≡ true → n < 256
 known-low u n h = has-below 256 (knownIn u) n (known-all 256 u (omega arith)) h
 
 -- a number held at 2^24 is known where the number is
-pub known-held : (u n m : ℕ) → n ≡ min m 16777216 → has (knownIn u) n ≡ true → n ≡ m
+pub known-held : (u n m : ℕ) → n ≡ min m 16777216 → oneOf (knownIn u) n ≡ true → n ≡ m
 known-held u n m e h = omega (arith, known-low u n h)
 
-pub unknown-held : (u n m : ℕ) → n ≡ min m 16777216 → has (knownIn u) n ≡ false → has (knownIn u) m ≡ false
+pub unknown-held : (u n m : ℕ) → n ≡ min m 16777216 → oneOf (knownIn u) n ≡ false → oneOf (knownIn u) m ≡ false
 unknown-held u n m e h = go (ltb m 16777216) refl
   where
-    go : (b : Bool) → ltb m 16777216 ≡ b → has (knownIn u) m ≡ false
+    go : (b : Bool) → ltb m 16777216 ≡ b → oneOf (knownIn u) m ≡ false
     go true q = let z : n ≡ m = omega (arith, ltb-true m 16777216 q) in rw (← z) h
     go false q = has-above 16777216 (knownIn u) m (known-all 16777216 u (omega arith)) (ltb-false m 16777216 q)
 
 -- ---- the operations are those from 30 to 36
 
-pub operation-below : (n : ℕ) → n < 30 → false ≡ has operations n
-unfolding has
+pub operation-below : (n : ℕ) → n < 30 → false ≡ oneOf operations n
+unfolding oneOf
 operation-below n l =
     simp (
       ne-eqb n 30 (λ e. omega arith),
@@ -147,8 +147,8 @@ operation-below n l =
       ne-eqb n 36 (λ e. omega arith),
     )
 
-pub operation-above : (n : ℕ) → 36 < n → false ≡ has operations n
-unfolding has
+pub operation-above : (n : ℕ) → 36 < n → false ≡ oneOf operations n
+unfolding oneOf
 operation-above n l =
     simp (
       ne-eqb n 30 (λ e. omega arith),
@@ -160,14 +160,14 @@ operation-above n l =
       ne-eqb n 36 (λ e. omega arith),
     )
 
-pub operation-known : (n : ℕ) → 30 ≤ n → n ≤ 36 → true ≡ has operations n
-unfolding has
+pub operation-known : (n : ℕ) → 30 ≤ n → n ≤ 36 → true ≡ oneOf operations n
+unfolding oneOf
 operation-known n l h =
     let e : n ≡ 30 + (n - 30) = omega arith in
     let k : n - 30 ≤ 6 = omega arith in
     rw e (go (n - 30) k)
   where
-    go : (k : ℕ) → k ≤ 6 → true ≡ has operations (30 + k)
+    go : (k : ℕ) → k ≤ 6 → true ≡ oneOf operations (30 + k)
     go zero b = refl
     go (suc zero) b = refl
     go (suc (suc zero)) b = refl

@@ -7,7 +7,7 @@ use mathlib.Core.Bool.{true, false}
 use mathlib.Core.List.{List, [], _∷_}
 use lib.ListN.{length, getD}
 use borrow.Author.Tests.{lt-leb, lt-ltb, ne-eqb}
-use Rattle.coding.specs.Reader.{tagged, choice, has}
+use Rattle.coding.specs.Reader.{tagged, choice, oneOf}
 use Rattle.coding.specs.Contents.{shortest, negative, numberFrom}
 use Rattle.coding.specs.Codec.{barring}
 use Rattle.coding.specs.Leaves.{listing, listed}
@@ -37,7 +37,7 @@ module _ (s : List ℕ) (at end x : ℕ) (es : end ≤ length s) (t : Tiny s at 
   unfolding shortest
   single = refl
 
-  pub tiny-value : (u : ℕ) (ks : List ℕ) → x < 128 → has ks x ≡ true → (0, 0, x, at + 3) ≡ shown 0 ((value u ks) .read s at end)
+  pub tiny-value : (u : ℕ) (ks : List ℕ) → x < 128 → oneOf ks x ≡ true → (0, 0, x, at + 3) ≡ shown 0 ((value u ks) .read s at end)
   unfolding value barring choice listed
   tiny-value u ks l h =
       let p = positive l in

@@ -14,7 +14,7 @@ use borrow.Author.Tests.{le-leb, lt-leb, lt-ltb, ltb-true, ltb-false, leb-false,
 use Rattle.types.specs.Frames.{readWhole, readOf}
 use Rattle.lines.specs.declared.input.Line.{Line}
 use Rattle.lines.specs.Text.{refusedText}
-use Rattle.lines.specs.Lines.{digitOf, Meant, led, pairs, lineOf, replyTo, answerTo, before, linesOf, answersTo, outputOf}
+use Rattle.lines.specs.Lines.{digitOf, Meant, octetThen, pairs, lineOf, textFor, answerTo, before, linesOf, answersTo, outputOf}
 use Rattle.lines.specs.Lines.Meant.{bad, octets}
 use Rattle.lines.specs.Machine.{state, madeLine, newLine, badLine, stepLine, stepOctets, octetOf, answerText, turn, turns, ended}
 
@@ -71,13 +71,13 @@ no-digit : (d : ℕ) → ltb d 16 ≡ false → leb 16 d ≡ true
 no-digit d e = le-leb 16 d (ltb-false d 16 e)
 
 led-joined : (os : List ℕ) (a b : ℕ) (m : Meant) → ltb (digitOf a) 16 ≡ true → ltb (digitOf b) 16 ≡ true
-    → joined (os ++ (digitOf a * 16 + digitOf b) ∷ []) m ≡ joined os (led a b m)
-unfolding led
+    → joined (os ++ (digitOf a * 16 + digitOf b) ∷ []) m ≡ joined os (octetThen a b m)
+unfolding octetThen
 led-joined os a b bad p q = refl
 led-joined os a b (octets ps) p q = rw (p, q) (ap octets (append-assoc os ((digitOf a * 16 + digitOf b) ∷ []) ps))
 
-led-wrong : (os : List ℕ) (a b : ℕ) (m : Meant) → (ltb (digitOf a) 16 && ltb (digitOf b) 16) ≡ false → bad ≡ joined os (led a b m)
-unfolding led
+led-wrong : (os : List ℕ) (a b : ℕ) (m : Meant) → (ltb (digitOf a) 16 && ltb (digitOf b) 16) ≡ false → bad ≡ joined os (octetThen a b m)
+unfolding octetThen
 led-wrong os a b bad p = refl
 led-wrong os a b (octets ps) p = rw p
 
@@ -93,7 +93,7 @@ means-parted (a ∷ []) os = go (leb 16 (digitOf a))
 means-parted (a ∷ b ∷ []) os = go (ltb (digitOf a) 16) (ltb (digitOf b) 16) refl refl
   where
     go : (x y : Bool) → ltb (digitOf a) 16 ≡ x → ltb (digitOf b) 16 ≡ y
-        → judged (step (first os (digitOf a)) b) ≡ joined os (led a b (octets []))
+        → judged (step (first os (digitOf a)) b) ≡ joined os (octetThen a b (octets []))
     go true true p q =
         let x = (digitOf a * 16 + digitOf b) ∷ [] in
         rw (digit-test (digitOf a) p, digit-test (digitOf b) q)
@@ -105,7 +105,7 @@ means-parted (a ∷ b ∷ c ∷ s) os =
   where
     go : (x y z : Bool) → ltb (digitOf a) 16 ≡ x → ltb (digitOf b) 16 ≡ y → eqb c 32 ≡ z
         → judged (steps (parted (os ++ (digitOf a * 16 + digitOf b) ∷ [])) s) ≡ joined (os ++ (digitOf a * 16 + digitOf b) ∷ []) (pairs s)
-        → judged (steps (step (step (first os (digitOf a)) b) c) s) ≡ joined os (cond (eqb c 32) (led a b (pairs s)) bad)
+        → judged (steps (step (step (first os (digitOf a)) b) c) s) ≡ joined os (cond (eqb c 32) (octetThen a b (pairs s)) bad)
     go true true true p q r ih =
         rw (digit-test (digitOf a) p, digit-test (digitOf b) q, r) (ih ∙ led-joined os a b (pairs s) p q)
     go true true false p q r ih = rw (digit-test (digitOf a) p, digit-test (digitOf b) q, r, steps-wrong s)
@@ -221,21 +221,21 @@ module _ (l : Line) (o : List ℕ) (c : ℕ) where
 
 -- ---- so its answer is the line's
 
-reply-long : (os : List ℕ) → 254 < length os → replyTo os ≡ refusedText 3
-unfolding replyTo readOf readWhole
+reply-long : (os : List ℕ) → 254 < length os → textFor os ≡ refusedText 3
+unfolding textFor readOf readWhole
 reply-long os h = rw (lt-ltb 254 (length os) h)
 
 answer-good : (l : Line) (os o : List ℕ) → length o ≡ 254 → Kept os (l .count) o
-    → cond (ltb (length o) (l .count)) (refusedText 3) (replyTo (take (l .count) o)) ≡ replyTo os
+    → cond (ltb (length o) (l .count)) (refusedText 3) (textFor (take (l .count) o)) ≡ textFor os
 answer-good l os o e k = go (ltb (length o) (l .count)) refl
   where
-    go : (b : Bool) → ltb (length o) (l .count) ≡ b → cond b (refusedText 3) (replyTo (take (l .count) o)) ≡ replyTo os
+    go : (b : Bool) → ltb (length o) (l .count) ≡ b → cond b (refusedText 3) (textFor (take (l .count) o)) ≡ textFor os
     go true f =
         let h : 254 < length os = omega (arith, k .count, ltb-true (length o) (l .count) f) in
         sym (reply-long os h)
     go false f =
         let h : length os ≤ 254 = omega (arith, k .count, ltb-false (length o) (l .count) f) in
-        ap replyTo (k .held ∙ take-all 254 os h)
+        ap textFor (k .held ∙ take-all 254 os h)
 
 answer-keeps : (q : Stage) (l : Line) (o : List ℕ) → length o ≡ 254 → Keeps q l o → answerText l o ≡ answerTo (judged q)
 unfolding answerText answerTo judged

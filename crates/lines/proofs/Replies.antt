@@ -16,7 +16,7 @@ use Rattle.types.proofs.Theorems.{refusal, no-offset, read-fits}
 use Rattle.writer.specs.declared.Written.{Written}
 use Rattle.writer.specs.Outcome.{writeOf, leftOf, done}
 use Rattle.lines.specs.Text.{hexText, refusedText}
-use Rattle.lines.specs.Lines.{replyTo}
+use Rattle.lines.specs.Lines.{textFor}
 
 module _ (s : List ℕ) (a : Answer) (e : a ≡ readOf s) where
   -- a refusal's number has two digits at most
@@ -28,12 +28,12 @@ module _ (s : List ℕ) (a : Answer) (e : a ≡ readOf s) where
         | inr x ↦ omega (arith, x .1)
       ]
 
-  pub reply-refused : (a .number ≡ 0 → ⊥) → refusedText (a .number) ≡ replyTo s
-  unfolding replyTo
+  pub reply-refused : (a .number ≡ 0 → ⊥) → refusedText (a .number) ≡ textFor s
+  unfolding textFor
   reply-refused h = rw (← e) (rw (ne-eqb (a .number) 0 h))
 
-  pub reply-accepted : a .number ≡ 0 → hexText (component .write (a .value)) ≡ replyTo s
-  unfolding replyTo
+  pub reply-accepted : a .number ≡ 0 → hexText (component .write (a .value)) ≡ textFor s
+  unfolding textFor
   reply-accepted h = rw (← e) (rw h)
 
   -- the record that was read is the answer's
@@ -73,7 +73,7 @@ module _ (s : List ℕ) (a : Answer) (e : a ≡ readOf s) where
         let l : length q ≡ length x + length (drop (length x) p) = ap length form-left ∙ length-append x (drop (length x) p) in
         (omega (arith, form-count), omega (arith, form-count, form-fits .1))
 
-    pub form-text : hexText (take (w .count) q) ≡ replyTo s
+    pub form-text : hexText (take (w .count) q) ≡ textFor s
     form-text =
         let x = component .write (a .value) in
         let l : take (w .count) q ≡ x = rw (form-count, form-left) (take-append-seam x (drop (length x) p)) in

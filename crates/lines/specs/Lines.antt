@@ -21,17 +21,17 @@ pub data Meant : Type 0 where
   octets : List ℕ → Meant
 
 -- two characters, and what the others mean
-unfoldable pub led : ℕ → ℕ → Meant → Meant
-led a b bad = bad
-led a b (octets os) =
+unfoldable pub octetThen : ℕ → ℕ → Meant → Meant
+octetThen a b bad = bad
+octetThen a b (octets os) =
     cond (ltb (digitOf a) 16 && ltb (digitOf b) 16) (octets ((digitOf a * 16 + digitOf b) ∷ os)) bad
 
 -- two digits, and again after each space
 unfoldable pub pairs : List ℕ → Meant
 pairs [] = bad
 pairs (a ∷ []) = bad
-pairs (a ∷ b ∷ []) = led a b (octets [])
-pairs (a ∷ b ∷ c ∷ s) = cond (eqb c 32) (led a b (pairs s)) bad
+pairs (a ∷ b ∷ []) = octetThen a b (octets [])
+pairs (a ∷ b ∷ c ∷ s) = cond (eqb c 32) (octetThen a b (pairs s)) bad
 
 -- a line with no character has no octets
 unfoldable pub lineOf : List ℕ → Meant
@@ -41,13 +41,13 @@ lineOf (a ∷ s) = pairs (a ∷ s)
 -- ---- the answer to a line
 
 -- the shortest form of the component, or the refusal
-unfoldable pub replyTo : List ℕ → List ℕ
-replyTo os =
+unfoldable pub textFor : List ℕ → List ℕ
+textFor os =
     cond (eqb (readOf os .number) 0) (hexText (component .write (readOf os .value))) (refusedText (readOf os .number))
 
 unfoldable pub answerTo : Meant → List ℕ
 answerTo bad = badText
-answerTo (octets os) = replyTo os
+answerTo (octets os) = textFor os
 
 -- ---- the lines of an input
 

@@ -11,7 +11,7 @@ use Rattle.lines.specs.declared.input.Line.{Line}
 use Rattle.lines.specs.declared.input.Went.{Went}
 use Rattle.lines.specs.declared.Done.{Done}
 use Rattle.lines.specs.Text.{refusedText, badText}
-use Rattle.lines.specs.Lines.{digitOf, replyTo}
+use Rattle.lines.specs.Lines.{digitOf, textFor}
 
 -- ---- a line, as far as it has come
 
@@ -53,7 +53,7 @@ spacedLine l k = cond (eqb k 0) l (madeLine (l .count + k) 1 0)
 unfoldable pub answerText : Line → List ℕ → List ℕ
 answerText l o =
     cond (eqb (l .phase) 0 || eqb (l .phase) 3)
-    (cond (ltb (length o) (l .count)) (refusedText 3) (replyTo (take (l .count) o)))
+    (cond (ltb (length o) (l .count)) (refusedText 3) (textFor (take (l .count) o)))
     badText
 
 -- ---- the input, as far as it has come

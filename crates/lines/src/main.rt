@@ -18,13 +18,13 @@ ghost use mathlib.Core.Bool.{true};
 ghost use Prim.Native.Nat.{_+_, _≤_, _<_};
 ghost use lib.ListN.{length};
 ghost use Rattle.coding.specs.Written.{Wrote};
-ghost use Rattle.lines.specs.Lines.{replyTo};
+ghost use Rattle.lines.specs.Lines.{textFor};
 ghost use Rattle.lines.specs.Machine.{answerText, Ran, Carried};
 
 // The answer to the octets of a line.
 fn answer_to(octets: &[u8], out: &mut [u8; 65536], from: usize) -> usize
     requires { ⌜ from ≤ 64774 ⌝ }
-    ensures { λ r. ⌜ Wrote (now (out .entry)) (now (out .exit)) from (replyTo (now (octets .entry))) r ⌝ }
+    ensures { λ r. ⌜ Wrote (now (out .entry)) (now (out .exit)) from (textFor (now (octets .entry))) r ⌝ }
     ensures { λ r. ⌜ r ≤ from + 762 ⌝ }
 {
     let a = component::read(octets);

@@ -12,7 +12,7 @@ use borrow.Author.Tests.{eqb-true, eq-eqb}
 use Rattle.coding.specs.Reader.{Ans, Fault, after, blamed, enteredAny, lengthAt, closed}
 use Rattle.coding.specs.Reader.Ans.{got, halt}
 use Rattle.coding.specs.Reader.Fault.{missing, unexpected, cut, form, shortest, contents, limit, named}
-use Rattle.coding.specs.Codec.{prim, has, pickRun, leads, frames}
+use Rattle.coding.specs.Codec.{prim, oneOf, pickRun, leads, frames}
 use Rattle.coding.specs.Leaves.{identifier}
 use Rattle.coding.specs.declared.Extent.{Extent}
 use Rattle.coding.proofs.Basic.{followed, or-false}
@@ -30,7 +30,7 @@ abbrev Nameless : Fault → Type 0
 Nameless w = isNamed (numberOf w) ≡ false
 
 unnamed : (w : Fault) → Plain w → Nameless w
-unfolding has
+unfolding oneOf
 unnamed missing a = refl
 unnamed unexpected a = refl
 unnamed cut a = refl
@@ -41,7 +41,7 @@ unnamed limit a = refl
 unnamed (named n) a = absurd a
 
 unnamed-outside : (w : Fault) → Plain w → Nameless (outside w)
-unfolding has
+unfolding oneOf
 unnamed-outside missing a = refl
 unnamed-outside unexpected a = refl
 unnamed-outside cut a = refl
@@ -57,10 +57,10 @@ Stops (got v n) = Unit {0}
 Stops (halt w p) = Nameless w
 
 entered-stops : (s : List ℕ) → Stops (enteredAny tags outside (named 5) s 0 (length s))
-unfolding enteredAny after blamed has
+unfolding enteredAny after blamed oneOf
 entered-stops s =
     pick Stops (leb (length s) 0) _ _ (λ q. refl) (λ q.
-    pick Stops (has tags (getD s 0 0)) _ _ (λ q. go (lengthAt 0 s 1 (length s)) (length-ends 0 s 1 (length s))) (λ q. refl))
+    pick Stops (oneOf tags (getD s 0 0)) _ _ (λ q. go (lengthAt 0 s 1 (length s)) (length-ends 0 s 1 (length s))) (λ q. refl))
   where
     go : (x : Ans Extent) → Lengths 0 x → Stops (after (blamed outside x) (λ v next. cond (eqb next (length s)) (got v next) (halt (named 5) next)))
     go (got v n) h = pick Stops (eqb n (length s)) _ _ (λ q. tt) (λ q. refl)
@@ -76,8 +76,8 @@ module _ (s : List ℕ) (a e : ℕ) where
   abbrev Led : Ans Record → Type 0
   Led r = (k : ℕ → ℕ → Ans Record) × (r ≡ after ((prim 0x02 identifier) .read s a e) k)
 
-  led : (t : ℕ) → has tags t ≡ true → (t ≡ 0xa4 → ⊥) → Led ((frame t) .read s a e)
-  unfolding frame invoke returnResult returnError leads has
+  led : (t : ℕ) → oneOf tags t ≡ true → (t ≡ 0xa4 → ⊥) → Led ((frame t) .read s a e)
+  unfolding frame invoke returnResult returnError leads oneOf
   led t h other = go (eqb t 0xa1) refl (eqb t 0xa2) refl (eqb t 0xa3) refl
     where
       go : (b : Bool) → eqb t 0xa1 ≡ b → (c : Bool) → eqb t 0xa2 ≡ c → (d : Bool) → eqb t 0xa3 ≡ d
@@ -116,12 +116,12 @@ abbrev Each : (ℕ → Type 0) → List ℕ → Type 0
 Each P [] = Unit {0}
 Each P (k ∷ ks) = P k × Each P ks
 
-each-has : (P : ℕ → Type 0) (ks : List ℕ) (n : ℕ) → Each P ks → has ks n ≡ true → P n
-unfolding has
+each-has : (P : ℕ → Type 0) (ks : List ℕ) (n : ℕ) → Each P ks → oneOf ks n ≡ true → P n
+unfolding oneOf
 each-has P [] n a h = absurd (true≢false (sym h))
 each-has P (k ∷ ks) n a h = go (eqb n k) refl h (each-has P ks n (a .1))
   where
-    go : (t : Bool) → eqb n k ≡ t → t || has ks n ≡ true → (has ks n ≡ true → P n) → P n
+    go : (t : Bool) → eqb n k ≡ t → t || oneOf ks n ≡ true → (oneOf ks n ≡ true → P n) → P n
     go true q r rest = subst P (sym (eqb-true n k q)) (a .0)
     go false q r rest = rest r
 
@@ -138,7 +138,7 @@ sent n first i =
 -- where a reply is sent for a refusal that names the component, the component's identifier was read, and the reject is for that identifier
 pub named-reply : (s : List ℕ) → isSilent s ≡ false → isNamed (readOf s .number) ≡ true
     → (i n : ℕ) × (identifierRead s ≡ got i n) × (callerOf (replyTo s) ≡ inr i)
-unfolding isSilent replyTo identifierOf readOf readWhole has
+unfolding isSilent replyTo identifierOf readOf readWhole oneOf
 named-reply s q h = go (ltb 254 (length s)) refl h
   where
     or-left-no : (a b : Bool) → a || b ≡ false → b ≡ false

@@ -8,7 +8,7 @@ use lib.Dec.{leb, eqb}
 use Rattle.coding.specs.Reader.{Ans, after, enteredAny}
 use Rattle.coding.specs.Reader.Ans.{got, halt}
 use Rattle.coding.specs.Reader.Fault.{named}
-use Rattle.coding.specs.Codec.{prim, has}
+use Rattle.coding.specs.Codec.{prim, oneOf}
 use Rattle.coding.specs.Leaves.{identifier}
 use Rattle.types.specs.declared.Record.{Record}
 use Rattle.types.specs.Frames.{outside, rejects, readOf}
@@ -38,7 +38,7 @@ isSilent s = eqb (readOf s .number) 0 || eqb (firstOf s) 0xa4
 
 -- the refusals whose reply names the component
 abbrev pub isNamed : ℕ → Bool
-isNamed n = has (7 ∷ 8 ∷ 40 ∷ 41 ∷ 42 ∷ 43 ∷ 44 ∷ 45 ∷ []) n
+isNamed n = oneOf (7 ∷ 8 ∷ 40 ∷ 41 ∷ 42 ∷ 43 ∷ 44 ∷ 45 ∷ []) n
 
 -- with NULL: refusals 1, 2, 3, 5 general 2; 4 general 0; 6 general 1
 -- with the identifier: 7 invoke 1 (in a result: result 2); 8 error 2; 40 to 45 invoke 2 (in a result: result 2)

@@ -10,11 +10,11 @@ use borrow.Author.Tests.{ltb-true, ltb-false}
 use lib.ListN.{length, getD, take, drop}
 use lib.Dec.{ltb, leb, eqb}
 use Rattle.coding.specs.declared.Extent.{Extent}
-use Rattle.coding.specs.Reader.{Ans, Fault, after, choice, tagged, opened, lengthAt, blamed, closed, enteredAny, judged, Judged, part, primitive}
+use Rattle.coding.specs.Reader.{Ans, Fault, after, choice, tagged, opened, lengthAt, blamed, closed, enteredAny, ruled, Ruling, part, primitive}
 use Rattle.coding.specs.Reader.Ans.{got, halt}
-use Rattle.coding.specs.Reader.Judged.{good, bad}
+use Rattle.coding.specs.Reader.Ruling.{good, bad}
 use Rattle.coding.specs.Reader.Fault.{missing, unexpected, cut, form, shortest, contents, limit, named}
-use Rattle.coding.specs.Codec.{Leaf, Run, has, prim, cons, leads, barring, marked, frames, pickRun}
+use Rattle.coding.specs.Codec.{Leaf, Run, oneOf, prim, cons, leads, barring, marked, frames, pickRun}
 use Rattle.coding.specs.Contents as Contents
 use Rattle.coding.specs.Leaves.{number, given, integer, identifier, listed, listing}
 use Rattle.coding.proofs.Basic.{never, chain, either-way}
@@ -191,11 +191,11 @@ marked-placed {A} f F = record { ends = λ s a e h i. go a e h (f .read s a e) (
 
 -- an element whose contents are not empty has three octets or more
 module _ {A : Type 0} (tag : ℕ) (l : Leaf A) (some : (x : A) → l .judge [] ≡ good x → ⊥) where
-  judged-got : (j : Judged A) (a m n : ℕ) (x : A) → judged j a m ≡ got x n → (j ≡ good x) × (m ≤ n)
-  unfolding judged
+  judged-got : (j : Ruling A) (a m n : ℕ) (x : A) → ruled j a m ≡ got x n → (j ≡ good x) × (m ≤ n)
+  unfolding ruled
   judged-got (good v) a m n x q = (ap value-of q, omega (arith, ap place-of q))
     where
-      value-of : Ans A → Judged A
+      value-of : Ans A → Ruling A
       value-of (got u k) = good u
       value-of (halt w p) = bad w
 
@@ -221,7 +221,7 @@ module _ {A : Type 0} (tag : ℕ) (l : Leaf A) (some : (x : A) → l .judge [] �
           let z : v .stop - v .start ≡ 0 = omega (arith, ltb-false (v .start) (v .stop) b) in
           absurd (some x (sym (ap (λ d. l .judge (take d (drop (v .start) s))) z) ∙ j))
 
-abbrev isBad : Judged ℕ → Type 0
+abbrev isBad : Ruling ℕ → Type 0
 isBad (good v) = ⊥
 isBad (bad w) = Unit {0}
 
@@ -312,7 +312,7 @@ entered-told : (s : List ℕ) → Ends Told 0 (length s) (enteredAny (0xa1 ∷ 0
 unfolding enteredAny after blamed
 entered-told s =
     pick (Ends Told 0 e) (leb e 0) _ _ (λ q. (low e (omega arith) (omega arith), omega arith, omega arith)) (λ q.
-    pick (Ends Told 0 e) (has _ (getD s 0 0)) _ _ (λ q. go (lengthAt 0 s 1 e) refl (length-ends 0 s 1 e)) (λ q. (low 0 (omega arith) (omega arith), omega arith, omega arith)))
+    pick (Ends Told 0 e) (oneOf _ (getD s 0 0)) _ _ (λ q. go (lengthAt 0 s 1 e) refl (length-ends 0 s 1 e)) (λ q. (low 0 (omega arith) (omega arith), omega arith, omega arith)))
   where
     e : ℕ
     e = length s

@@ -11,11 +11,11 @@ use lib.ListN.{length, getD, take, drop}
 use lib.Dec.{ltb, leb, eqb}
 use borrow.Author.Tests.{ltb-true, ltb-false, leb-true, leb-false, eqb-true}
 use Rattle.coding.specs.declared.Extent.{Extent}
-use Rattle.coding.specs.Reader.{Ans, Fault, Judged, after, choice, tagged, neither, extent, numberedAt, endless, marker, turn, searched, findEnd, spanned, lengthAt, opened, blamed, closed, constructed, enteredAny, part, mapped, narrowed, judged, primitive, optional, entries, listOf}
+use Rattle.coding.specs.Reader.{Ans, Fault, Ruling, after, choice, tagged, neither, extent, numberedAt, endless, marker, turn, searched, findEnd, spanned, lengthAt, opened, blamed, closed, constructed, enteredAny, part, mapped, narrowed, ruled, primitive, optional, entries, listOf}
 use Rattle.coding.specs.Reader.Ans.{got, halt}
-use Rattle.coding.specs.Reader.Judged.{good, bad}
+use Rattle.coding.specs.Reader.Ruling.{good, bad}
 use Rattle.coding.specs.Reader.Fault.{missing, unexpected, cut, form, shortest, contents, limit, named}
-use Rattle.coding.specs.Codec.{Leaf, Run, has, prim, cons, nothing, pair, alt, over, shape, canonical, maybe, some·more, leafOver, leads, barring, marked, sort, pickRun}
+use Rattle.coding.specs.Codec.{Leaf, Run, oneOf, prim, cons, nothing, pair, alt, over, shape, canonical, maybe, some·more, leafOver, leads, barring, marked, sort, pickRun}
 use Rattle.coding.specs.Contents.{natural, valueOf, negative, numberFrom, text, every, null}
 use Rattle.coding.specs.Contents as Contents
 use Rattle.coding.specs.Leaves.{number, string, nullLeaf, inOctets, integer, identifier, listing, listed, only}
@@ -43,7 +43,7 @@ Ends P a e (got v n) = (a ≤ n) × (n ≤ e)
 Ends P a e (halt w p) = P w p × (a ≤ p) × (p ≤ e)
 
 -- contents are blamed by faults with the property
-abbrev pub Blames : {A : Type 0} → (Fault → ℕ → Type 0) → Judged A → Type 0
+abbrev pub Blames : {A : Type 0} → (Fault → ℕ → Type 0) → Ruling A → Type 0
 Blames P (good v) = Unit {0}
 Blames P (bad w) = (p : ℕ) → P w p
 
@@ -150,8 +150,8 @@ module _ (P : Fault → ℕ → Type 0) (plain : (w : Fault) (p : ℕ) → Plain
   closed-ends v at end next e a h i j k =
       pick (Ends P a e) (eqb at end) _ _ (λ q. (omega (arith, h, i, j), k)) (λ q. (plain unexpected at tt, h, omega (arith, i, j, k)))
 
-  judged-ends : {A : Type 0} (x : Judged A) (a n e : ℕ) → a ≤ n → n ≤ e → Blames P x → Ends P a e (judged x a n)
-  unfolding judged
+  judged-ends : {A : Type 0} (x : Ruling A) (a n e : ℕ) → a ≤ n → n ≤ e → Blames P x → Ends P a e (ruled x a n)
+  unfolding ruled
   judged-ends (good v) a n e h i b = (h, i)
   judged-ends (bad w) a n e h i b = (b a, omega arith, omega (arith, h, i))
 
@@ -306,7 +306,7 @@ module _ (P : Fault → ℕ → Type 0) (plain : (w : Fault) (p : ℕ) → Plain
   listed-blames u ks b xs =
       pick (Blames P) (Contents.shortest xs) _ _ (λ q.
       pick (Blames P) (ltb 4 (length xs)) _ _ (λ q p. plain contents p tt) (λ q.
-      pick (Blames P) (negative xs) _ _ (λ q. b) (λ q. pick (Blames P) (has ks (numberFrom 0 xs)) _ _ (λ q. tt) (λ q. b))))
+      pick (Blames P) (negative xs) _ _ (λ q. b) (λ q. pick (Blames P) (oneOf ks (numberFrom 0 xs)) _ _ (λ q. tt) (λ q. b))))
       (λ q p. plain shortest p tt)
 
   module _ {A : Type 0} where
@@ -314,7 +314,7 @@ module _ (P : Fault → ℕ → Type 0) (plain : (w : Fault) (p : ℕ) → Plain
     unfolding only narrowed
     only-blames ok l b xs = go (l .judge xs) (b xs)
       where
-        go : (x : Judged A) → Blames P x → Blames P (narrowed ok x)
+        go : (x : Ruling A) → Blames P x → Blames P (narrowed ok x)
         go (good v) h = pick (Blames P) (ok v) _ _ (λ q. tt) (λ q p. plain contents p tt)
         go (bad w) h = h
 
@@ -323,6 +323,6 @@ module _ (P : Fault → ℕ → Type 0) (plain : (w : Fault) (p : ℕ) → Plain
     unfolding leafOver mapped
     leaf-over-blames to from fine l b xs = go (l .judge xs) (b xs)
       where
-        go : (x : Judged A) → Blames P x → Blames P (mapped to x)
+        go : (x : Ruling A) → Blames P x → Blames P (mapped to x)
         go (good v) h = tt
         go (bad w) h = h

@@ -12,7 +12,7 @@ use lib.ListN.{length, getD, take, drop, replicate, length-append, length-replic
 use lib.Seq.{take-at, drop-append-add, length-take-le}
 use lib.Dec.{leb, eqb}
 use borrow.Author.Tests.{eqb-true, eq-eqb, ne-eqb}
-use Rattle.coding.specs.Codec.{Run, simple, prim, cons, pair, sort, maybe, some·more, shape, canonical, over, leafOver, pad, padded, all, has, apart}
+use Rattle.coding.specs.Codec.{Run, simple, prim, cons, pair, sort, maybe, some·more, shape, canonical, over, leafOver, pad, padded, all, oneOf, apart}
 use Rattle.coding.specs.Leaves.{number, isSome}
 use Rattle.coding.specs.Rows.{rows}
 use Rattle.coding.proofs.Basic.{and-left, and-right}
@@ -58,7 +58,7 @@ step-back none = refl
 step-back (some t) = refl
 
 pub durationLaws : RunLaws duration
-unfolding duration money scaled currency shape over pair maybe prim cons apart has
+unfolding duration money scaled currency shape over pair maybe prim cons apart oneOf
 durationLaws =
     consLaws _ _ (canonicalLaws _ (λ r. (moneyOf r, (r .detail, (timeOf r, stepOf r)))) sameRate _ rateEqual
     (λ p v. ap (λ (g : Option Scaled). (p .0, (p .1 .0, (p .1 .1 .0, g)))) (step-back (p .1 .1 .1)))
@@ -69,7 +69,7 @@ unfolding flatRate
 flatRateLaws = consLaws _ _ (canonicalLaws _ moneyOf sameRate _ rateEqual (λ m v. refl) moneyLaws) refl
 
 pub volumeLaws : RunLaws volume
-unfolding volume money scaled currency shape over pair prim cons apart has
+unfolding volume money scaled currency shape over pair prim cons apart oneOf
 volumeLaws =
     consLaws _ _ (canonicalLaws _ (λ r. (moneyOf r, r .detail)) sameRate _ rateEqual (λ p v. refl) (pairLaws _ _ moneyLaws (numberAt _ _ _ (omega arith) refl) refl)) refl
 
@@ -159,7 +159,7 @@ unfolding price
 price-is r v = elim (sort-or _ _ _ _ r v) [ inl w ↦ here 1 r (duration-is r w) | inr w ↦ later 1 r (is2 r w) ]
 
 pub priceLaws : RunLaws price
-unfolding price duration flatRate volume coded plainRate sort canonical over cons prim apart has
+unfolding price duration flatRate volume coded plainRate sort canonical over cons prim apart oneOf
 priceLaws =
     sortLaws 0xa1 (isRate 1) duration from2 durationLaws
     (sortLaws 0xa2 (isRate 2) flatRate from3 flatRateLaws
@@ -178,7 +178,7 @@ no-item : (r : Rate) → r .item ≡ 0 → itemised 0 r ≡ r
 no-item r e = ap (λ (i : ℕ). itemised i r) (sym e)
 
 pub rateLaws : RunLaws rate
-unfolding rate price plainRate sort canonical over prim apart has
+unfolding rate price plainRate sort canonical over prim apart oneOf
 rateLaws =
     consLaws _ _ (canonicalLaws _ (λ r. (r .item, itemised 0 r)) sameRate _ rateEqual
     (λ p v. ap (λ (r : Rate). (p .0, r)) (no-item (p .1) (price-is (p .1) (pair-right _ _ p v) .2 .1)))

@@ -12,7 +12,7 @@ use Rattle.coding.specs.declared.Extent.{Extent}
 use Rattle.coding.specs.Reader.{Ans, after, blamed, closed, lengthAt, enteredAny}
 use Rattle.coding.specs.Reader.Ans.{got, halt}
 use Rattle.coding.specs.Reader.Fault.{unexpected, named}
-use Rattle.coding.specs.Codec.{Element, has, frames}
+use Rattle.coding.specs.Codec.{Element, oneOf, frames}
 use Rattle.coding.proofs.Basic.{picked, unpicked}
 use Rattle.coding.proofs.Header.{element-read, element-range}
 use Rattle.types.specs.declared.Record.{Record}
@@ -40,14 +40,14 @@ module _ (s : List ℕ) (c m : ℕ) (o : Element s 0 c m (length s)) where
   abbrev found : Bool → Ans Extent
   found known = cond known (got (record { start = c; stop = m }) (length s)) (halt (named 4) 0)
 
-  entered : enteredAny tags outside (named 5) s 0 (length s) ≡ found (has tags (getD s 0 0))
+  entered : enteredAny tags outside (named 5) s 0 (length s) ≡ found (oneOf tags (getD s 0 0))
   unfolding enteredAny after blamed
   entered =
       let g = element-range o in
       unpicked _ _ (lt-leb (length s) 0 (omega (arith, g .0, g .1, g .2)))
-      ∙ ap (λ (r : Ans Extent). cond (has tags (getD s 0 0)) (after (blamed outside r) (λ (x : Extent) next. cond (eqb next (length s)) (got x next) (halt (named 5) next))) (halt (named 4) 0))
+      ∙ ap (λ (r : Ans Extent). cond (oneOf tags (getD s 0 0)) (after (blamed outside r) (λ (x : Extent) next. cond (eqb next (length s)) (got x next) (halt (named 5) next))) (halt (named 4) 0))
       (element-read s 0 c m (length s) (length s) (omega arith) o)
-      ∙ ap (λ (r : Ans Extent). cond (has tags (getD s 0 0)) r (halt (named 4) 0)) (picked _ _ (eq-eqb (length s) (length s) refl))
+      ∙ ap (λ (r : Ans Extent). cond (oneOf tags (getD s 0 0)) r (halt (named 4) 0)) (picked _ _ (eq-eqb (length s) (length s) refl))
 
   -- what follows the component's own tag and length octets
   abbrev inner : Ans Extent → Ans Record
@@ -62,7 +62,7 @@ module _ (s : List ℕ) (c m : ℕ) (o : Element s 0 c m (length s)) where
 
   read-fine : Fine (component .read s 0 (length s))
   unfolding component frames
-  read-fine = subst (λ (r : Ans Extent). Fine (inner r)) (sym entered) (inner-fine (has tags (getD s 0 0)))
+  read-fine = subst (λ (r : Ans Extent). Fine (inner r)) (sym entered) (inner-fine (oneOf tags (getD s 0 0)))
 
   -- A part of a Facility element that is one element, of at most 254 octets, is never refused 1, 3 or 5 as a component.
   pub tile-whole : length s ≤ 254 → Whole (readOf s .number)

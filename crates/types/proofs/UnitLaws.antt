@@ -10,7 +10,7 @@ use native.Mathlib.Omega.{arith}
 use lib.ListN.{length, getD}
 use lib.Dec.{leb, eqb}
 use borrow.Author.Tests.{leb-true, ne-eqb}
-use Rattle.coding.specs.Codec.{prim, cons, alt, maybe, some·more, validMaybe, pad, has, apart}
+use Rattle.coding.specs.Codec.{prim, cons, alt, maybe, some·more, validMaybe, pad, oneOf, apart}
 use Rattle.coding.specs.Leaves.{number, or0}
 use Rattle.coding.specs.Rows.{rows}
 use Rattle.coding.proofs.Basic.{and-left}
@@ -40,7 +40,7 @@ units-back (inl u) o v = ap (λ (k : Option ℕ). (inl u, k)) (kind-back o v)
 units-back (inr n) o v = ap (λ (k : Option ℕ). (inr n, k)) (kind-back o v)
 
 pub unitLaws : RunLaws unit
-unfolding unit prim alt maybe number apart has
+unfolding unit prim alt maybe number apart oneOf
 unitLaws =
     consLaws _ _ (canonicalLaws unitsTo unitsFrom sameUnits _ unitsEqual (λ p v. units-back (p .0) (p .1) (pair-right _ _ p v))
     (pairLaws _ _ (altLaws _ _ _ (primLaws _ _ nullLaws refl) (numberAt _ _ _ (omega arith) refl) refl refl refl)

@@ -5,9 +5,9 @@ use mathlib.Core.Path.{_≡_, refl}
 use mathlib.Core.List.{List, [], _∷_, map}
 use lib.ListN.{replicate}
 use lib.Dec.{eqb}
-use Rattle.coding.specs.Reader.{after, tagged, neither, choice, extent, numberedAt, endless, marker, turn, searched, findEnd, spanned, lengthAt, opened, blamed, closed, constructed, enteredAny, part, mapped, narrowed, judged, primitive, optional, entries, listOf}
+use Rattle.coding.specs.Reader.{after, tagged, neither, choice, extent, numberedAt, endless, marker, turn, searched, findEnd, spanned, lengthAt, opened, blamed, closed, constructed, enteredAny, part, mapped, narrowed, ruled, primitive, optional, entries, listOf}
 use Rattle.coding.specs.Contents.{numberFrom, valueOf, negative, shortest, natural, every, text, null}
-use Rattle.coding.specs.Codec.{lengthOctets, has, prim, cons, nothing, pair, alt, over, maybe, some·more, leafOver, leads, barring, marked, sort, frames, shape, canonical, pad, padded}
+use Rattle.coding.specs.Codec.{lengthOctets, oneOf, prim, cons, nothing, pair, alt, over, maybe, some·more, leafOver, leads, barring, marked, sort, frames, shape, canonical, pad, padded}
 use Rattle.coding.specs.Leaves.{digits, width, number, string, nullLeaf, integer, shorten, identifier, listing, listed, only, given}
 use Rattle.coding.specs.Rows.{rows, table}
 use Rattle.types.specs.declared.Money.{Money}
@@ -221,14 +221,14 @@ cases =
 -- ---- the same table by the definitions
 
 unfoldable pub answerOf : List ℕ → Answer
-unfolding after tagged neither choice extent numberedAt endless marker turn searched findEnd spanned lengthAt opened blamed closed constructed enteredAny part mapped narrowed judged primitive optional entries listOf numberFrom valueOf negative shortest natural every text null has prim cons nothing pair alt over maybe some·more leafOver leads barring marked sort frames shape canonical pad padded number string nullLeaf integer identifier listing listed only given rows table scaled currencyLeaf currency money digitsLeaf identified publicParty plainParty party unassociated association unit duration flatRate volume coded plainRate price rate sign inMoney inUnits during subtotals ending settled finals rates arrangement available chargeOf value carrying request argument invoke returnResult failed returnError caller problem problems reject frame component readWhole readOf
+unfolding after tagged neither choice extent numberedAt endless marker turn searched findEnd spanned lengthAt opened blamed closed constructed enteredAny part mapped narrowed ruled primitive optional entries listOf numberFrom valueOf negative shortest natural every text null oneOf prim cons nothing pair alt over maybe some·more leafOver leads barring marked sort frames shape canonical pad padded number string nullLeaf integer identifier listing listed only given rows table scaled currencyLeaf currency money digitsLeaf identified publicParty plainParty party unassociated association unit duration flatRate volume coded plainRate price rate sign inMoney inUnits during subtotals ending settled finals rates arrangement available chargeOf value carrying request argument invoke returnResult failed returnError caller problem problems reject frame component readWhole readOf
 answerOf s = readOf s
 
 unfoldable pub amountOf : Answer → ℕ
 amountOf a = let m : Money = a .value .charge .figure .money in m .number * 10 ^ m .multiplier
 
 unfoldable pub writtenOf : Answer → List ℕ
-unfolding lengthOctets digits width has prim cons nothing pair alt over maybe some·more leafOver leads barring marked sort frames shape canonical pad padded number string nullLeaf shortest shorten identifier listed only given rows table scaled currencyLeaf currency money digitsLeaf identified publicParty plainParty party unassociated association unit duration flatRate volume coded plainRate price rate sign inMoney inUnits during subtotals ending settled finals rates arrangement available chargeOf value carrying request argument invoke returnResult failed returnError caller problem problems reject frame component
+unfolding lengthOctets digits width oneOf prim cons nothing pair alt over maybe some·more leafOver leads barring marked sort frames shape canonical pad padded number string nullLeaf shortest shorten identifier listed only given rows table scaled currencyLeaf currency money digitsLeaf identified publicParty plainParty party unassociated association unit duration flatRate volume coded plainRate price rate sign inMoney inUnits during subtotals ending settled finals rates arrangement available chargeOf value carrying request argument invoke returnResult failed returnError caller problem problems reject frame component
 writtenOf a = cond (eqb (a .number) 0) (component .write (a .value)) []
 
 unfoldable pub tried : Case → Case

@@ -7,7 +7,7 @@ use mathlib.Core.Bool.{Bool, true, false, not, _&&_, _||_, true≢false, cond}
 use mathlib.Core.List.{[], _∷_}
 use lib.Dec.{ltb, eqb}
 use borrow.Author.Tests.{ltb-true, ltb-false, eqb-true, eqb-false, eq-eqb}
-use Rattle.coding.specs.Codec.{has, sort, canonical, over, prim}
+use Rattle.coding.specs.Codec.{oneOf, sort, canonical, over, prim}
 use Rattle.coding.specs.Leaves.{nullLeaf}
 use Rattle.coding.proofs.Basic.{picked, unpicked, and-left, and-right}
 use Rattle.types.specs.declared.Charge.{Charge}
@@ -36,15 +36,15 @@ some-is-not c h = go (sameCharge noCharge c) refl
     go false q = refl
 
 -- a front that a charge follows has an operation from 30 to 36
-known-range : (o : ℕ) → has operations o ≡ true → (30 ≤ o) × (o ≤ 36)
+known-range : (o : ℕ) → oneOf operations o ≡ true → (30 ≤ o) × (o ≤ 36)
 known-range o h = (go (ltb o 30) refl, omega (arith, has-below 37 operations o refl h))
   where
     go : (b : Bool) → ltb o 30 ≡ b → 30 ≤ o
     go true q = absurd (true≢false (sym h ∙ sym (operation-below o (ltb-true o 30 q))))
     go false q = ltb-false o 30 q
 
-only-30 : (o : ℕ) → has (30 ∷ []) o ≡ true → (30 ≤ o) × (o ≤ 36)
-unfolding has
+only-30 : (o : ℕ) → oneOf (30 ∷ []) o ≡ true → (30 ≤ o) × (o ≤ 36)
+unfolding oneOf
 only-30 o h = go (eqb o 30) refl h
   where
     go : (b : Bool) → eqb o 30 ≡ b → b || false ≡ true → (30 ≤ o) × (o ≤ 36)
@@ -54,11 +54,11 @@ only-30 o h = go (eqb o 30) refl h
 module _ (f : Front) (v : frontFine f ≡ true) where
   range-1 : eqb (f .frame) 1 ≡ true → (30 ≤ f .operation) × (f .operation ≤ 36)
   unfolding frontFine
-  range-1 q = known-range (f .operation) (and-left (has operations (f .operation)) _ (rw q at v))
+  range-1 q = known-range (f .operation) (and-left (oneOf operations (f .operation)) _ (rw q at v))
 
   range-2 : eqb (f .frame) 1 ≡ false → eqb (f .frame) 2 ≡ true → (30 ≤ f .operation) × (f .operation ≤ 36)
   unfolding frontFine
-  range-2 q w = only-30 (f .operation) (and-left (has (30 ∷ []) (f .operation)) _ (rw (q, w) at v))
+  range-2 q w = only-30 (f .operation) (and-left (oneOf (30 ∷ []) (f .operation)) _ (rw (q, w) at v))
 
   pub operation-range : charged f ≡ true → (30 ≤ f .operation) × (f .operation ≤ 36)
   operation-range h = go (eqb (f .frame) 1) (eqb (f .frame) 2) refl refl h

@@ -7,7 +7,7 @@ use mathlib.Core.Bool.{Bool, true, false, _&&_}
 use mathlib.Core.List.{List, [], _∷_}
 use lib.Dec.{leb, eqb}
 use borrow.Author.Tests.{lt-ltb, le-leb, eqb-true, eqb-false, eq-eqb, ne-eqb}
-use Rattle.coding.specs.Codec.{has, prim, cons, alt, canonical, over, sort, frames, leads, barring, marked}
+use Rattle.coding.specs.Codec.{oneOf, prim, cons, alt, canonical, over, sort, frames, leads, barring, marked}
 use Rattle.coding.specs.Leaves.{number, nullLeaf, identifier, listed}
 use Rattle.types.specs.declared.Record.{Record}
 use Rattle.types.specs.declared.Charge.{Charge}
@@ -24,20 +24,20 @@ rec k u i o e p d c = record { frame = k; unnamed = u; id = i; operation = o; er
 abbrev tags : List ℕ
 tags = 0xa1 ∷ 0xa2 ∷ 0xa3 ∷ 0xa4 ∷ []
 
-tag-1 : has tags 0xa1 ≡ true
-unfolding has
+tag-1 : oneOf tags 0xa1 ≡ true
+unfolding oneOf
 tag-1 = refl
 
-tag-2 : has tags 0xa2 ≡ true
-unfolding has
+tag-2 : oneOf tags 0xa2 ≡ true
+unfolding oneOf
 tag-2 = refl
 
-tag-3 : has tags 0xa3 ≡ true
-unfolding has
+tag-3 : oneOf tags 0xa3 ≡ true
+unfolding oneOf
 tag-3 = refl
 
-tag-4 : has tags 0xa4 ≡ true
-unfolding has
+tag-4 : oneOf tags 0xa4 ≡ true
+unfolding oneOf
 tag-4 = refl
 
 from-0 : (d : ℕ) → leb 0 d ≡ true
@@ -47,13 +47,13 @@ module _ (u i o e p d : ℕ) (c : Charge) (l : i < 0x10000) where
   valid-request : eqb o 30 ≡ true → component .valid (rec 1 u i o e p d c) ≡ fineOf (frontBy 1 u i o e p d) c
   unfolding component frames frame invoke leads value barring prim listed identifier argument request carrying canonical over marked number frontFine
   valid-request q =
-      rw (tag-1, lt-ltb _ _ l, q, from-0 d) (last-asked (has operations o) (eqb 0 u && (eqb i i && eqb 30 o)) (eqb 0 e && eqb 0 p) (eqb d d) (sameCharge noCharge c) (leb d 2))
+      rw (tag-1, lt-ltb _ _ l, q, from-0 d) (last-asked (oneOf operations o) (eqb 0 u && (eqb i i && eqb 30 o)) (eqb 0 e && eqb 0 p) (eqb d d) (sameCharge noCharge c) (leb d 2))
 
   valid-charge : eqb o 30 ≡ false → component .valid (rec 1 u i o e p d c) ≡ fineOf (frontBy 1 u i o e p d) c
   unfolding component frames frame invoke leads value barring prim listed identifier argument request carrying canonical over marked number frontFine
   valid-charge q =
       rw (tag-1, lt-ltb _ _ l, q)
-      (own-charge (has operations o) (eqb 0 u && (eqb i i && eqb o o)) (eqb 0 e && eqb 0 p) (eqb 0 d) (sameCharge c c) ((chargeOf o) .valid c) (chargeEqual .self c))
+      (own-charge (oneOf operations o) (eqb 0 u && (eqb i i && eqb o o)) (eqb 0 e && eqb 0 p) (eqb 0 d) (sameCharge c c) ((chargeOf o) .valid c) (chargeEqual .self c))
 
   valid-1 : component .valid (rec 1 u i o e p d c) ≡ fineOf (frontBy 1 u i o e p d) c
   valid-1 = go (eqb o 30) refl
@@ -66,12 +66,12 @@ module _ (u i o e p d : ℕ) (c : Charge) (l : i < 0x10000) where
   unfolding component frames frame returnResult leads value barring prim cons listed identifier carrying canonical over marked frontFine
   valid-2 =
       rw (tag-2, lt-ltb _ _ l)
-      (own-charge (has (30 ∷ []) o) (eqb 0 u && (eqb i i && eqb o o)) (eqb 0 e && eqb 0 p) (eqb 0 d) (sameCharge c c) ((chargeOf o) .valid c) (chargeEqual .self c))
+      (own-charge (oneOf (30 ∷ []) o) (eqb 0 u && (eqb i i && eqb o o)) (eqb 0 e && eqb 0 p) (eqb 0 d) (sameCharge c c) ((chargeOf o) .valid c) (chargeEqual .self c))
 
   valid-3 : component .valid (rec 3 u i o e p d c) ≡ fineOf (frontBy 3 u i o e p d) c
   unfolding component frames frame returnError failed leads value barring prim listed identifier canonical over frontFine
   valid-3 =
-      rw (tag-3, lt-ltb _ _ l) (last-asked true (eqb 0 u && (eqb i i && eqb 0 o)) (eqb e e && eqb 0 p) (eqb 0 d) (sameCharge noCharge c) (has errors e))
+      rw (tag-3, lt-ltb _ _ l) (last-asked true (eqb 0 u && (eqb i i && eqb 0 o)) (eqb e e && eqb 0 p) (eqb 0 d) (sameCharge noCharge c) (oneOf errors e))
 
   null-80 : eqb u 1 ≡ true → eqb p 0x80 ≡ true → component .valid (rec 4 u i o e p d c) ≡ fineOf (frontBy 4 u i o e p d) c
   unfolding component frames frame reject leads caller alt prim nullLeaf identifier problems sort problem canonical over number frontFine
@@ -126,8 +126,8 @@ module _ (u i o e p d : ℕ) (c : Charge) (l : i < 0x10000) where
       go false false false true w q0 q1 q2 = named-82 w q0 q1 q2
       go false false false false w q0 q1 q2 = named-83 w q0 q1 q2
 
-outside-tags : (k : ℕ) → eqb k 1 ≡ false → eqb k 2 ≡ false → eqb k 3 ≡ false → eqb k 4 ≡ false → has (0xa1 ∷ 0xa2 ∷ 0xa3 ∷ 0xa4 ∷ []) (0xa0 + k) ≡ false
-unfolding has
+outside-tags : (k : ℕ) → eqb k 1 ≡ false → eqb k 2 ≡ false → eqb k 3 ≡ false → eqb k 4 ≡ false → oneOf (0xa1 ∷ 0xa2 ∷ 0xa3 ∷ 0xa4 ∷ []) (0xa0 + k) ≡ false
+unfolding oneOf
 outside-tags k a b d e =
     simp (
       ne-eqb (0xa0 + k) 0xa1 (λ h. eqb-false k 1 a (omega (arith, h))),

@@ -3,13 +3,13 @@ use Prim.Native.Nat.{_≤_, _<_, _-_, _/_}
 use mathlib.Core.Path.{_≡_, sym, _∙_}
 use native.Mathlib.Omega.{arith}
 use lib.ListN.{length}
-use Rattle.events.specs.Events.{fits, countAt}
+use Rattle.events.specs.Events.{rowsFit, countAt}
 use Rattle.events.proofs.Laws.{fits-short, fits-more, fits-end, fits-start}
 use Rattle.events.proofs.rows_fit.Statement.{statement}
 use Rattle.events.proofs.rows_fit.Tie as tie
 
 abbrev Inv-loop : tie.InvT-loop
-Inv-loop rows total n left₀ i₀ left i = (i ≤ n) × (fits rows i (n - i) left ≡ fits rows 0 n total)
+Inv-loop rows total n left₀ i₀ left i = (i ≤ n) × (rowsFit rows i (n - i) left ≡ rowsFit rows 0 n total)
 
 abbrev μ-loop : tie.MeasureT-loop
 μ-loop rows total n left₀ i₀ left i = n - i
