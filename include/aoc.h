@@ -532,18 +532,18 @@ aoc_outcome aoc_component(aoc_account *account, const uint8_t *octets, size_t le
 aoc_outcome aoc_suspend(aoc_account *account);
 aoc_outcome aoc_resume(aoc_account *account);
 
-/* Inline: they read the account where it stands. The rate of the last AOC_OUTCOME_NEW_RATE or granted S request, the running
+/* Proved. They read the account where it stands. The rate of the last AOC_OUTCOME_NEW_RATE or granted S request, the running
  * figure of the last AOC_OUTCOME_NEW_RUNNING: kind AOC_CHARGE_NONE where there is none. */
-static inline aoc_charge aoc_rate_of(const aoc_account *account);
-static inline aoc_charge aoc_running_of(const aoc_account *account);
+aoc_charge aoc_rate_of(const aoc_account *account);
+aoc_charge aoc_running_of(const aoc_account *account);
 
-/* Inline. The figure to post: none before AOC_PHASE_ENDED; then the final of E, else that of D, else none. */
-static inline aoc_closing aoc_closing_of(const aoc_account *account);
+/* Proved. The figure to post: none before AOC_PHASE_ENDED; then the final of E, else that of D, else none. */
+aoc_closing aoc_closing_of(const aoc_account *account);
 
-/* Inline. The lasting marks; the requests still pending; the phase. */
-static inline aoc_marks aoc_marks_of(const aoc_account *account);
-static inline aoc_pending aoc_pending_of(const aoc_account *account);
-static inline uint8_t aoc_phase_of(const aoc_account *account);
+/* Proved. The lasting marks; the requests still pending; the phase. */
+aoc_marks aoc_marks_of(const aoc_account *account);
+aoc_pending aoc_pending_of(const aoc_account *account);
+uint8_t aoc_phase_of(const aoc_account *account);
 
 /* ------------------------------------------------------------------ a call's event list */
 

@@ -125,51 +125,6 @@ static inline aoc_rate_entry aoc_rate_at(const aoc_charge *charge, size_t index)
     return entry;
 }
 
-/* ------------------------------------------------------------------ one call's account */
-
-static inline aoc_charge aoc_rate_of(const aoc_account *account)
-{
-    return account->rate;
-}
-
-static inline aoc_charge aoc_running_of(const aoc_account *account)
-{
-    return account->running;
-}
-
-static inline aoc_closing aoc_closing_of(const aoc_account *account)
-{
-    aoc_closing closing;
-    memset(&closing, 0, sizeof closing);
-    if (account->phase != AOC_PHASE_ENDED)
-        return closing;
-    if (account->e_final.kind != AOC_CHARGE_NONE) {
-        closing.service = AOC_SERVICE_E;
-        closing.charge = account->e_final;
-    } else if (account->d_final.kind != AOC_CHARGE_NONE) {
-        closing.service = AOC_SERVICE_D;
-        closing.charge = account->d_final;
-    }
-    return closing;
-}
-
-static inline aoc_marks aoc_marks_of(const aoc_account *account)
-{
-    aoc_marks marks = {account->absent, account->conflict};
-    return marks;
-}
-
-static inline aoc_pending aoc_pending_of(const aoc_account *account)
-{
-    aoc_pending pending = {account->asked, 0, account->s, account->d, account->e};
-    return pending;
-}
-
-static inline uint8_t aoc_phase_of(const aoc_account *account)
-{
-    return account->phase;
-}
-
 /* ------------------------------------------------------------------ a call's event list */
 
 static inline void aoc_row_of(aoc_event event, uint16_t count, uint16_t *row)

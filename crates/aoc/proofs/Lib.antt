@@ -1,3 +1,5 @@
 pub mod Lent
 pub mod Whole
 pub mod Moves
+pub mod Reader
+pub mod Readers
