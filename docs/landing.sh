@@ -62,8 +62,7 @@ def declared(text):
             while sections and depth <= sections[-1][0]:
                 sections.pop()
         if head is not None or bare.startswith("module _"):
-            head = (head or (depth, "")) if head is None else head
-            head = (head[0], head[1] + " " + bare)
+            head = (head[0], head[1] + " " + bare) if head else (depth, " " + bare)
             if bare.endswith("where"):
                 sections.append(head)
                 head = None
@@ -101,7 +100,7 @@ def heads(text):
             continue
         if kind is types or line != close:
             kind[taken] += " " + line
-        if line == close or (kind is types and line.endswith(";")) or (kind is functions and start and line.endswith("{")):
+        if line == close or line.endswith(";" if kind is types else "{") and not re.match(r"\s*(requires|ensures) ", line):
             taken = None
     return {n: squeezed(t) for n, t in functions.items()}, {n: squeezed(t) for n, t in types.items()}
 
@@ -184,6 +183,11 @@ def seconds(folder):
     return times
 
 
+def total(times, crates):
+    """Of all crates, or of those that have a log, and how many these are."""
+    return sum(times.values()) if len(times) == len(crates) else f"{sum(times.values())} ({len(times)} crates)" if times else "-"
+
+
 def main():
     sides = [files(before), files(after)]
     names = renamed_crates(*sides)
@@ -245,7 +249,7 @@ def main():
         first, last = ({names.get(c, c): s for c, s in seconds(f).items()} for f in logs)
         order = list(dict.fromkeys([*first, *last]))
         order.sort(key=lambda c: -max(first.get(c, 0), last.get(c, 0)))
-        table(["Crate", "Before", "After"], [*([f"`{c}`", first.get(c, "-"), last.get(c, "-")] for c in order), ["all", sum(first.values()), sum(last.values())]])
+        table(["Crate", "Before", "After"], [*([f"`{c}`", first.get(c, "-"), last.get(c, "-")] for c in order), ["all", *(total(side, order) for side in (first, last))]])
 
 
 if not page:

@@ -3,13 +3,13 @@
 use Prim.Native.Nat.{ℕ, zero, suc, _+_, _-_, _≤_, _<_}
 use mathlib.Core.Path.{_≡_, refl, sym, ap, ap₂, _∙_}
 use mathlib.Core.List.{List, [], _∷_, _++_}
-use mathlib.Core.Bool.{Bool, true, false, _&&_, and-comm, cond}
+use mathlib.Core.Bool.{Bool, true, false, not, _&&_, _||_, and-comm, cond}
 use native.Mathlib.Omega.{arith}
 use native.Mathlib.Numerals.{add-one}
 use lib.ListN.{length, getD, take, drop, replicate, length-take, length-drop, length-replicate, take-append-drop}
 use lib.Seq.{take-all, length-take-le, take-suc}
 use lib.Dec.{ltb, leb, eqb, leb·zero}
-use borrow.Author.Tests.{lt-ltb, le-leb, eq-eqb, ne-eqb, eqb-true, leb-true, leb-false}
+use borrow.Author.Tests.{lt-ltb, le-leb, eq-eqb, ne-eqb, eqb-true, leb-true, leb-false, not-true, not-false}
 use Rattle.coding.specs.Reader.{part}
 use Rattle.coding.specs.Contents.{every}
 use Rattle.coding.specs.Codec.{cons, prim, pair, over, shape, canonical, sort, nothing, leafOver, all, pad, padded, sameList}
@@ -18,9 +18,10 @@ use Rattle.types.specs.declared.Currency.{Currency}
 use Rattle.types.specs.declared.Money.{Money}
 use Rattle.types.specs.declared.Association.{Association}
 use Rattle.types.specs.declared.Scaled.{Scaled}
+use Rattle.types.specs.declared.Figure.{Figure}
 use Rattle.types.specs.Charges.{noMoney, scaled, zeroOctet, currencyLeaf, currency, money, isDigit, isPlan, digitsLeaf, digitsOf, noAssociation, sameAssociation, identified, publicParty, plainParty, party, unassociated, association}
 use Rattle.types.specs.Arguments.{sameMoney}
-use Rattle.put_figures.specs.Fine.{digitsFine}
+use Rattle.put_figures.specs.Fine.{digitsFine, arrangedMarks}
 use Rattle.put_figures.proofs.Truth.{and-assoc, and-true, same-truth, text-order, amount-order, identified-order, digits-order, public-order, plain-order}
 
 -- ---- zeros
@@ -183,3 +184,12 @@ module _ (a : Association) where
   pub association-2 : (a .kind ≡ 0 → ⊥) → (a .kind ≡ 1 → ⊥) → (a .kind ≡ 3 → ⊥) → association .valid a ≡ plainParty .valid a
   unfolding association party cons sort
   association-2 p q r = rw (ne-eqb (a .kind) 1 q, ne-eqb (a .kind) 0 p, ne-eqb (a .kind) 3 r)
+
+-- ---- a special arrangement, where a call has told whether the operation may have one
+
+module _ (o : ℕ) (f : Figure) (r : Bool) (e : r ≡ (eqb o 30 || eqb o 32)) where
+  pub arranged-no : not r ≡ true → false ≡ arrangedMarks o f
+  arranged-no h = rw (← e, not-true r h)
+
+  pub arranged-yes : not r ≡ false → f .total ≡ 0 → 1 ≤ f .arrangement → f .arrangement ≤ 10 → f .billed ≡ 0 → f .billing ≡ 0 → true ≡ arrangedMarks o f
+  arranged-yes h t l m b g = rw (← e, not-false r h, t, le-leb _ _ l, le-leb _ _ m, b, g)

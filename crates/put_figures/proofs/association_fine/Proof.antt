@@ -11,16 +11,24 @@ returns : tie.Need-returns
 returns c = c .no-association .ensures ∙ sym (association-0 (c .before .before .before .args .a) (c .before .if1 .taken))
 
 identified-fine-requires : tie.Need-identified-fine-requires
-identified-fine-requires c κs = c .before .before .before .before .pre
+identified-fine-requires c κs =
+    let c3 = c .before .before .before in
+    c3 .before .pre
 
 returns-2 : tie.Need-returns-2
-returns-2 c = c .identified-fine .ensures ∙ sym (association-1 (c .before .before .before .before .before .args .a) (c .before .if2 .taken))
+returns-2 c =
+    let c3 = c .before .before .before in
+    c .identified-fine .ensures ∙ sym (association-1 (c3 .before .before .args .a) (c .before .if2 .taken))
 
 returns-3 : tie.Need-returns-3
-returns-3 c = c .public-fine .ensures ∙ sym (association-3 (c .before .before .before .before .before .before .before .args .a) (c .before .if3 .taken))
+returns-3 c =
+    let c3 = c .before .before .before in let c6 = c3 .before .before .before in
+    c .public-fine .ensures ∙ sym (association-3 (c6 .before .args .a) (c .before .if3 .taken))
 
 returns-4 : tie.Need-returns-4
-returns-4 c = c .plain-fine .ensures ∙ sym (association-2 (c .before .before .before .before .before .before .before .args .a) (c .before .before .before .before .before .if1 .left) (c .before .before .before .if2 .left) (c .before .if3 .left))
+returns-4 c =
+    let c3 = c .before .before .before in let c6 = c3 .before .before .before in
+    c .plain-fine .ensures ∙ sym (association-2 (c6 .before .args .a) (c3 .before .before .if1 .left) (c .before .before .before .if2 .left) (c .before .if3 .left))
 
 pub association-fine-spec : {M : Type 1} → statement M
 association-fine-spec =

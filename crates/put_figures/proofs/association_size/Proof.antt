@@ -12,19 +12,22 @@ returns c =
 
 returns-2 : tie.Need-returns-2
 returns-2 c =
-    let a = c .before .before .before .before .before .args .a in
+    let c3 = c .before .before .before in
+    let a = c3 .before .before .args .a in
     omega (arith, association-id-length a (c .before .if2 .taken), c .id-width .ensures)
 
 returns-3 : tie.Need-returns-3
 returns-3 c =
-    let s = c .before .before .before .before .before .before .before in
+    let c3 = c .before .before .before in let c6 = c3 .before .before .before in
+    let s = c6 .before in
     let a = s .args .a in
     let r = public-room a (s .pre) (c .if3 .taken) in
     omega (arith, r, association-public-length a (r .1 .0) (r .1 .1) (r .0) (c .if3 .taken))
 
 returns-4 : tie.Need-returns-4
 returns-4 c =
-    let s = c .before .before .before .before .before .before .before in
+    let c3 = c .before .before .before in let c6 = c3 .before .before .before in
+    let s = c6 .before in
     let a = s .args .a in
     let k0 : a .kind ≡ 0 → ⊥ = λ z. omega arith in
     let k1 : a .kind ≡ 1 → ⊥ = λ z. omega arith in

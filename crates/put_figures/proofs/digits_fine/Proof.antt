@@ -10,23 +10,19 @@ use Rattle.put_figures.proofs.Truth.{tests}
 use Rattle.put_figures.proofs.digits_fine.Statement.{statement}
 use Rattle.put_figures.proofs.digits_fine.Tie as tie
 
-returns : tie.Need-returns
-returns c = search (tests, digits-is)
-
-returns-2 : tie.Need-returns-2
-returns-2 c = search (tests, digits-is)
-
 returns-3 : tie.Need-returns-3
 returns-3 c =
-    let b : every (λ x. ltb x 1) (part (c .before .before .before .before .before .args .t1) (c .before .before .before .before .before .args .count) 20) ≡ false = sym (c .before .below .ensures) ∙ not-true _ (c .if3 .taken) in
+    let c3 = c .before .before .before in
+    let b : every (λ x. ltb x 1) (part (c3 .before .before .args .t1) (c3 .before .before .args .count) 20) ≡ false = sym (c .before .below .ensures) ∙ not-true _ (c .if3 .taken) in
     search (tests, digits-is, b)
 
 returns-4 : tie.Need-returns-4
 returns-4 c =
-    let b : every (λ x. ltb x 1) (part (c .before .before .before .before .before .before .before .args .t1) (c .before .before .before .before .before .before .before .args .count) 20) ≡ true = sym (c .before .before .before .below .ensures) ∙ not-false _ (c .before .before .if3 .left) in
+    let c3 = c .before .before .before in let c6 = c3 .before .before .before in
+    let b : every (λ x. ltb x 1) (part (c6 .before .args .t1) (c6 .before .args .count) 20) ≡ true = sym (c .before .before .before .below .ensures) ∙ not-false _ (c .before .before .if3 .left) in
     search (tests, digits-is, b)
 
 pub digits-fine-spec : {M : Type 1} → statement M
 digits-fine-spec =
     tie.close
-    (tie.spec returns returns-2 (search needs) (search needs) returns-3 (search needs) (search needs) returns-4)
+    (tie.spec (λ c. search (tests, digits-is)) (λ c. search (tests, digits-is)) (search needs) (search needs) returns-3 (search needs) (search needs) returns-4)

@@ -17,7 +17,8 @@ association-size-requires c κs =
 
 returns-2 : tie.Need-returns-2
 returns-2 c =
-    let s = c .before .before .before .before in
+    let c3 = c .before .before .before in
+    let s = c3 .before in
     let l : 35 ≤ s .args .operation = omega arith in
     omega (arith, free-ending-length (s .args .operation) (s .args .f) (2 + c .before .association-size .result) l (omega arith), c .sized .ensures .0 0x30)
 

@@ -20,9 +20,10 @@ returns-3 c = rw (c .before .if3 .taken) (c .arranged-marks .ensures)
 returns-4 : tie.Need-returns-4
 unfolding marksFine
 returns-4 c =
+    let c3 = c .before .before .before in
     simp (
-      ne-eqb _ _ (c .before .before .before .before .before .before .if1 .left),
-      ne-eqb _ _ (c .before .before .before .before .if2 .left),
+      ne-eqb _ _ (c3 .before .before .before .if1 .left),
+      ne-eqb _ _ (c3 .before .if2 .left),
       ne-eqb _ _ (c .before .before .if3 .left),
       sym (c .before .bare-kind .ensures) ∙ not-true _ (c .if4 .taken),
     )
@@ -30,9 +31,10 @@ returns-4 c =
 returns-5 : tie.Need-returns-5
 unfolding marksFine
 returns-5 c =
+    let c3 = c .before .before .before in let c6 = c3 .before .before .before in
     simp (
-      ne-eqb _ _ (c .before .before .before .before .before .before .before .if1 .left),
-      ne-eqb _ _ (c .before .before .before .before .before .if2 .left),
+      ne-eqb _ _ (c6 .before .if1 .left),
+      ne-eqb _ _ (c3 .before .before .if2 .left),
       ne-eqb _ _ (c .before .before .before .if3 .left),
       sym (c .before .before .bare-kind .ensures) ∙ not-false _ (c .before .if4 .left),
     )

@@ -17,7 +17,8 @@ returns c =
 
 returns-2 : tie.Need-returns-2
 returns-2 c =
-    let a = c .before .before .before .before .before .args in
+    let c3 = c .before .before .before in
+    let a = c3 .before .before .args in
     let n = c .before .before .before .zero-numbers in
     let z = zeros-array (a .numbers .now) 32 (n .result) (n .ensures) (search needs) in
     let o = zeros-array (a .octets .now) 192 (c .zeros .result) (c .zeros .ensures) (search needs) in

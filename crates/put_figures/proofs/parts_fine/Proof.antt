@@ -17,11 +17,15 @@ unfolding figureFine
 returns-2 c = rw (sym (c .before .before .before .marks-fine .ensures) ∙ not-false _ (c .before .before .if1 .left), sym (c .before .money-by-kind .ensures) ∙ not-true _ (c .if2 .taken))
 
 association-by-kind-requires : tie.Need-association-by-kind-requires
-association-by-kind-requires c κs = c .before .before .before .before .pre .1
+association-by-kind-requires c κs =
+    let c3 = c .before .before .before in
+    c3 .before .pre .1
 
 returns-3 : tie.Need-returns-3
 unfolding figureFine
-returns-3 c = rw (sym (c .before .before .before .before .marks-fine .ensures) ∙ not-false _ (c .before .before .before .if1 .left), sym (c .before .before .money-by-kind .ensures) ∙ not-false _ (c .before .if2 .left)) (c .association-by-kind .ensures)
+returns-3 c =
+    let c3 = c .before .before .before in
+    rw (sym (c3 .before .marks-fine .ensures) ∙ not-false _ (c .before .before .before .if1 .left), sym (c .before .before .money-by-kind .ensures) ∙ not-false _ (c .before .if2 .left)) (c .association-by-kind .ensures)
 
 pub parts-fine-spec : {M : Type 1} → statement M
 parts-fine-spec =

@@ -14,7 +14,8 @@ marks-size-requires c κs =
 
 returns : tie.Need-returns
 returns c =
-    let s = c .before .before .before .before .before in
+    let c3 = c .before .before .before in
+    let s = c3 .before .before in
     let k = c .before .before .before .sized .result + c .before .before .marks-size .result in (
       λ xs e. c .before .sized2 .ensures .0 0x30
           ∙ sym (priced-during-length (s .args .operation) (s .args .f) xs (s .args .n) k e (omega (arith, c .before .before .before .sized .ensures .0 0xa1)) (c .if1 .taken)),
@@ -23,12 +24,14 @@ returns c =
 
 association-size-requires : tie.Need-association-size-requires
 association-size-requires c κs =
-    let s = c .before .before .before .before .before in
+    let c3 = c .before .before .before in
+    let s = c3 .before .before in
     fine-association (s .args .operation) (s .args .f) (s .pre .0)
 
 returns-2 : tie.Need-returns-2
 returns-2 c =
-    let s = c .before .before .before .before .before .before .before in
+    let c3 = c .before .before .before in let c6 = c3 .before .before .before in
+    let s = c6 .before in
     let d = c .before .before .before in
     let k = d .before .before .sized .result + d .before .marks-size .result in (
       λ xs e. c .sized3 .ensures .0 0x30

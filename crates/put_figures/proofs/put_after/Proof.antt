@@ -9,7 +9,8 @@ use Rattle.put_figures.proofs.put_after.Tie as tie
 
 put-marks-requires : tie.Need-put-marks-requires
 put-marks-requires c κs =
-    let s = c .before .before .before .before in
+    let c3 = c .before .before .before in
+    let s = c3 .before in
     let o = s .args .operation in
     let f = s .args .f in
     let z = fine-small o f (s .pre .0) in
@@ -17,12 +18,14 @@ put-marks-requires c κs =
 
 returns : tie.Need-returns
 returns c =
-    let s = c .before .before .before .before .before .before .before in
+    let c3 = c .before .before .before in let c6 = c3 .before .before .before in
+    let s = c6 .before in
     wrote-as (sym (after-during (s .args .operation) (s .args .f) (omega arith))) (c .before .before .put-marks .ensures)
 
 put-marks-requires-2 : tie.Need-put-marks-requires-2
 put-marks-requires-2 c κs =
-    let s = c .before .before .before .before in
+    let c3 = c .before .before .before in
+    let s = c3 .before in
     let o = s .args .operation in
     let f = s .args .f in
     let z = fine-small o f (s .pre .0) in
@@ -30,15 +33,17 @@ put-marks-requires-2 c κs =
 
 put-association-requires : tie.Need-put-association-requires
 put-association-requires c κs =
-    let s = c .before .before .before .before .before .before .before .before in
+    let c3 = c .before .before .before in let c6 = c3 .before .before .before in
+    let s = c6 .before .before in
     let o = s .args .operation in
     let f = s .args .f in
     (fine-association o f (s .pre .0), omega (arith, after-ending-length o f (omega arith), s .pre .1, c .before .before .before .put-marks2 .ensures))
 
 returns-2 : tie.Need-returns-2
 returns-2 c =
-    let s = c .before .before .before .before .before .before .before .before .before .before .before in
-    wrote-as (sym (after-ending (s .args .operation) (s .args .f) (omega arith))) (wrote-both (c .before .before .before .before .before .before .put-marks2 .ensures) (c .before .before .put-association .ensures))
+    let c3 = c .before .before .before in let c6 = c3 .before .before .before in let c9 = c6 .before .before .before in
+    let s = c9 .before .before in
+    wrote-as (sym (after-ending (s .args .operation) (s .args .f) (omega arith))) (wrote-both (c3 .before .before .before .put-marks2 .ensures) (c .before .before .put-association .ensures))
 
 pub put-after-spec : {M : Type 1} → statement M
 put-after-spec =

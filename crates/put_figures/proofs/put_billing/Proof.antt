@@ -15,7 +15,8 @@ put-small-requires c κs =
 
 returns : tie.Need-returns
 returns c =
-    let a = c .before .before .before .before .before .before .args in
+    let c3 = c .before .before .before in
+    let a = c3 .before .before .before .args in
     let e : a .billed ≡ 1 = omega arith in
     wrote-as (sym (billing-some (a .tag) (a .billed) (a .billing) e)) ((c .before .before .put-small) .ensures)
 

@@ -15,7 +15,8 @@ put-billing-requires c κs =
 
 returns : tie.Need-returns
 returns c =
-    let a = c .before .before .before .before .before .before .args in
+    let c3 = c .before .before .before in
+    let a = c3 .before .before .before .args in
     wrote-as (sym (marks-ending (a .operation) (a .f) (omega arith))) ((c .before .before .put-billing) .ensures)
 
 put-small-requires : tie.Need-put-small-requires
@@ -26,14 +27,16 @@ put-small-requires c κs =
 
 put-billing-requires-2 : tie.Need-put-billing-requires-2
 put-billing-requires-2 c κs =
-    let a = c .before .before .before .before .before .before .before .args in
+    let c3 = c .before .before .before in let c6 = c3 .before .before .before in
+    let a = c6 .before .args in
     let t : a .f .total ≤ 1 = omega arith in
     omega (arith, marks-during-length (a .operation) (a .f) (omega arith) t, small-length 0x82 (a .f .total) (omega arith), (c .before .before .before .put-small) .ensures)
 
 returns-2 : tie.Need-returns-2
 returns-2 c =
-    let a = c .before .before .before .before .before .before .before .before .before .before .args in
-    wrote-as (sym (marks-during (a .operation) (a .f) (omega arith))) (wrote-both (c .before .before .before .before .before .before .put-small .ensures) ((c .before .before .put-billing2) .ensures))
+    let c3 = c .before .before .before in let c6 = c3 .before .before .before in let c9 = c6 .before .before .before in
+    let a = c9 .before .args in
+    wrote-as (sym (marks-during (a .operation) (a .f) (omega arith))) (wrote-both (c3 .before .before .before .put-small .ensures) ((c .before .before .put-billing2) .ensures))
 
 pub put-marks-spec : {M : Type 1} → statement M
 put-marks-spec =

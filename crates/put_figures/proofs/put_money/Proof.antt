@@ -10,7 +10,8 @@ use Rattle.put_figures.proofs.put_money.Tie as tie
 
 put-string-requires : tie.Need-put-string-requires
 put-string-requires c κs =
-    let s = c .before .before .before .before .before .before in
+    let c3 = c .before .before .before in
+    let s = c3 .before .before .before in
     let m = s .args .m in
     let d : Scaled = record { number = m .number; scale = m .multiplier } in
     let r = money-room m (s .pre .0) in
@@ -19,7 +20,8 @@ put-string-requires c κs =
 
 put-scaled-requires : tie.Need-put-scaled-requires
 put-scaled-requires c κs =
-    let s = c .before .before .before .before .before .before .before .before .before .before in
+    let c3 = c .before .before .before in let c6 = c3 .before .before .before in let c9 = c6 .before .before .before in
+    let s = c9 .before in
     let m = s .args .m in
     let d : Scaled = record { number = m .number; scale = m .multiplier } in
     let r = money-room m (s .pre .0) in
@@ -37,15 +39,14 @@ put-scaled-requires c κs =
 
 returns : tie.Need-returns
 returns c =
-    let s = c .before .before .before .before .before .before .before .before .before .before .before .before .before in
+    let c3 = c .before .before .before in let c6 = c3 .before .before .before in let c9 = c6 .before .before .before in
+    let c12 = c9 .before .before .before in
+    let s = c12 .before in
     let m = s .args .m in
     let r = money-room m (s .pre .0) in
-    wrote-as (sym (money-write m)) (wrote-both (wrote-as (sym (currency-write 0x81 (m .currency) (omega (arith, r)))) (c .before .before .before .before .before .before .put-string .ensures)) (c .before .before .put-scaled .ensures))
-
-slice-aggregate-put-string : tie.Need-slice-aggregate-put-string
-slice-aggregate-put-string c = search needs
+    wrote-as (sym (money-write m)) (wrote-both (wrote-as (sym (currency-write 0x81 (m .currency) (omega (arith, r)))) (c3 .before .before .before .put-string .ensures)) (c .before .before .put-scaled .ensures))
 
 pub put-money-spec : {M : Type 1} → statement M
 put-money-spec =
     tie.close
-    (tie.spec (search needs) slice-aggregate-put-string put-string-requires put-scaled-requires (search needs) returns)
+    (tie.spec (search needs) (λ c. search needs) put-string-requires put-scaled-requires (search needs) returns)

@@ -7,8 +7,5 @@ use Rattle.put_figures.proofs.sized.Tie as tie
 returns-2 : tie.Need-returns-2
 returns-2 c = (λ tag. omega (arith, lead-two tag (c .before .args .n) (c .if1 .left)), omega arith)
 
-returns : tie.Need-returns
-returns c = search needs
-
 pub sized-spec : {M : Type 1} → statement M
-sized-spec = tie.close (tie.spec (search needs) returns (search needs) returns-2)
+sized-spec = tie.close (tie.spec (search needs) (λ c. search needs) (search needs) returns-2)

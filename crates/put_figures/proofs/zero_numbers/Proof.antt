@@ -35,7 +35,8 @@ loop-less c = omega arith
 
 loop-again : tie.Need-loop-again Inv-loop μ-loop
 loop-again c =
-    let s = c .before .before .before .before .before .args .s .now in
+    let c3 = c .before .before .before in
+    let s = c3 .before .before .args .s .now in
     let l = c .before .before .before .loop in
     (omega arith, zeros-more s (l .i) (l .clear) (c .still .result) (omega arith) (l .inv .1) (c .still .ensures))
 
@@ -47,14 +48,4 @@ returns c =
 pub zero-numbers-spec : {M : Type 1} → statement M
 zero-numbers-spec =
     tie.close
-    (tie.spec
-    Inv-loop
-    μ-loop
-    loop-holds
-    mul-still
-    shared-slice-read-still
-    still-requires
-    add-i
-    loop-less
-    loop-again
-    returns)
+    (tie.spec Inv-loop μ-loop loop-holds mul-still shared-slice-read-still still-requires add-i loop-less loop-again returns)

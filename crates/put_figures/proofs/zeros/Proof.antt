@@ -36,8 +36,9 @@ loop-less c = omega arith
 
 loop-again : tie.Need-loop-again Inv-loop μ-loop
 loop-again c =
-    let s = c .before .before .before .before .before .before .args .s .now in
-    let l = c .before .before .before .before .loop in
+    let c3 = c .before .before .before in
+    let s = c3 .before .before .before .args .s .now in
+    let l = c3 .before .loop in
     (omega arith, zeros-more s (l .i) (l .clear) (c .still .result) (omega arith) (l .inv .1) (c .still .ensures ∙ ap (λ (x : ℕ). l .clear && eqb 0 x) (c .before .wide32 .ensures)))
 
 returns : tie.Need-returns Inv-loop μ-loop
@@ -48,14 +49,4 @@ returns c =
 pub zeros-spec : {M : Type 1} → statement M
 zeros-spec =
     tie.close
-    (tie.spec
-    Inv-loop
-    μ-loop
-    loop-holds
-    shared-slice-read-wide32
-    wide32-requires
-    still-requires
-    add-i
-    loop-less
-    loop-again
-    returns)
+    (tie.spec Inv-loop μ-loop loop-holds shared-slice-read-wide32 wide32-requires still-requires add-i loop-less loop-again returns)

@@ -10,23 +10,18 @@ use Rattle.put_rates.specs.Prices.{amountFine}
 use Rattle.put_rates.proofs.amount_fine.Statement.{statement}
 use Rattle.put_rates.proofs.amount_fine.Tie as tie
 
-money-of-requires : tie.Need-money-of-requires
-money-of-requires c κs = search needs
-
-money-fine-requires : tie.Need-money-fine-requires
-money-fine-requires c κs = search needs
-
 returns : tie.Need-returns
 unfolding amountFine
-returns c = rw (le-leb (c .before .before .before .before .before .before .args .r .kind) 3 (omega arith)) (c .money-fine .ensures ∙ ap (money .valid) (c .before .before .before .before .before .money-of .ensures))
-
-no-money-requires : tie.Need-no-money-requires
-no-money-requires c κs = search needs
+returns c =
+    let c3 = c .before .before .before in
+    rw (le-leb (c3 .before .before .before .args .r .kind) 3 (omega arith)) (c .money-fine .ensures ∙ ap (money .valid) (c3 .before .before .money-of .ensures))
 
 returns-2 : tie.Need-returns-2
 unfolding amountFine
-returns-2 c = rw (lt-leb (c .before .before .before .before .before .before .before .args .r .kind) 3 (omega arith)) (c .no-money .ensures ∙ ap (sameMoney noMoney) (c .before .before .before .before .before .before .money-of .ensures))
+returns-2 c =
+    let c3 = c .before .before .before in let c6 = c3 .before .before .before in
+    rw (lt-leb (c6 .before .args .r .kind) 3 (omega arith)) (c .no-money .ensures ∙ ap (sameMoney noMoney) (c3 .before .before .before .money-of .ensures))
 
 pub amount-fine-spec : {M : Type 1} → statement M
 amount-fine-spec =
-    tie.close (tie.spec money-of-requires money-fine-requires returns no-money-requires returns-2)
+    tie.close (tie.spec (λ c κs. search needs) (λ c κs. search needs) returns (λ c κs. search needs) returns-2)

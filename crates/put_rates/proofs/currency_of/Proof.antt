@@ -58,17 +58,5 @@ returns c = let a = c .before .before .before .args in (refl, c .before .before 
 pub currency-of-spec : {M : Type 1} → statement M
 currency-of-spec =
     tie.close
-    (tie.spec
-    Inv-loop
-    μ-loop
-    loop-holds
-    add-places
-    add-places-2
-    element-copy-out-places
-    array-write-places
-    add-j
-    loop-less
-    loop-again
-    add-t13
-    element-copy-out-t16
+    (tie.spec Inv-loop μ-loop loop-holds add-places add-places-2 element-copy-out-places array-write-places add-j loop-less loop-again add-t13 element-copy-out-t16
     returns)

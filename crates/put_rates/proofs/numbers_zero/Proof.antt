@@ -40,7 +40,8 @@ loop-less c = omega arith
 
 loop-again : tie.Need-loop-again Inv-loop μ-loop
 loop-again c =
-    let s = c .before .before .before .before in
+    let c3 = c .before .before .before in
+    let s = c3 .before in
     let a = s .args in
     let l = c .before .before .before .loop in
     (omega arith, zero-more (a .n) 32 (a .numbers .now) (s .pre .1) (l .j) (l .clear) (c .still .result) (omega arith) (l .inv .1) (c .still .ensures))
@@ -54,16 +55,4 @@ returns c =
 pub numbers-zero-spec : {M : Type 1} → statement M
 numbers-zero-spec =
     tie.close
-    (tie.spec
-    Inv-loop
-    μ-loop
-    loop-holds
-    sub-loop
-    add-still
-    mul-still
-    element-copy-out-still
-    still-requires
-    add-j
-    loop-less
-    loop-again
-    returns)
+    (tie.spec Inv-loop μ-loop loop-holds sub-loop add-still mul-still element-copy-out-still still-requires add-j loop-less loop-again returns)

@@ -42,9 +42,10 @@ loop-less c = omega arith
 
 loop-again : tie.Need-loop-again Inv-loop μ-loop
 loop-again c =
-    let s = c .before .before .before .before .before in
+    let c3 = c .before .before .before in
+    let s = c3 .before .before in
     let a = s .args in
-    let l = c .before .before .before .before .loop in
+    let l = c3 .before .loop in
     let q = c .still .ensures ∙ ap (λ (x : ℕ). l .clear && eqb 0 x) (c .before .wide32 .ensures) in
     (omega arith, zero-more (a .n) 192 (a .octets .now) (s .pre .1) (l .j) (l .clear) (c .still .result) (omega arith) (l .inv .1) q)
 
@@ -57,16 +58,4 @@ returns c =
 pub octets-zero-spec : {M : Type 1} → statement M
 octets-zero-spec =
     tie.close
-    (tie.spec
-    Inv-loop
-    μ-loop
-    loop-holds
-    sub-loop
-    add-wide32
-    element-copy-out-wide32
-    wide32-requires
-    still-requires
-    add-j
-    loop-less
-    loop-again
-    returns)
+    (tie.spec Inv-loop μ-loop loop-holds sub-loop add-wide32 element-copy-out-wide32 wide32-requires still-requires add-j loop-less loop-again returns)

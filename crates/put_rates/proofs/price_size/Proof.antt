@@ -11,12 +11,6 @@ use Rattle.put_rates.proofs.price_size.Tie as tie
 -- `put_rates::price_size` meets its contract.
 -- Assumes nothing.
 
-priced-size-requires : tie.Need-priced-size-requires
-priced-size-requires c κs = search needs
-
-add-result : tie.Need-add-result
-add-result c = search needs
-
 returns : tie.Need-returns
 returns c =
     let r = c .before .before .before .args .r in
@@ -25,12 +19,15 @@ returns c =
 
 returns-2 : tie.Need-returns-2
 returns-2 c =
-    let s = c .before .before .before .before in
+    let c3 = c .before .before .before in
+    let s = c3 .before in
     let v = rate-parts (s .args .r) (s .pre) in
     omega (arith, price-code-length (s .args .r) (omega arith) (omega (arith, v .detail)))
 
 returns-3 : tie.Need-returns-3
-returns-3 c = omega (arith, price-null-length (c .before .before .before .before .args .r) (omega arith))
+returns-3 c =
+    let c3 = c .before .before .before in
+    omega (arith, price-null-length (c3 .before .args .r) (omega arith))
 
 pub price-size-spec : {M : Type 1} → statement M
-price-size-spec = tie.close (tie.spec priced-size-requires add-result returns returns-2 returns-3)
+price-size-spec = tie.close (tie.spec (λ c κs. search needs) (λ c. search needs) returns returns-2 returns-3)

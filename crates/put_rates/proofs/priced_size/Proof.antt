@@ -10,17 +10,8 @@ use Rattle.put_rates.proofs.Octets.{rate-parts, priced-length}
 use Rattle.put_rates.proofs.priced_size.Statement.{statement}
 use Rattle.put_rates.proofs.priced_size.Tie as tie
 
-money-of-requires : tie.Need-money-of-requires
-money-of-requires c κs = search needs
-
 money-size-requires : tie.Need-money-size-requires
 money-size-requires c κs = ap (money .valid) (c .money-of .ensures) ∙ rate-parts (c .before .args .r) (c .before .pre .0) .amount (c .before .pre .1)
-
-terms-size-requires : tie.Need-terms-size-requires
-terms-size-requires c κs = search needs
-
-add-result : tie.Need-add-result
-add-result c = search needs
 
 returns : tie.Need-returns
 returns c =
@@ -30,4 +21,4 @@ returns c =
 pub priced-size-spec : {M : Type 1} → statement M
 priced-size-spec =
     tie.close
-    (tie.spec money-of-requires money-size-requires terms-size-requires add-result returns)
+    (tie.spec (λ c κs. search needs) money-size-requires (λ c κs. search needs) (λ c. search needs) returns)

@@ -28,7 +28,8 @@ rate-of-requires c κs = omega arith
 
 put-rate-requires : tie.Need-put-rate-requires Inv-loop μ-loop
 put-rate-requires c κs =
-    let s = c .before .before .before .before .before in
+    let c3 = c .before .before .before in
+    let s = c3 .before .before in
     let a = s .args in
     let l = c .before .before .before .loop in
     let e = c .before .rate-of .ensures in (
@@ -44,9 +45,10 @@ loop-less c = omega arith
 
 loop-again : tie.Need-loop-again Inv-loop μ-loop
 loop-again c =
-    let a = c .before .before .before .before .before .before .before .before .args in
-    let l = c .before .before .before .before .before .before .loop in
-    (omega arith, wrote-more (rate .write) (rateAt (laid (a .numbers .now) (a .octets .now))) (l .i) (c .before .before .before .before .rate-of .ensures) (l .inv .1) (c .before .before .put-rate .ensures))
+    let c3 = c .before .before .before in let c6 = c3 .before .before .before in
+    let a = c6 .before .before .args in
+    let l = c3 .before .before .before .loop in
+    (omega arith, wrote-more (rate .write) (rateAt (laid (a .numbers .now) (a .octets .now))) (l .i) (c3 .before .rate-of .ensures) (l .inv .1) (c .before .before .put-rate .ensures))
 
 same-length : tie.Need-same-length Inv-loop μ-loop
 same-length c = c .before .loop .inv .1 .kept
@@ -61,14 +63,4 @@ returns c =
 pub put-rates-spec : {M : Type 1} → statement M
 put-rates-spec =
     tie.close
-    (tie.spec
-    Inv-loop
-    μ-loop
-    loop-holds
-    rate-of-requires
-    put-rate-requires
-    add-i
-    loop-less
-    loop-again
-    same-length
-    returns)
+    (tie.spec Inv-loop μ-loop loop-holds rate-of-requires put-rate-requires add-i loop-less loop-again same-length returns)

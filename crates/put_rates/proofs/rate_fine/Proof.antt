@@ -12,41 +12,28 @@ use Rattle.put_rates.proofs.rate_fine.Tie as tie
 returns : tie.Need-returns
 returns c = let r = c .before .before .args .r in rw (rate-is r, lt-leb (r .item) 4 (omega arith))
 
-detail-fine-requires : tie.Need-detail-fine-requires
-detail-fine-requires c κs = search needs
-
 returns-2 : tie.Need-returns-2
 unfolding priceFine
 returns-2 c =
-    let r = c .before .before .before .before .args .r in
+    let c3 = c .before .before .before in
+    let r = c3 .before .args .r in
     rw (rate-is r, le-leb (r .item) 4 (omega arith), sym (c .before .detail-fine .ensures) ∙ not-true _ (c .if2 .taken))
-
-times-fine-requires : tie.Need-times-fine-requires
-times-fine-requires c κs = search needs
 
 returns-3 : tie.Need-returns-3
 unfolding priceFine
 returns-3 c =
-    let r = c .before .before .before .before .before .before .args .r in
+    let c3 = c .before .before .before in
+    let r = c3 .before .before .before .args .r in
     rw (rate-is r, le-leb (r .item) 4 (omega arith), sym (c .before .before .before .detail-fine .ensures) ∙ not-false _ (c .before .before .if2 .left), sym (c .before .times-fine .ensures) ∙ not-true _ (c .if3 .taken))
-
-amount-fine-requires : tie.Need-amount-fine-requires
-amount-fine-requires c κs = search needs
 
 returns-4 : tie.Need-returns-4
 unfolding priceFine
 returns-4 c =
-    let r = c .before .before .before .before .before .before .before .args .r in
-    rw (rate-is r, le-leb (r .item) 4 (omega arith), sym (c .before .before .before .before .detail-fine .ensures) ∙ not-false _ (c .before .before .before .if2 .left), sym (c .before .before .times-fine .ensures) ∙ not-false _ (c .before .if3 .left)) (c .amount-fine .ensures)
+    let c3 = c .before .before .before in let c6 = c3 .before .before .before in
+    let r = c6 .before .args .r in
+    rw (rate-is r, le-leb (r .item) 4 (omega arith), sym (c3 .before .detail-fine .ensures) ∙ not-false _ (c .before .before .before .if2 .left), sym (c .before .before .times-fine .ensures) ∙ not-false _ (c .before .if3 .left)) (c .amount-fine .ensures)
 
 pub rate-fine-spec : {M : Type 1} → statement M
 rate-fine-spec =
     tie.close
-    (tie.spec
-    returns
-    detail-fine-requires
-    returns-2
-    times-fine-requires
-    returns-3
-    amount-fine-requires
-    returns-4)
+    (tie.spec returns (λ c κs. search needs) returns-2 (λ c κs. search needs) returns-3 (λ c κs. search needs) returns-4)

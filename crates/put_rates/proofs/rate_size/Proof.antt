@@ -12,12 +12,6 @@ use Rattle.put_rates.proofs.rate_size.Tie as tie
 -- `put_rates::rate_size` meets its contract.
 -- Assumes nothing.
 
-price-size-requires : tie.Need-price-size-requires
-price-size-requires c κs = search needs
-
-add-result : tie.Need-add-result
-add-result c = search needs
-
 returns : tie.Need-returns
 returns c =
     let r = c .before .args .r in
@@ -26,4 +20,4 @@ returns c =
     omega (arith, n .ensures, small-length 0x0a (r .item) (omega (arith, v .item)), lead-length-short 0x30 (3 + n .result) (omega (arith, n .ensures)), rate-room r v (n .result) (n .ensures .0))
 
 pub rate-size-spec : {M : Type 1} → statement M
-rate-size-spec = tie.close (tie.spec price-size-requires add-result returns)
+rate-size-spec = tie.close (tie.spec (λ c κs. search needs) (λ c. search needs) returns)

@@ -41,7 +41,8 @@ loop-less c = omega arith
 
 loop-again : tie.Need-loop-again Inv-loop μ-loop
 loop-again c =
-    let a = c .before .before .before .before .args in
+    let c3 = c .before .before .before in
+    let a = c3 .before .args in
     omega (arith, c .rate-size .ensures, size-more (rate .write) (rateAt (laid (a .numbers .now) (a .octets .now))) (c .before .before .before .loop .i) (c .before .rate-of .ensures))
 
 returns : tie.Need-returns Inv-loop μ-loop
@@ -54,14 +55,4 @@ returns c =
 pub rates-size-spec : {M : Type 1} → statement M
 rates-size-spec =
     tie.close
-    (tie.spec
-    Inv-loop
-    μ-loop
-    loop-holds
-    rate-of-requires
-    rate-size-requires
-    add-size
-    add-i
-    loop-less
-    loop-again
-    returns)
+    (tie.spec Inv-loop μ-loop loop-holds rate-of-requires rate-size-requires add-size add-i loop-less loop-again returns)

@@ -30,8 +30,9 @@ rate-fine-requires c κs = omega arith
 
 returns : tie.Need-returns Inv-loop μ-loop
 returns c =
-    let a = c .before .before .before .before .before .args in
-    all-stop (rate .valid) (a .n) (rateAt (laid (a .numbers .now) (a .octets .now))) (c .before .before .before .before .loop .i) (c .before .before .rate-of .ensures) (c .before .rate-fine .ensures) (c .if1 .taken) (omega arith)
+    let c3 = c .before .before .before in
+    let a = c3 .before .before .args in
+    all-stop (rate .valid) (a .n) (rateAt (laid (a .numbers .now) (a .octets .now))) (c3 .before .loop .i) (c .before .before .rate-of .ensures) (c .before .rate-fine .ensures) (c .if1 .taken) (omega arith)
 
 add-i : tie.Need-add-i Inv-loop μ-loop
 add-i c = omega arith
@@ -41,8 +42,9 @@ loop-less c = omega arith
 
 loop-again : tie.Need-loop-again Inv-loop μ-loop
 loop-again c =
-    let a = c .before .before .before .before .before .args in
-    let l = c .before .before .before .before .loop in
+    let c3 = c .before .before .before in
+    let a = c3 .before .before .args in
+    let l = c3 .before .loop in
     (omega arith, all-more (rate .valid) (rateAt (laid (a .numbers .now) (a .octets .now))) (l .i) (c .before .before .rate-of .ensures) (c .before .rate-fine .ensures) (c .if1 .left) (l .inv .1))
 
 returns-2 : tie.Need-returns-2 Inv-loop μ-loop
@@ -55,14 +57,4 @@ returns-2 c =
 pub rates-valid-spec : {M : Type 1} → statement M
 rates-valid-spec =
     tie.close
-    (tie.spec
-    Inv-loop
-    μ-loop
-    loop-holds
-    rate-of-requires
-    rate-fine-requires
-    returns
-    add-i
-    loop-less
-    loop-again
-    returns-2)
+    (tie.spec Inv-loop μ-loop loop-holds rate-of-requires rate-fine-requires returns add-i loop-less loop-again returns-2)

@@ -6,17 +6,11 @@ use borrow.Author.Tests.{eq-eqb, ne-eqb}
 use Rattle.put_rates.proofs.step_fine.Statement.{statement}
 use Rattle.put_rates.proofs.step_fine.Tie as tie
 
-scaled-fine-requires : tie.Need-scaled-fine-requires
-scaled-fine-requires c κs = search needs
-
 returns : tie.Need-returns
 returns c = rw (eq-eqb (c .before .before .before .args .r .stepped) 1 (omega arith)) (c .scaled-fine .ensures 0xa5)
-
-no-step-requires : tie.Need-no-step-requires
-no-step-requires c κs = search needs
 
 returns-2 : tie.Need-returns-2
 returns-2 c = rw (ne-eqb (c .before .before .before .args .r .stepped) 1 (λ z. omega arith)) (c .no-step .ensures)
 
 pub step-fine-spec : {M : Type 1} → statement M
-step-fine-spec = tie.close (tie.spec scaled-fine-requires returns no-step-requires returns-2)
+step-fine-spec = tie.close (tie.spec (λ c κs. search needs) returns (λ c κs. search needs) returns-2)

@@ -17,25 +17,20 @@ returns c = omega (arith, ap length (terms-none (c .before .before .args .r) (om
 
 returns-2 : tie.Need-returns-2
 returns-2 c =
-    let s = c .before .before .before .before in
+    let c3 = c .before .before .before in
+    let s = c3 .before in
     let v = rate-parts (s .args .r) (s .pre) in
     omega (arith, terms-unit-length (s .args .r) (omega arith) (omega (arith, v .detail)))
 
 scaled-size-requires : tie.Need-scaled-size-requires
-scaled-size-requires c κs = rate-parts (c .before .before .before .before .args .r) (c .before .before .before .before .pre) .scale
-
-add-result : tie.Need-add-result
-add-result c = search needs
-
-step-size-requires : tie.Need-step-size-requires
-step-size-requires c κs = search needs
-
-add-result-2 : tie.Need-add-result-2
-add-result-2 c = search needs
+scaled-size-requires c κs =
+    let c3 = c .before .before .before in
+    rate-parts (c3 .before .args .r) (c3 .before .pre) .scale
 
 returns-3 : tie.Need-returns-3
 returns-3 c =
-    let s = c .before .before .before .before .before .before in
+    let c3 = c .before .before .before in
+    let s = c3 .before .before .before in
     let r = s .args .r in
     let v = rate-parts r (s .pre) in
     omega (arith, c .step-size .ensures, c .before .scaled-size .ensures .0 0xa4, c .before .scaled-size .ensures .1, small-length 0x83 (r .detail) (omega (arith, v .detail)), terms-room r (λ z. omega arith) (λ z. omega arith))
@@ -43,11 +38,4 @@ returns-3 c =
 pub terms-size-spec : {M : Type 1} → statement M
 terms-size-spec =
     tie.close
-    (tie.spec
-    returns
-    returns-2
-    scaled-size-requires
-    add-result
-    step-size-requires
-    add-result-2
-    returns-3)
+    (tie.spec returns returns-2 scaled-size-requires (λ c. search needs) (λ c κs. search needs) (λ c. search needs) returns-3)

@@ -10,19 +10,17 @@ use Rattle.put_rates.proofs.Prices.{zero-first}
 use Rattle.put_rates.proofs.times_fine.Statement.{statement}
 use Rattle.put_rates.proofs.times_fine.Tie as tie
 
-scaled-fine-requires : tie.Need-scaled-fine-requires
-scaled-fine-requires c κs = search needs
-
 returns : tie.Need-returns
 unfolding timesFine
-returns c = rw (eq-eqb (c .before .before .before .before .args .r .kind) 1 (omega arith), sym (c .before .scaled-fine .ensures 0xa4) ∙ not-true _ (c .if2 .taken))
-
-step-fine-requires : tie.Need-step-fine-requires
-step-fine-requires c κs = search needs
+returns c =
+    let c3 = c .before .before .before in
+    rw (eq-eqb (c3 .before .args .r .kind) 1 (omega arith), sym (c .before .scaled-fine .ensures 0xa4) ∙ not-true _ (c .if2 .taken))
 
 returns-2 : tie.Need-returns-2
 unfolding timesFine
-returns-2 c = rw (eq-eqb (c .before .before .before .before .before .args .r .kind) 1 (omega arith), sym (c .before .before .scaled-fine .ensures 0xa4) ∙ not-false _ (c .before .if2 .left)) (c .step-fine .ensures)
+returns-2 c =
+    let c3 = c .before .before .before in
+    rw (eq-eqb (c3 .before .before .args .r .kind) 1 (omega arith), sym (c .before .before .scaled-fine .ensures 0xa4) ∙ not-false _ (c .before .if2 .left)) (c .step-fine .ensures)
 
 returns-3 : tie.Need-returns-3
 unfolding timesFine
@@ -32,24 +30,14 @@ returns-4 : tie.Need-returns-4
 unfolding timesFine
 returns-4 c = search (tests, zero-first)
 
-no-step-requires : tie.Need-no-step-requires
-no-step-requires c κs = search needs
-
 returns-5 : tie.Need-returns-5
 unfolding timesFine
 returns-5 c =
-    let r = c .before .before .before .before .before .before .before .args .r in
+    let c3 = c .before .before .before in let c6 = c3 .before .before .before in
+    let r = c6 .before .args .r in
     rw (ne-eqb (r .kind) 1 (λ z. omega arith), eq-eqb 0 (r .scale) (omega arith), eq-eqb 0 (r .time) (omega arith)) (c .no-step .ensures)
 
 pub times-fine-spec : {M : Type 1} → statement M
 times-fine-spec =
     tie.close
-    (tie.spec
-    scaled-fine-requires
-    returns
-    step-fine-requires
-    returns-2
-    returns-3
-    returns-4
-    no-step-requires
-    returns-5)
+    (tie.spec (λ c κs. search needs) returns (λ c κs. search needs) returns-2 returns-3 returns-4 (λ c κs. search needs) returns-5)

@@ -6,18 +6,12 @@ use borrow.Author.Needs.{needs}
 use Rattle.put_rates.proofs.unused_zero.Statement.{statement}
 use Rattle.put_rates.proofs.unused_zero.Tie as tie
 
-numbers-zero-requires : tie.Need-numbers-zero-requires
-numbers-zero-requires c κs = search needs
-
 returns : tie.Need-returns
 returns c = rw (sym (c .before .numbers-zero .ensures) ∙ not-true _ (c .if1 .taken))
-
-octets-zero-requires : tie.Need-octets-zero-requires
-octets-zero-requires c κs = search needs
 
 returns-2 : tie.Need-returns-2
 returns-2 c = rw (sym (c .before .before .numbers-zero .ensures) ∙ not-false _ (c .before .if1 .left)) (c .octets-zero .ensures)
 
 pub unused-zero-spec : {M : Type 1} → statement M
 unused-zero-spec =
-    tie.close (tie.spec numbers-zero-requires returns octets-zero-requires returns-2)
+    tie.close (tie.spec (λ c κs. search needs) returns (λ c κs. search needs) returns-2)
