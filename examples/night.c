@@ -175,6 +175,14 @@ static void take_line(const char *line)
 
 /* ------------------------------------------------------------------ figures */
 
+static void print_currency(const aoc_currency *currency)
+{
+    for (int i = 0; i < currency->count; i++) {
+        uint8_t c = currency->octets[i];
+        putchar(c >= 0x20 && c < 0x7F ? c : '?');
+    }
+}
+
 static void print_charge(const aoc_charge *charge)
 {
     char text[TEXT];
@@ -199,7 +207,13 @@ static void print_postings(void)
         if (closing.service == AOC_SERVICE_NONE)
             continue;
         printf("  room %s  call %u  ", calls[i].room, calls[i].number);
-        print_charge(&closing.charge);
+        aoc_priced price = aoc_price(closing);
+        if (price.refusal == AOC_ACCEPTED && !price.is_free) {
+            print_currency(&price.currency);
+            printf(" %.3f", price.quotient);
+        } else {
+            print_charge(&closing.charge);
+        }
         putchar('\n');
     }
 }

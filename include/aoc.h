@@ -53,6 +53,8 @@ extern "C" {
     ROW(AOC_REFUSED_WRONG_PHASE, 14, "an event that is not allowed in this phase")                     \
     ROW(AOC_REFUSED_BAD_ELEMENT, 15, "a malformed Facility element")                                   \
     ROW(AOC_REFUSED_BAD_PLACE, 16, "a place where no component begins")                                \
+    ROW(AOC_REFUSED_UNIT_LIST, 38, "a closing figure in units")                                        \
+    ROW(AOC_REFUSED_NO_CLOSING, 39, "no closing figure")                                               \
     ROW(AOC_REFUSED_LENGTHS, 48, "lengths that do not add up")                                         \
     AOC_ARGUMENT_REFUSALS(ROW)
 
@@ -575,6 +577,21 @@ typedef struct {
 /* Proved. Of a call that starts with no event and goes through the list: the first reason, in the order above, that holds, and
  * its earliest event; of AOC_REASON_PRICED the event that gave the closing figure. `numbers` is six times the rows. */
 aoc_why_answer aoc_why(const uint16_t *rows, size_t numbers, const uint8_t *octets, size_t length);
+
+/* ------------------------------------------------------------------ prices as doubles */
+
+typedef struct {
+    uint32_t refusal;           /* AOC_ACCEPTED, or a refusal: then the rest is zero */
+    uint8_t is_free;            /* 1 for free: then the rest is zero */
+    aoc_currency currency;      /* as received, spaces too */
+    double thousandths;         /* exact */
+    double quotient;            /* thousandths / 1000.0, rounded once */
+} aoc_priced;
+
+/* Proved. A closing figure for a screen that takes doubles. AOC_REFUSED_NO_CLOSING where its service is AOC_SERVICE_NONE, then
+ * AOC_REFUSED_BAD_RECORD where the service is not D's or E's, or the charge is none or could not be written under that service,
+ * then AOC_REFUSED_UNIT_LIST. */
+aoc_priced aoc_price(aoc_closing closing);
 
 #include "aoc_parts.h"
 

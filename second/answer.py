@@ -6,6 +6,7 @@ E <hex>                  Facility element <number> <count> <starts, comma separa
 N <place> <hex>          one of its places <number> <offset> <the place after> <1 at the end> <packed record>
 J <room> <hex>           reject in reply  <number> <count> <hex>
 T <number> <multiplier>  thousandths      <thousandths>
+P <service> <charge>     price            <number> <free> <count> <currency> <bits of the thousandths> <bits of the quotient>
 A <event>;<event>;...    account          outcome,service,phase,rate,running,closing,its service,marks,pending,identifiers;...
 D <event>;~<event>;...   the same of a list from which the events with ~ are left out: here the whole list is judged, and the answers
                          of the events that remain are given; the library is given those events alone
@@ -20,6 +21,7 @@ import sys
 import zlib
 
 import aoc
+import price
 import why
 
 NO_RECORD = "00" * 376
@@ -56,6 +58,11 @@ def answer_reply(rest):
 def answer_thousandths(rest):
     number, multiplier = map(int, rest.split(" "))
     return str(aoc.thousandths(number, multiplier))
+
+
+def answer_price(rest):
+    service, packed = rest.split(" ")
+    return price.answer(int(service), aoc.unpack(bytes(8) + bytes.fromhex(packed)).charge)
 
 
 def do(account, event):
@@ -103,7 +110,8 @@ def answer_why(rest):
 
 
 ANSWERS = {"R": answer_read, "W": answer_write, "E": answer_element, "J": answer_reply,
-           "T": answer_thousandths, "N": answer_next, "A": answer_account, "D": answer_account, "Y": answer_why}
+           "T": answer_thousandths, "N": answer_next, "A": answer_account, "D": answer_account, "Y": answer_why,
+           "P": answer_price}
 
 
 def answer(line):

@@ -1042,6 +1042,18 @@ def dropped_input(rng, length):
     return "D " + ";".join(events)
 
 
+# ---------------------------------------------------------------- closing figures
+
+def closing_input(rng, orderly):
+    """A service and a charge: in range, damaged in order, damaged at random, of another operation."""
+    operation = rng.choice((33, 34, 35, 36))
+    record = make_record(rng, (1, operation, rng.choice((1, 2 + (operation % 2 == 0), 2 + (operation % 2 == 0)))))
+    chance = rng.random()
+    packed = next(orderly) if chance < 0.3 else spoil_record(rng, record) if chance < 0.5 else aoc.pack(record)
+    service = 2 + (operation > 34) if rng.random() < 0.9 else rng.choice((0, 1, 2, 3, 4, 258, 0xFFFFFFFF))
+    return f"P {service} {packed[8:].hex()}"
+
+
 # ---------------------------------------------------------------- the mix
 
 def component_source(rng):
@@ -1055,10 +1067,10 @@ def component_source(rng):
 def lines(seed, count):
     rng = random.Random(seed)
     octets = component_source(rng)
-    records = record_sweep(rng)
+    records, charges = record_sweep(rng), record_sweep(rng)
     turn = counting()
     for _ in range(count):
-        kind = rng.choices("RWENJTADY", (38, 20, 4, 5, 8, 1, 22, 5, 12))[0]
+        kind = rng.choices("RWENJTADYP", (38, 20, 4, 5, 8, 1, 22, 5, 12, 3))[0]
         if kind == "R":
             yield "R " + next(octets).hex()
         elif kind == "W":
@@ -1070,6 +1082,8 @@ def lines(seed, count):
         elif kind == "J":
             room = rng.choice((254, 254, rng.randint(0, 10), rng.randint(6, 9)))
             yield f"J {room} {next(octets).hex()}"
+        elif kind == "P":
+            yield closing_input(rng, charges)
         elif kind == "T":
             yield f"T {number(rng)} {rng.choice((0, 1, 2, 3, 4, 5, 6, 6, 7, 8, 255))}"
         elif kind == "Y":

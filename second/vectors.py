@@ -10,6 +10,7 @@ import sys
 import answer
 import aoc
 import inputs
+import price
 import why
 from aoc import D, E, S
 
@@ -488,6 +489,53 @@ def dropped():
             check(f"{what} without noise", getattr(part, what), getattr(whole, what))
 
 
+def closing(charge, service, **fields):
+    """A closing figure of D or E, with some fields of its figure or of its money set otherwise."""
+    figure = charge.figure
+    if service == price.D and figure.kind != aoc.FREE:
+        figure.total = 1
+    for name, value in fields.items():
+        setattr(figure if hasattr(figure, name) else figure.money, name, value)
+    return service, charge
+
+
+def euros(number, service, text=b"EUR", multiplier=0, **fields):
+    return closing(inputs.amount(text, number, multiplier), service, **fields)
+
+
+def prices():
+    D, E = price.D, price.E
+    half, ZERO = ("407f400000000000", "3fe0000000000000"), "0" * 16
+    identified = aoc.Association(kind=aoc.BY_IDENTIFIER, id=3)
+    refused = lambda number: f"{number} 0 0 {'00' * 10} {ZERO} {ZERO}"
+    free = f"0 1 0 {'00' * 10} {ZERO} {ZERO}"
+
+    def costs(value, quotient, text=b"EUR"):
+        return f"0 0 {len(text)} {text.ljust(10, bytes(1)).hex()} {value} {quotient}"
+
+    for case, given, wanted in (
+            ("a", euros(500, D), costs(*half)),
+            ("b", euros(50, E, b"EUR ", 1), costs(*half, b"EUR ")),
+            ("c", euros(1, D), costs("3ff0000000000000", "3f50624dd2f1a9fc")),
+            ("d", euros(9, D), costs("4022000000000000", "3f826e978d4fdf3b")),
+            ("e", euros(16777215, E, multiplier=6, billed=1, billing=7), costs("42ae847fe17b8000", "420f3fffe0c00000")),
+            ("f", euros(0, D, multiplier=6), costs(ZERO, ZERO)),
+            ("g", closing(inputs.no_charge(), D), free),
+            ("h", closing(inputs.no_charge(), E, association=identified), free),
+            ("i", closing(inputs.units((12, 0)), E), refused(38)),
+            ("j", closing(inputs.units((12, 17)), E), refused(10)),
+            ("k", (0, aoc.Charge()), refused(39)),
+            ("l", (0, euros(16777216, D)[1]), refused(39)),
+            ("m", (1, euros(500, D)[1]), refused(10)),
+            ("n", (258, euros(500, D)[1]), refused(10)),
+            ("o", euros(500, D, kind=0), refused(10)),
+            ("p", euros(16777216, D), refused(10)),
+            ("q", euros(500, D, billed=1, billing=3), refused(10)),
+            ("r", closing(inputs.no_charge(), D, number=1), refused(10)),
+            ("s", euros(500, D, total=0), costs(*half))):
+        check(f"price {case}", price.answer(*given), wanted)
+
+
 def line_program():
     given = (C3_LOOSE.hex(" ").upper() + "\nA1 80 02 01 05 02 01 1E 0A 01 01 00 00\n"
              + C7.hex(" ").lower() + "\n")
@@ -541,6 +589,7 @@ def main():
     parked()
     dropped()
     passes()
+    prices()
     line_program()
     generated(count)
     print(f"{passed} passed, {failed} failed")

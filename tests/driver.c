@@ -124,6 +124,24 @@ static void answer_thousandths(const char *rest)
     printf("%llu", (unsigned long long)aoc_thousandths(number, (uint8_t)strtoul(next, &next, 10)));
 }
 
+static void answer_price(const char *rest)
+{
+    char *next;
+    aoc_closing c;
+    c.service = (uint32_t)strtoul(rest, &next, 10);
+    if (unhex(next + 1, octets) != sizeof c.charge) {
+        fputs("not a charge", stdout);
+        return;
+    }
+    memcpy(&c.charge, octets, sizeof c.charge);
+    aoc_priced p = aoc_price(c);
+    uint64_t doubles[2];
+    memcpy(doubles, &p.thousandths, sizeof doubles);
+    printf("%u %u %u ", (unsigned)p.refusal, p.is_free, p.currency.count);
+    put_hex(p.currency.octets, sizeof p.currency.octets);
+    printf(" %016llx %016llx", (unsigned long long)doubles[0], (unsigned long long)doubles[1]);
+}
+
 static uint32_t crc(const void *from, size_t n)
 {
     static uint32_t table[256];
@@ -268,6 +286,9 @@ int main(void)
             break;
         case 'Y':
             answer_why(line + 2);
+            break;
+        case 'P':
+            answer_price(line + 2);
             break;
         default:
             fputs("not a line", stdout);

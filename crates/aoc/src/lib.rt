@@ -24,6 +24,7 @@ ghost use Rattle.account.specs.Step.{requestsOf, steppedOf, closingOf, marksOf}
 ghost use Rattle.account.specs.Outcome.{Connect, Clear, Released, Component, Suspend, Resume};
 ghost use Rattle.aoc.specs.Events.{plainEvent, setupEvent, Took};
 ghost use Rattle.aoc.specs.Reading.{Told};
+ghost use Rattle.price.specs.Price.{priceOf};
 
 // ---- components
 
@@ -315,4 +316,14 @@ pub extern "C" fn aoc_why(rows: &[u16], octets: &[u8]) -> why::Reason
     ensures { λ r. ⌜ r ≡ whyOf (now (rows .entry)) (now (octets .entry)) ⌝ }
 {
     why::why(rows, octets)
+}
+
+// ---- closing figures
+
+#[no_mangle]
+pub extern "C" fn aoc_price(c: account::Closing) -> price::Priced
+    ensures { λ r. ⌜ r ≡ priceOf (c .service) (c .value) ⌝ }
+{
+    let charge = c.value;
+    price::price(c.service, charge)
 }

@@ -11,7 +11,9 @@ returns c = simp (ne-eqb _ _ (λ z. c .if1 .taken (c .before .before .thousandth
 
 returns-2 : tie.Need-returns-2
 unfolding equalMoney
-returns-2 c = simp (eq-eqb _ _ (sym (c .before .before .before .before .before .thousandths .ensures .0) ∙ c .before .before .before .if1 .left ∙ c .before .before .before .before .thousandths2 .ensures .0)) (c .same-currency .ensures)
+returns-2 c =
+    let t = c .before .before .before in
+    simp (eq-eqb _ _ (sym (t .before .before .thousandths .ensures .0) ∙ t .if1 .left ∙ t .before .thousandths2 .ensures .0)) (c .same-currency .ensures)
 
 pub same-money-spec : {M : Type 1} → statement M
 same-money-spec =
