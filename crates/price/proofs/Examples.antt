@@ -5,7 +5,7 @@ use mathlib.Core.List.{List, [], _∷_, map}
 use lib.Ieee.{binary64, ofBits, ofInt, round}
 use Rattle.coding.specs.Contents.{every}
 use Rattle.coding.specs.Codec.{prim, cons, nothing, pair, alt, over, maybe, some·more, leafOver, marked, sort, shape, canonical, pad, padded}
-use Rattle.coding.specs.Leaves.{number, string, nullLeaf, signed16, identifier, listing, listed, only, given}
+use Rattle.coding.specs.Leaves.{number, string, nullLeaf, integer, identifier, listing, listed, only, given}
 use Rattle.coding.specs.Rows.{rows, table}
 use Rattle.types.specs.declared.Money.{Money}
 use Rattle.types.specs.declared.Charge.{Charge}
@@ -93,6 +93,6 @@ wanted =
 pub cases-right : map (λ (p : ℕ × Charge). priceOf (p .0) (p .1)) tried ≡ wanted
 unfolding
     tried wanted priceOf inRange asDouble quotientOf ofBits ofInt round every prim cons nothing pair alt over maybe some·more leafOver marked sort shape canonical pad padded
-    number string nullLeaf signed16 identifier listing listed only given rows table scaled currencyLeaf currency money digitsLeaf identified publicParty plainParty party
+    number string nullLeaf integer identifier listing listed only given rows table scaled currencyLeaf currency money digitsLeaf identified publicParty plainParty party
     unassociated association unit sign inMoney inUnits during subtotals ending settled finals rates arrangement available chargeOf
 cases-right = refl
