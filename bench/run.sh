@@ -10,7 +10,7 @@ work=$(mktemp -d) || exit 2
 trap 'rm -rf "$work"' EXIT
 
 sh tools/archive && "${CC:-cc}" -O2 bench/echo.c -o "$work/echo" || exit 1
-[ -x target/bin/lines ] || rt check lines >"$work/log" 2>&1 || { echo "bench: the line program is not built"; exit 1; }
+sh tools/prove lines || exit 1
 if [ "$(uname -m)" = x86_64 ]; then
     built="the archive itself" lines=target/bin/lines
     sh tools/cc "$work/ours" bench/bench.c bench/ours.c || exit 1

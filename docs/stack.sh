@@ -1,6 +1,6 @@
 #!/bin/sh
 # sh docs/stack.sh          prints, for each function of the archive, the most octets of stack that a call of it takes, as the table of
-#                           docs/HOST.md: its return address, its own frame and the deepest of what it calls; memcpy and memset apart.
+#                           docs/HOST.md: its return address, its own frame and the deepest of what it calls; those of the C library apart (memcpy, memmove, memset).
 # sh docs/stack.sh write    puts that table into docs/HOST.md.
 # The frames are read off the machine code (objdump or llvm-objdump): pushes and what is taken off the stack pointer. After a jump or a
 # return the depth counts as the function's deepest so far, so a figure may be too high and not too low.
@@ -16,7 +16,7 @@ grep -q '%rsp' "$work/code" 2>/dev/null || { echo "stack: no objdump that reads 
 python3 - "$work/code" >"$work/table" <<'END' || exit 1
 import re, sys
 
-APART = {"memcpy", "memset"}
+APART = {"memcpy", "memmove", "memset"}
 frames, calls, name, at_call = {}, {}, None, None
 depth = deepest = 0
 for line in open(sys.argv[1]):

@@ -31,7 +31,7 @@ END
 }
 differences "the library" "$work/inputs" "$work/second" "$work/library" || exit 1
 
-[ -x target/bin/lines ] || rt check lines >"$work/log" 2>&1 || { tail -n 5 "$work/log"; echo "compare: the line program is not built"; exit 1; }
+sh tools/prove lines || exit 1
 python3 tests/line_inputs.py "$seed" "$work/inputs" "$work/text" "$work/second" || exit 1
 sh tools/exec target/bin/lines <"$work/text" >"$work/ours" || exit 1
 differences "the line program" "$work/text" "$work/second" "$work/ours" || exit 1
