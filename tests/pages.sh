@@ -1,0 +1,115 @@
+#!/bin/sh
+# The pages say what the tree has: what each crate stands on, the lines of each file of definitions, which of them are to be believed,
+# the exports, the names in backticks, the must-fail edits, the links.
+cd "$(dirname "$0")/.." || exit 2
+exec python3 - <<'PYTHON'
+import glob
+import os
+import re
+import sys
+
+wrong = []
+
+
+def text(path):
+    with open(path, encoding="utf-8") as file:
+        return file.read()
+
+
+def tell(page, what):
+    wrong.append(f"{page}: {what}")
+
+
+def differ(page, what, said, true):
+    for name in sorted(set(said) ^ set(true)):
+        tell(page, f"{what}: {name} is {'not there' if name in said else 'not named'}")
+
+
+ARCHITECTURE, TRUST, CONTRACTS = "docs/ARCHITECTURE.md", "docs/TRUST.md", "docs/CONTRACTS.md"
+
+# ---- what a crate stands on
+stands = {}
+for line in text("crates.txt").splitlines():
+    if ":" in line.split("#")[0]:
+        name, below = line.split("#")[0].split(":")
+        stands[name.strip()] = below.split()
+said = {}
+for line in text(ARCHITECTURE).splitlines():
+    cells = [cell.strip() for cell in line.split("|")]
+    if len(cells) == 6 and re.fullmatch(r"`[a-z_]+`", cells[2]):
+        said[cells[2].strip("`")] = re.findall(r"`([a-z_]+)`", cells[4])
+differ(ARCHITECTURE, "crate", said, stands)
+for name in stands:
+    if said.get(name, stands[name]) != stands[name]:
+        tell(ARCHITECTURE, f"{name} stands on {' '.join(stands[name]) or 'nothing'}")
+
+# ---- the files of definitions: those to be believed, with their lines, and those that only help
+files = {path[len("crates/"):] for path in glob.glob("crates/*/specs/*.antt") if not path.endswith("/Lib.antt")}
+believed = {name: int(lines) for name, lines in re.findall(r"^\| `([a-z_]+/specs/[A-Za-z]+\.antt)` \| (\d+) \|", text(TRUST), re.M)}
+helping = re.findall(r"^- `([a-z_]+/specs/[A-Za-z]+\.antt)`", text(TRUST), re.M)
+differ(TRUST, "file", set(believed) | set(helping), files)
+for name in sorted(set(believed) & set(helping)):
+    tell(TRUST, f"{name} is in both lists")
+for name, lines in believed.items():
+    if name not in files:
+        continue
+    body = text("crates/" + name)
+    if body.count("\n") != lines:
+        tell(TRUST, f"{name} has {body.count(chr(10))} lines, not {lines}")
+    for crate, file in re.findall(r"^use Rattle·([a-z_]+)(?:·specs)?\.specs\.([A-Za-z]+)\.\{", body, re.M):
+        if f"{crate}/specs/{file}.antt" in files - set(believed):
+            tell(TRUST, f"{name} is to be believed and cites {crate}/specs/{file}.antt, which is not")
+
+audit = re.findall(r"^\| `([a-z_]+/specs/[A-Za-z]+\.antt)` \| \d+ \|", text("docs/AUDIT.md"), re.M)
+differ("docs/AUDIT.md", "file", audit, believed)
+
+# ---- the exports
+exports = re.findall(r'extern "C" fn (aoc_\w+)', text("crates/aoc/src/lib.rt"))
+table = "".join(line + "\n" for line in text(ARCHITECTURE).splitlines() if line.startswith("| `") and "`aoc_" in line)
+inline = re.findall(r"static inline [^;{]*?\b(aoc_\w+)\(", text("include/aoc.h"))
+differ(ARCHITECTURE, "export", set(re.findall(r"`(aoc_\w+)`", table)) - set(inline), exports)
+
+# ---- the must-fail edits
+edits = {"/".join((path.split("/")[1], path.split("/")[3][: -len(".edit")])) for path in glob.glob("crates/*/must-fail/*.edit")}
+named = {name for name in re.findall(r"`([a-z_]+/[a-z_0-9]+)`", text(CONTRACTS)) if name.split("/")[1] not in ("src", "specs", "proofs")}
+differ(CONTRACTS, "edit", named, edits)
+
+# ---- names in backticks
+code = {crate: "\n".join(text(path) for path in glob.glob(f"crates/{crate}/src/**/*.rt", recursive=True)) for crate in stands}
+words = set()
+for pattern in ("crates/**/*.rt", "crates/**/*.antt", "include/*", "tests/*", "second/*.py", "examples/*", "bench/*", "tools/*", "docs/*.sh"):
+    for path in glob.glob(pattern, recursive=True):
+        if os.path.isfile(path):
+            words.update(re.findall(r"[^\W\d][\w'·-]*", text(path)))
+            words.add(os.path.basename(path).split(".")[0])
+words.update(folder for path in glob.glob("crates/**/", recursive=True) for folder in path.split("/"))
+pages = sorted(glob.glob("docs/*.md")) + ["README.md", "second/README.md"]
+for page in pages:
+    if page == "docs/EDITS.md":
+        continue
+    prose = re.sub(r"^```.*?^```", "", text(page), flags=re.M | re.S)
+    for quoted in set(re.findall(r"`([^`\n]+)`", prose)):
+        of = re.match(r"([a-z_]+)::(\w+)", quoted)
+        if of and of[1] in code:
+            if not re.search(rf"\b(fn|struct|const|mod)\s+{of[2]}\b", code[of[1]]):
+                tell(page, f"no {quoted}")
+        elif re.fullmatch(r"[^\W\d][\w-]{2,}", quoted) and quoted not in words:
+            tell(page, f"no name {quoted}")
+
+# ---- links, and files that are named by their path
+for page in pages + sorted(glob.glob("docs/landings/*.md")):
+    for link in re.findall(r"\]\(([^)#:]+)\)", text(page)):
+        if not os.path.exists(os.path.join(os.path.dirname(page), link)):
+            tell(page, f"no page {link}")
+for page in pages:
+    for path in set(re.findall(r"`([a-z_]+/(?:specs|proofs|src)/[\w/]+\.(?:antt|rt))`", text(page))):
+        if not os.path.exists("crates/" + path):
+            tell(page, f"no file {path}")
+    for path in set(re.findall(r"`((?:docs|tests|tools|second|examples|bench|include)/[\w./-]+\.\w+)`", text(page))):
+        if not os.path.exists(path):
+            tell(page, f"no file {path}")
+
+print("\n".join(wrong), end="\n" if wrong else "")
+print(f"pages: {len(pages)}, {len(stands)} crates, {len(files)} files of definitions, {len(edits)} edits, {len(exports)} exports; {len(wrong)} wrong")
+sys.exit(1 if wrong or len(believed) < 20 or len(edits) < 100 else 0)
+PYTHON
