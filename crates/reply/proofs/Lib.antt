@@ -2,4 +2,4 @@ pub mod Ids
 pub mod Silence
 pub mod Replies
 pub mod Before
-pub mod Named
+pub mod Caller
