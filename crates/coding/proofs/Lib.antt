@@ -28,3 +28,5 @@ pub mod Own
 pub mod Rows
 pub mod Shortcut
 pub mod Small
+pub mod Tests
+pub mod Room

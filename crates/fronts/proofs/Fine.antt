@@ -6,7 +6,7 @@ use mathlib.Core.Bool.{Bool, true, false, not, _&&_, or-false, cond}
 use lib.Dec.{leb, eqb}
 use borrow.Author.Tests.{ne-eqb, not-true, not-false}
 use Rattle.coding.specs.Codec.{oneOf}
-use Rattle.fronts.proofs.Tests.{and-assoc, and-true, eqb-self}
+use Rattle.coding.proofs.Tests.{and-assoc, and-true, eqb-self}
 use Rattle.types.specs.Frames.{operations, errors}
 use Rattle.fronts.specs.declared.Front.{Front}
 use Rattle.fronts.specs.Fronts.{frontFine, called, problemFine}

@@ -74,7 +74,8 @@ module _ (o : ℕ) (f : Figure) where
   ended-split xs = go (ltb o 35)
     where
       go : (t : Bool) → cond t (framed o f xs) (element 0x30 (framed o f xs ++ association .write (f .association)))
-          ≡ cond t (frameLead o f (length xs)) (lead 0x30 (length (frameLead o f (length xs)) + length xs + length (marks o f) + length (association .write (f .association))) ++ frameLead o f (length xs))
+          ≡ cond t (frameLead o f (length xs)) (lead 0x30 (length (frameLead o f (length xs)) + length xs + length (marks o f) + length
+          (association .write (f .association))) ++ frameLead o f (length xs))
           ++ (xs ++ cond t (marks o f) (marks o f ++ association .write (f .association)))
       go true = framed-split xs
       go false =
@@ -123,7 +124,13 @@ module _ (o : ℕ) (f : Figure) where
   unfolding bareKind
   bare-small h =
       let g = simp truth at (and-right (bareKind o (f .kind)) (unmarked f) h) in
-      record { total = omega (arith, g); billing = omega (arith, g); arrangement = omega (arith, g); kind = few (eqb (f .kind) 0) (eqb (f .kind) 1) (eqb (f .kind) 4) refl refl refl (and-left (bareKind o (f .kind)) (unmarked f) h) }
+      record {
+        total = omega (arith, g);
+        billing = omega (arith, g);
+        arrangement = omega (arith, g);
+        kind = few (eqb (f .kind) 0) (eqb (f .kind) 1)
+            (eqb (f .kind) 4) refl refl refl (and-left (bareKind o (f .kind)) (unmarked f) h);
+      }
     where
       few : (p q r : Bool) → eqb (f .kind) 0 ≡ p → eqb (f .kind) 1 ≡ q → eqb (f .kind) 4 ≡ r → cond p true (cond q (leb 33 o) (cond r (leb o 31) false)) ≡ true → f .kind ≤ 5
       few true q r e₀ e₁ e₄ z = omega (arith, eqb-true (f .kind) 0 e₀)

@@ -19,10 +19,12 @@ use Rattle.types.specs.declared.Money.{Money}
 use Rattle.types.specs.declared.Association.{Association}
 use Rattle.types.specs.declared.Scaled.{Scaled}
 use Rattle.types.specs.declared.Figure.{Figure}
-use Rattle.types.specs.Charges.{noMoney, scaled, zeroOctet, currencyLeaf, currency, money, isDigit, isPlan, digitsLeaf, digitsOf, noAssociation, sameAssociation, identified, publicParty, plainParty, party, unassociated, association}
+use Rattle.types.specs.Charges.{noMoney, scaled, zeroOctet, currencyLeaf, currency, money, isDigit, isPlan, digitsLeaf}
+use Rattle.types.specs.Charges.{digitsOf, noAssociation, sameAssociation, identified, publicParty, plainParty, party, unassociated, association}
 use Rattle.types.specs.Arguments.{sameMoney}
 use Rattle.put_figures.specs.Fine.{digitsFine, arrangedMarks}
-use Rattle.put_figures.proofs.Truth.{and-assoc, and-true, same-truth, text-order, amount-order, identified-order, digits-order, public-order, plain-order}
+use Rattle.coding.proofs.Tests.{and-assoc, and-true}
+use Rattle.put_figures.proofs.Truth.{same-truth, text-order, amount-order, identified-order, digits-order, public-order, plain-order}
 
 -- ---- zeros
 

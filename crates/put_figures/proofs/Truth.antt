@@ -3,14 +3,15 @@
 use Prim.Native.Nat.{ℕ, zero, suc, _+_, _-_, _≤_}
 use mathlib.Core.Path.{_≡_, refl, sym, subst, _∙_}
 use mathlib.Core.List.{List}
-use mathlib.Core.Bool.{Bool, true, false, _&&_, and-comm}
+use mathlib.Core.Bool.{Bool, true, false, _&&_}
 use mathlib.Core.Logic.{_↔_}
 use native.Mathlib.Omega.{arith}
 use lib.Dec.{leb, eqb}
-use borrow.Author.Tests.{leb-true, le-leb, lt-leb, eqb-true, eq-eqb, ne-eqb}
+use borrow.Author.Tests.{leb-true, le-leb, eqb-true, eq-eqb}
 use Rattle.coding.specs.Codec.{sameList}
 use Rattle.coding.proofs.Basic.{and-left, and-right, and-both}
 use Rattle.coding.proofs.Padded.{eqbEqual, listEqual}
+use Rattle.coding.proofs.Tests.{ands}
 
 -- two tests are the same if each says what the other says
 pub same-truth : (a b : Bool) → (a ≡ true → b ≡ true) → (b ≡ true → a ≡ true) → a ≡ b
@@ -23,26 +24,6 @@ pub as-test : {a b x : Bool} → b ≡ a → x ≡ a → x ≡ b
 as-test e p = p ∙ sym e
 
 -- ---- in any order
-
-pub and-assoc : (a b c : Bool) → (a && b) && c ≡ a && (b && c)
-and-assoc true b c = refl
-and-assoc false b c = refl
-
-and-past : (a b c : Bool) → a && (b && c) ≡ b && (a && c)
-and-past true true c = refl
-and-past true false c = refl
-and-past false true c = refl
-and-past false false c = refl
-
-pub and-true : (a : Bool) → a && true ≡ a
-and-true true = refl
-and-true false = refl
-
-pub and-false : (a : Bool) → a && false ≡ false
-and-false true = refl
-and-false false = refl
-
-ruleset ands = (and-assoc, and-past, and-comm, and-true, and-false)
 
 -- a test of equality of charges, and a test of what it holds: the kind first, then the small fields, money and association, and the list
 pub fields : (m a k t d b r n e v : Bool)
@@ -108,16 +89,6 @@ pub list-iff : (xs ys : List ℕ) → (sameList eqb xs ys ≡ true) ↔ (xs ≡ 
 list-iff xs ys = (listEqual eqb eqbEqual .equal xs ys, λ e. rw (← e) (listEqual eqb eqbEqual .self xs))
 
 pub ruleset truth = (and-iff, eqb-iff, leb-iff, list-iff)
-
--- ---- the tests of the code, whose numbers may stand the other way round in a type's test
-
-pub eq-eqb' : (a b : ℕ) → a ≡ b → eqb b a ≡ true
-eq-eqb' a b e = eq-eqb b a (sym e)
-
-pub ne-eqb' : (a b : ℕ) → (a ≡ b → ⊥) → eqb b a ≡ false
-ne-eqb' a b h = ne-eqb b a (λ e. h (sym e))
-
-pub ruleset tests = (eq-eqb, ne-eqb, eq-eqb', ne-eqb', le-leb, lt-leb, and-false, and-true)
 
 -- ---- by the kind, by the operation
 

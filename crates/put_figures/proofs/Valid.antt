@@ -21,9 +21,11 @@ use Rattle.types.specs.declared.Charge.{Charge}
 use Rattle.types.specs.Charges.{flag, money, association, noMoney, noAssociation, sameAssociation}
 use Rattle.types.specs.Entries.{noEntries, unitAt, unit, unitRows, unitList}
 use Rattle.types.specs.Rates.{rateAt, rate, rateRows, rateList}
-use Rattle.types.specs.Arguments.{bare, plain, listFigure, arranged, sameMoney, sameEntries, sameCharge, sign, inMoney, inUnits, moneyFigure, totalled, associated, billingOf, during, subtotals, ending, settled, finals, rates, arrangement, available, chargeOf}
+use Rattle.types.specs.Arguments.{bare, plain, listFigure, arranged, sameMoney, sameEntries, sameCharge, sign, inMoney, inUnits, moneyFigure}
+use Rattle.types.specs.Arguments.{totalled, associated, billingOf, during, subtotals, ending, settled, finals, rates, arrangement, available, chargeOf}
 use Rattle.put_figures.specs.Fine.{billingFine, unbilled, unmarked, bareKind, marksFine, moneyFine, associationFine, figureFine, unitsFine, ratesFine, entriesFine}
-use Rattle.put_figures.proofs.Truth.{same-truth, fields, mark-last, mark-next, arranged-order, money-order, list-order, last-order, and-true, kinds, operations, whole-order, unlisted-order}
+use Rattle.coding.proofs.Tests.{and-true}
+use Rattle.put_figures.proofs.Truth.{same-truth, fields, mark-last, mark-next, arranged-order, money-order, list-order, last-order, kinds, operations, whole-order, unlisted-order}
 
 eqb-self : (n : ℕ) → eqb n n ≡ true
 eqb-self n = eqbEqual .self n
@@ -64,7 +66,8 @@ inMoney-is : (c : Charge) → inMoney .valid c
 unfolding inMoney canonical over
 inMoney-is c =
     fields-of (plain (moneyFigure (c .figure .money))) c (money .valid (c .figure .money))
-    ∙ ap (λ (t : Bool). eqb 2 (c .figure .kind) && ((unmarked (c .figure) && (t && sameAssociation noAssociation (c .figure .association))) && (noList c && money .valid (c .figure .money)))) (money-self (c .figure .money))
+    ∙ ap (λ (t : Bool). eqb 2 (c .figure .kind) && ((unmarked (c .figure) && (t && sameAssociation noAssociation (c .figure .association))) &&
+    (noList c && money .valid (c .figure .money)))) (money-self (c .figure .money))
 
 -- a list's figure says how many entries it has
 counted : {A : Type 0} (n : ℕ) (g : ℕ → A) → eqb (length (table n g)) n ≡ true
@@ -75,14 +78,16 @@ unfolding inUnits canonical over unitsFine
 inUnits-is c =
     let xs = unitList (c .entries) (c .figure .count) in
     fields-of (record { figure = listFigure 3 (length xs); entries = unitRows xs }) c ((some·more 0x30 32 unit) .valid xs)
-    ∙ ap (λ (t : Bool). eqb 3 (c .figure .kind) && ((unmarked (c .figure) && bareParts c) && ((t && sameEntries (unitRows xs) (c .entries)) && (some·more 0x30 32 unit) .valid xs))) (counted (c .figure .count) (unitAt (c .entries)))
+    ∙ ap (λ (t : Bool). eqb 3 (c .figure .kind) && ((unmarked (c .figure) && bareParts c) &&
+    ((t && sameEntries (unitRows xs) (c .entries)) && (some·more 0x30 32 unit) .valid xs))) (counted (c .figure .count) (unitAt (c .entries)))
 
 rates-is : (c : Charge) → rates .valid c ≡ eqb 4 (c .figure .kind) && ((unmarked (c .figure) && bareParts c) && ratesFine (c .entries) (c .figure .count))
 unfolding rates cons canonical over ratesFine
 rates-is c =
     let xs = rateList (c .entries) (c .figure .count) in
     fields-of (record { figure = listFigure 4 (length xs); entries = rateRows xs }) c ((some·more 0x30 10 rate) .valid xs)
-    ∙ ap (λ (t : Bool). eqb 4 (c .figure .kind) && ((unmarked (c .figure) && bareParts c) && ((t && sameEntries (rateRows xs) (c .entries)) && (some·more 0x30 10 rate) .valid xs))) (counted (c .figure .count) (rateAt (c .entries)))
+    ∙ ap (λ (t : Bool). eqb 4 (c .figure .kind) && ((unmarked (c .figure) && bareParts c) &&
+    ((t && sameEntries (rateRows xs) (c .entries)) && (some·more 0x30 10 rate) .valid xs))) (counted (c .figure .count) (rateAt (c .entries)))
 
 abbrev arrangedFine : Charge → Bool
 arrangedFine c = leb 1 (c .figure .arrangement) && leb (c .figure .arrangement) 10
@@ -137,7 +142,8 @@ module _ (c : Charge) (most : ℕ) (total : Bool) where
       ≡ eqb 2 (c .figure .kind) && ((priced most total c && (money .valid (c .figure .money) && sameAssociation noAssociation (c .figure .association))) && noList c)
   money-is =
       ap (λ (t : Bool). t && (total && billingFine most (c .figure))) (inMoney-is (totalled 0 0 0 c))
-      ∙ money-order (eqb 2 (c .figure .kind)) (eqb 0 (c .figure .arrangement)) (sameAssociation noAssociation (c .figure .association)) (noList c) (money .valid (c .figure .money)) total (billingFine most (c .figure))
+      ∙ money-order (eqb 2 (c .figure .kind)) (eqb 0 (c .figure .arrangement)) (sameAssociation noAssociation (c .figure .association)) (noList c)
+      (money .valid (c .figure .money)) total (billingFine most (c .figure))
 
   units-is : inUnits .valid (totalled 0 0 0 c) && (total && billingFine most (c .figure))
       ≡ eqb 3 (c .figure .kind) && ((priced most total c && bareParts c) && unitsFine (c .entries) (c .figure .count))
@@ -163,10 +169,12 @@ module _ (c : Charge) where
       ∙ last-order (eqb 2 (c .figure .kind)) (priced 7 (eqb 0 (c .figure .total)) c) (money .valid (c .figure .money)) (noList c) (association .valid (c .figure .association))
 
   units-last : (ending inUnits) .valid alone && association .valid (c .figure .association)
-      ≡ eqb 3 (c .figure .kind) && ((priced 7 (eqb 0 (c .figure .total)) c && (sameMoney noMoney (c .figure .money) && association .valid (c .figure .association))) && unitsFine (c .entries) (c .figure .count))
+      ≡ eqb 3 (c .figure .kind) && ((priced 7 (eqb 0 (c .figure .total)) c && (sameMoney noMoney (c .figure .money) && association .valid
+      (c .figure .association))) && unitsFine (c .entries) (c .figure .count))
   units-last =
       ap (λ (t : Bool). t && association .valid (c .figure .association)) (ending-is inUnits alone ∙ units-is alone 7 (eqb 0 (c .figure .total)))
-      ∙ last-order (eqb 3 (c .figure .kind)) (priced 7 (eqb 0 (c .figure .total)) c) (sameMoney noMoney (c .figure .money)) (unitsFine (c .entries) (c .figure .count)) (association .valid (c .figure .association))
+      ∙ last-order (eqb 3 (c .figure .kind)) (priced 7 (eqb 0 (c .figure .total)) c) (sameMoney noMoney (c .figure .money)) (unitsFine (c .entries) (c .figure .count))
+      (association .valid (c .figure .association))
 
 -- ---- by the kind and the operation
 

@@ -16,7 +16,7 @@ use Rattle.coding.specs.Written.{Wrote, lead, fullNumber}
 use Rattle.coding.proofs.Basic.{and-left, picked, unpicked}
 use Rattle.coding.proofs.Writing.{cons-write, prim-write, number-write, number-length, wrote-element, wrote-as, wrote-both}
 use Rattle.put_figures.proofs.Sizes.{element-length}
-use Rattle.put_figures.proofs.Truth.{and-true, and-false}
+use Rattle.coding.proofs.Tests.{and-true, and-false}
 use Rattle.coding.proofs.Small.{null-length, small-length}
 use Rattle.types.specs.declared.Units.{Units}
 use Rattle.types.specs.Entries.{unit}

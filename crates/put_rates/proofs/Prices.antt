@@ -3,7 +3,7 @@
 use Prim.Native.Nat.{ℕ, _≤_}
 use mathlib.Core.Path.{_≡_, refl, sym, ap, _∙_}
 use mathlib.Core.List.{List}
-use mathlib.Core.Bool.{Bool, true, false, _&&_, and-comm}
+use mathlib.Core.Bool.{Bool, true, false, _&&_}
 use native.Mathlib.Omega.{arith}
 use lib.ListN.{replicate}
 use lib.Dec.{leb, eqb, leb·zero}
@@ -15,7 +15,8 @@ use Rattle.types.specs.declared.Rate.{Rate}
 use Rattle.types.specs.Charges.{flag, noMoney, scaled, money}
 use Rattle.types.specs.Rates.{scaledOr0, moneyOf, timeOf, stepOf, duration, flatRate, volume, coded, plainRate, price, itemised, rate}
 use Rattle.types.specs.Arguments.{sameMoney}
-use Rattle.put_figures.proofs.Truth.{same-truth, and-assoc, and-true, and-false, kinds}
+use Rattle.coding.proofs.Tests.{and-true, ands}
+use Rattle.put_figures.proofs.Truth.{same-truth, kinds}
 use Rattle.put_rates.specs.Prices.{detailFine, unstepped, stepFine, timesFine, amountFine, priceFine}
 
 pub eqb-self : (n : ℕ) → eqb n n ≡ true
@@ -27,14 +28,6 @@ list-self xs = listEqual eqb eqbEqual .self xs
 -- a test against zero, either way round
 pub zero-first : (n : ℕ) → eqb 0 n ≡ eqb n 0
 zero-first n = same-truth (eqb 0 n) (eqb n 0) (λ h. eq-eqb n 0 (sym (eqb-true 0 n h))) (λ h. eq-eqb 0 n (sym (eqb-true n 0 h)))
-
-and-past : (a b c : Bool) → a && (b && c) ≡ b && (a && c)
-and-past true true c = refl
-and-past true false c = refl
-and-past false true c = refl
-and-past false false c = refl
-
-ruleset ands = (and-assoc, and-past, and-comm, and-true, and-false)
 
 -- ---- the orders in which a type's tests are met and those in which they are made
 

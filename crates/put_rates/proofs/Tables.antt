@@ -17,7 +17,7 @@ use Rattle.coding.specs.Rows.{rows, table}
 use Rattle.coding.proofs.Basic.{and-left, and-right, and-both, and-no}
 use Rattle.coding.proofs.Writing.{wrote-as, wrote-both}
 use Rattle.coding.proofs.Rows.{table-length, table-more, rows-append}
-use Rattle.put_figures.proofs.Truth.{and-false}
+use Rattle.coding.proofs.Tests.{and-false}
 use Rattle.put_figures.proofs.Tests.{zeros-more, zeros-whole}
 use Rattle.types.specs.Arguments.{sameEntries}
 use Rattle.put_figures.specs.Fine.{laid}

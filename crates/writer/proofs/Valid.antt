@@ -85,7 +85,20 @@ module _ (u i o e p d : ℕ) (c : Charge) (l : i < 0x10000) where
 
   null-82 : eqb u 1 ≡ true → eqb p 0x80 ≡ false → eqb p 0x81 ≡ false → eqb p 0x82 ≡ true → component .valid (rec 4 u i o e p d c) ≡ fineOf (frontBy 4 u i o e p d) c
   unfolding component frames frame reject leads caller alt prim nullLeaf identifier problems sort problem canonical over number frontFine
-  null-82 w q0 q1 q2 = rw (tag-4, w, q0, q1, q2, eq-eqb 0x82 p (sym (eqb-true p 0x82 q2)), eq-eqb 1 u (sym (eqb-true u 1 w)), eq-eqb u u refl, eq-eqb i i refl, eq-eqb p p refl, eq-eqb d d refl, from-0 d)
+  null-82 w q0 q1 q2 = rw (
+    tag-4,
+    w,
+    q0,
+    q1,
+    q2,
+    eq-eqb 0x82 p (sym (eqb-true p 0x82 q2)),
+    eq-eqb 1 u (sym (eqb-true u 1 w)),
+    eq-eqb u u refl,
+    eq-eqb i i refl,
+    eq-eqb p p refl,
+    eq-eqb d d refl,
+    from-0 d,
+  )
       (problem-asked (eqb 0 i) (eqb 0 o) (eqb 0 e) true (sameCharge noCharge c) (leb d 2))
 
   null-83 : eqb u 1 ≡ true → eqb p 0x80 ≡ false → eqb p 0x81 ≡ false → eqb p 0x82 ≡ false → component .valid (rec 4 u i o e p d c) ≡ fineOf (frontBy 4 u i o e p d) c

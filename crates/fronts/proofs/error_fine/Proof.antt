@@ -1,5 +1,5 @@
 use borrow.Author.Needs.{needs}
-use Rattle.fronts.proofs.Tests.{tests}
+use Rattle.coding.proofs.Tests.{tests}
 use Rattle.fronts.proofs.Fine.{error-is}
 use Rattle.fronts.proofs.error_fine.Statement.{statement}
 use Rattle.fronts.proofs.error_fine.Tie as tie

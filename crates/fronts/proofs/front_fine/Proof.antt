@@ -1,5 +1,5 @@
 use borrow.Author.Needs.{needs}
-use Rattle.fronts.proofs.Tests.{tests}
+use Rattle.coding.proofs.Tests.{tests}
 use Rattle.fronts.specs.Fronts.{frontFine}
 use Rattle.fronts.proofs.front_fine.Statement.{statement}
 use Rattle.fronts.proofs.front_fine.Tie as tie

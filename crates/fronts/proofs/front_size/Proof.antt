@@ -1,3 +1,4 @@
+use native.Mathlib.Omega.{arith}
 use borrow.Author.Needs.{needs}
 use Rattle.fronts.proofs.Sizes.{size-request, size-invoke, size-result, size-result-long, size-error, size-unnamed, size-reject}
 use Rattle.fronts.proofs.front_size.Statement.{statement}
@@ -19,14 +20,14 @@ returns-3 : tie.Need-returns-3
 returns-3 c =
     let s = c .before .before .before in
     let w = s .before .before .id-width .ensures in
-    size-result _ _ _ (s .before .before .before .pre .0) (w .0) (w .1) (c .before .if3 .taken) (c .if4 .taken)
+    size-result _ _ _ (s .before .before .before .pre .0) (w .0) (w .1) (c .before .if3 .taken) (omega (arith, c .if4 .taken))
 
 returns-4 : tie.Need-returns-4
 returns-4 c =
     let s = c .before .before .before in
     let p = s .before .before .before .pre in
     let w = s .before .before .id-width .ensures in
-    size-result-long _ _ _ (p .0) (w .0) (w .1) (c .before .if3 .taken) (c .if4 .left) (p .1)
+    size-result-long _ _ _ (p .0) (w .0) (w .1) (c .before .if3 .taken) (omega (arith, c .if4 .left)) (p .1)
 
 returns-5 : tie.Need-returns-5
 returns-5 c =

@@ -1,5 +1,5 @@
 use borrow.Author.Needs.{needs}
-use Rattle.fronts.proofs.Tests.{tests}
+use Rattle.coding.proofs.Tests.{tests}
 use Rattle.fronts.proofs.Fine.{invoke-is, invoke-no, invoke-yes}
 use Rattle.fronts.proofs.invoke_fine.Statement.{statement}
 use Rattle.fronts.proofs.invoke_fine.Tie as tie

@@ -1,4 +1,4 @@
-use Rattle.fronts.proofs.Tests.{tests}
+use Rattle.coding.proofs.Tests.{tests}
 use Rattle.fronts.proofs.Fine.{one-two}
 use Rattle.fronts.proofs.is_charged.Statement.{statement}
 use Rattle.fronts.proofs.is_charged.Tie as tie

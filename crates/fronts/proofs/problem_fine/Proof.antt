@@ -1,4 +1,4 @@
-use Rattle.fronts.proofs.Tests.{tests}
+use Rattle.coding.proofs.Tests.{tests}
 use Rattle.fronts.proofs.problem_fine.Statement.{statement}
 use Rattle.fronts.proofs.problem_fine.Tie as tie
 

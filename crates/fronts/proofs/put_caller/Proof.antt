@@ -1,5 +1,5 @@
 use borrow.Author.Needs.{needs}
-use Rattle.fronts.proofs.Tests.{tests}
+use Rattle.coding.proofs.Tests.{tests}
 use Rattle.fronts.proofs.Sizes.{room-null, room-named}
 use Rattle.fronts.proofs.put_caller.Statement.{statement}
 use Rattle.fronts.proofs.put_caller.Tie as tie

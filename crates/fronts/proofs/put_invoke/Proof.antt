@@ -1,8 +1,8 @@
 use borrow.Author.Needs.{needs}
 use borrow.Author.Tests.{eq-eqb}
 use mathlib.Core.List.{append-nil}
-use Rattle.fronts.proofs.Tests.{tests}
-use Rattle.fronts.proofs.Room.{room, room-third}
+use Rattle.coding.proofs.Tests.{tests}
+use Rattle.coding.proofs.Room.{room, room-third}
 use Rattle.fronts.proofs.put_invoke.Statement.{statement}
 use Rattle.fronts.proofs.put_invoke.Tie as tie
 

@@ -1,5 +1,5 @@
 use borrow.Author.Needs.{needs}
-use Rattle.fronts.proofs.Room.{room, room-third}
+use Rattle.coding.proofs.Room.{room, room-third}
 use Rattle.fronts.proofs.put_result.Statement.{statement}
 use Rattle.fronts.proofs.put_result.Tie as tie
 

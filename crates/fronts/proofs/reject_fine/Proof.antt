@@ -1,5 +1,5 @@
 use borrow.Author.Needs.{needs}
-use Rattle.fronts.proofs.Tests.{tests}
+use Rattle.coding.proofs.Tests.{tests}
 use Rattle.fronts.proofs.Fine.{reject-is, reject-no, reject-yes}
 use Rattle.fronts.proofs.reject_fine.Statement.{statement}
 use Rattle.fronts.proofs.reject_fine.Tie as tie

@@ -1,4 +1,4 @@
-use Rattle.put_figures.proofs.Truth.{tests}
+use Rattle.coding.proofs.Tests.{tests}
 use Rattle.put_figures.proofs.billing_fine.Statement.{statement}
 use Rattle.put_figures.proofs.billing_fine.Tie as tie
 

@@ -8,7 +8,7 @@ use borrow.Author.Tests.{not-true, not-false}
 use Rattle.coding.specs.Contents.{every}
 use Rattle.coding.specs.Reader.{part}
 use Rattle.put_figures.proofs.Tests.{currency-is}
-use Rattle.put_figures.proofs.Truth.{tests}
+use Rattle.coding.proofs.Tests.{tests}
 use Rattle.put_figures.proofs.currency_fine.Statement.{statement}
 use Rattle.put_figures.proofs.currency_fine.Tie as tie
 
@@ -33,7 +33,8 @@ below-requires-2 c κs =
 returns-4 : tie.Need-returns-4
 returns-4 c =
     let c3 = c .before .before .before in let c6 = c3 .before .before .before in
-    let b : every (λ x. ltb x 1) (part (c6 .before .before .before .args .c .octets) (c6 .before .before .before .args .c .count) 10) ≡ true = sym (c .before .before .before .below .ensures) ∙ not-false _ (c .before .before .if3 .left) in
+    let b : every (λ x. ltb x 1) (part (c6 .before .before .before .args .c .octets) (c6 .before .before .before .args .c .count) 10) ≡ true =
+    sym (c .before .before .before .below .ensures) ∙ not-false _ (c .before .before .if3 .left) in
     search (tests, currency-is, length-unmapped, b)
 
 pub currency-fine-spec : {M : Type 1} → statement M

@@ -6,7 +6,7 @@ use borrow.Author.Tests.{not-true, not-false}
 use Rattle.coding.specs.Contents.{every}
 use Rattle.coding.specs.Reader.{part}
 use Rattle.put_figures.proofs.Tests.{digits-is}
-use Rattle.put_figures.proofs.Truth.{tests}
+use Rattle.coding.proofs.Tests.{tests}
 use Rattle.put_figures.proofs.digits_fine.Statement.{statement}
 use Rattle.put_figures.proofs.digits_fine.Tie as tie
 

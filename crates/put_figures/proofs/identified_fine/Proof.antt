@@ -4,7 +4,7 @@ use lib.ListN.{replicate}
 use borrow.Author.Needs.{needs}
 use Rattle.coding.specs.Codec.{sameList}
 use Rattle.put_figures.proofs.Tests.{zeros-lent, identified-is}
-use Rattle.put_figures.proofs.Truth.{tests}
+use Rattle.coding.proofs.Tests.{tests}
 use Rattle.put_figures.proofs.identified_fine.Statement.{statement}
 use Rattle.put_figures.proofs.identified_fine.Tie as tie
 

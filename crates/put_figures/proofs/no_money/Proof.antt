@@ -4,7 +4,8 @@ use lib.ListN.{replicate}
 use borrow.Author.Needs.{needs}
 use Rattle.coding.specs.Codec.{sameList}
 use Rattle.put_figures.proofs.Tests.{zeros-lent, no-money-is}
-use Rattle.put_figures.proofs.Truth.{tests, as-test}
+use Rattle.coding.proofs.Tests.{tests}
+use Rattle.put_figures.proofs.Truth.{as-test}
 use Rattle.put_figures.proofs.no_money.Statement.{statement}
 use Rattle.put_figures.proofs.no_money.Tie as tie
 

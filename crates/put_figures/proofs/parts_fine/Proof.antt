@@ -25,7 +25,11 @@ returns-3 : tie.Need-returns-3
 unfolding figureFine
 returns-3 c =
     let c3 = c .before .before .before in
-    rw (sym (c3 .before .marks-fine .ensures) ∙ not-false _ (c .before .before .before .if1 .left), sym (c .before .before .money-by-kind .ensures) ∙ not-false _ (c .before .if2 .left)) (c .association-by-kind .ensures)
+    rw (
+      sym (c3 .before .marks-fine .ensures) ∙ not-false _ (c .before .before .before .if1 .left),
+      sym (c .before .before .money-by-kind .ensures) ∙ not-false _
+          (c .before .if2 .left),
+    ) (c .association-by-kind .ensures)
 
 pub parts-fine-spec : {M : Type 1} → statement M
 parts-fine-spec =

@@ -1,6 +1,6 @@
 use borrow.Author.Needs.{needs}
 use Rattle.put_figures.proofs.Tests.{plain-is}
-use Rattle.put_figures.proofs.Truth.{tests}
+use Rattle.coding.proofs.Tests.{tests}
 use Rattle.put_figures.proofs.plain_fine.Statement.{statement}
 use Rattle.put_figures.proofs.plain_fine.Tie as tie
 

@@ -1,5 +1,5 @@
 use borrow.Author.Needs.{needs}
-use Rattle.put_figures.proofs.Truth.{tests}
+use Rattle.coding.proofs.Tests.{tests}
 use Rattle.put_figures.proofs.priced_marks.Statement.{statement}
 use Rattle.put_figures.proofs.priced_marks.Tie as tie
 

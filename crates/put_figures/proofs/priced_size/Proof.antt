@@ -35,7 +35,8 @@ returns-2 c =
     let d = c .before .before .before in
     let k = d .before .before .sized .result + d .before .marks-size .result in (
       λ xs e. c .sized3 .ensures .0 0x30
-          ∙ sym (priced-ending-length (s .args .operation) (s .args .f) xs (s .args .n) k e (omega (arith, d .before .before .sized .ensures .0 0xa1)) (c .before .before .if1 .left) (d .sized2 .result + c .before .association-size .result) (omega (arith, d .sized2 .ensures .0 0x30))),
+          ∙ sym (priced-ending-length (s .args .operation) (s .args .f) xs (s .args .n) k e (omega (arith, d .before .before .sized .ensures .0 0xa1))
+          (c .before .before .if1 .left) (d .sized2 .result + c .before .association-size .result) (omega (arith, d .sized2 .ensures .0 0x30))),
       omega arith,
     )
 

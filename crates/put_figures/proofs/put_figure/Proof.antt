@@ -74,7 +74,8 @@ money-size-requires c κs =
     let o = s .args .operation in
     let f = s .args .f in
     let p = s .pre in
-    fine-money o f (figure-fine o f (p .0) (p .1 .0) (p .1 .1 .0)) (figure-kind o f (p .0) (p .1 .0) (p .1 .1 .0) (c3 .before .before .if1 .left) (c .before .if3 .left) (c .before .before .before .if2 .left))
+    fine-money o f (figure-fine o f (p .0) (p .1 .0) (p .1 .1 .0)) (figure-kind o f (p .0) (p .1 .0) (p .1 .1 .0) (c3 .before .before .if1 .left) (c .before .if3 .left)
+    (c .before .before .before .if2 .left))
 
 put-before-requires : tie.Need-put-before-requires
 put-before-requires c κs =
@@ -87,8 +88,18 @@ put-before-requires c κs =
     let n = c .money-size .result in
     let e : n ≡ length x = c .money-size .ensures .0 in
     let q : length ((chargeOf o) .write (plain f)) ≡ length (before o f n) + (length x + length (after o f)) =
-    parts-length o f n (money .write (f .money)) e (figure-parts o f (p .0) (p .1 .0) (p .1 .1 .0) (c3 .before .before .before .if1 .left) (c .before .before .if3 .left) (c3 .before .if2 .left)) in
-    ((figure-fine o f (p .0) (p .1 .0) (p .1 .1 .0), omega (arith, before-length o f n, after-length o f (figure-fine o f (p .0) (p .1 .0) (p .1 .1 .0)), c .money-size .ensures)), omega (arith, q, e, p .1 .1 .1))
+    parts-length o f n (money .write (f .money)) e (figure-parts o f (p .0) (p .1 .0) (p .1 .1 .0) (c3 .before .before .before .if1 .left) (c .before .before .if3 .left) (c3 .before .if2 .left)) in (
+      (
+        figure-fine o f (p .0) (p .1 .0) (p .1 .1 .0),
+        omega (
+          arith,
+          before-length o f n,
+          after-length o f (figure-fine o f (p .0) (p .1 .0) (p .1 .1 .0)),
+          c .money-size .ensures,
+        ),
+      ),
+      omega (arith, q, e, p .1 .1 .1),
+    )
 
 put-money-requires : tie.Need-put-money-requires
 put-money-requires c κs =
@@ -102,8 +113,11 @@ put-money-requires c κs =
     let n = c3 .before .money-size .result in
     let e : n ≡ length x = c3 .before .money-size .ensures .0 in
     let q : length ((chargeOf o) .write (plain f)) ≡ length (before o f n) + (length x + length (after o f)) =
-    parts-length o f n (money .write (f .money)) e (figure-parts o f (p .0) (p .1 .0) (p .1 .1 .0) (c9 .before .if1 .left) (c3 .before .before .before .if3 .left) (c6 .before .before .if2 .left)) in
-    (fine-money o f (figure-fine o f (p .0) (p .1 .0) (p .1 .1 .0)) (figure-kind o f (p .0) (p .1 .0) (p .1 .1 .0) (c9 .before .if1 .left) (c3 .before .before .before .if3 .left) (c6 .before .before .if2 .left)), omega (arith, q, e, p .1 .1 .1, c .before .before .before .put-before .ensures))
+    parts-length o f n (money .write (f .money)) e (figure-parts o f (p .0) (p .1 .0) (p .1 .1 .0) (c9 .before .if1 .left) (c3 .before .before .before .if3 .left) (c6 .before .before .if2 .left)) in (
+      fine-money o f (figure-fine o f (p .0) (p .1 .0) (p .1 .1 .0)) (figure-kind o f (p .0) (p .1 .0) (p .1 .1 .0) (c9 .before .if1 .left)
+          (c3 .before .before .before .if3 .left) (c6 .before .before .if2 .left)),
+      omega (arith, q, e, p .1 .1 .1, c .before .before .before .put-before .ensures),
+    )
 
 put-after-requires : tie.Need-put-after-requires
 put-after-requires c κs =
@@ -128,7 +142,9 @@ returns-4 c =
     let o = s .args .operation in
     let f = s .args .f in
     let p = s .pre in
-    wrote-parts o f (c9 .before .before .money-size .result) (money .write (f .money)) (c9 .before .before .money-size .ensures .0) (figure-parts o f (p .0) (p .1 .0) (p .1 .1 .0) (c15 .before .before .if1 .left) (c12 .before .if3 .left) (c12 .before .before .before .if2 .left)) (c9 .before .put-before .ensures) (c3 .before .before .before .put-money .ensures) (c .before .before .put-after .ensures)
+    wrote-parts o f (c9 .before .before .money-size .result) (money .write (f .money)) (c9 .before .before .money-size .ensures .0)
+    (figure-parts o f (p .0) (p .1 .0) (p .1 .1 .0) (c15 .before .before .if1 .left) (c12 .before .if3 .left) (c12 .before .before .before .if2 .left))
+    (c9 .before .put-before .ensures) (c3 .before .before .before .put-money .ensures) (c .before .before .put-after .ensures)
 
 pub put-figure-spec : {M : Type 1} → statement M
 put-figure-spec =

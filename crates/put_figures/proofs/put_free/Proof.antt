@@ -73,7 +73,8 @@ returns-2 c =
     let s = c15 .before in
     let o = s .args .operation in
     let f = s .args .f in
-    wrote-free o f (2 + c9 .before .before .association-size .result) (c12 .before .if1 .left) (omega (arith, c9 .before .before .association-size .ensures)) (c9 .before .put-lead .ensures) (c3 .before .before .before .put-null2 .ensures) (c .before .before .put-association .ensures)
+    wrote-free o f (2 + c9 .before .before .association-size .result) (c12 .before .if1 .left) (omega (arith, c9 .before .before .association-size .ensures))
+    (c9 .before .put-lead .ensures) (c3 .before .before .before .put-null2 .ensures) (c .before .before .put-association .ensures)
 
 pub put-free-spec : {M : Type 1} → statement M
 put-free-spec =

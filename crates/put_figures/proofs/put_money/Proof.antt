@@ -44,7 +44,8 @@ returns c =
     let s = c12 .before in
     let m = s .args .m in
     let r = money-room m (s .pre .0) in
-    wrote-as (sym (money-write m)) (wrote-both (wrote-as (sym (currency-write 0x81 (m .currency) (omega (arith, r)))) (c3 .before .before .before .put-string .ensures)) (c .before .before .put-scaled .ensures))
+    wrote-as (sym (money-write m)) (wrote-both (wrote-as (sym (currency-write 0x81 (m .currency) (omega (arith, r)))) (c3 .before .before .before .put-string .ensures))
+    (c .before .before .put-scaled .ensures))
 
 pub put-money-spec : {M : Type 1} → statement M
 put-money-spec =

@@ -27,7 +27,16 @@ put-string-requires c κs =
     let r = plain-room a (s .pre .0 .0) (k .0) (k .1) (k .2) in
     let n = a .count in
     let q = association-plain-length a (r .0) (r .1) (k .0) (k .1) (k .2) in
-    omega (arith, r, q, lead-length-short 0xa0 (2 + n) (omega (arith, r)), string-length 0x80 n (a .digits) (r .1), lead-length-short 0x80 n (omega (arith, r)), s .pre .0, (c3 .before .put-lead) .ensures)
+    omega (
+      arith,
+      r,
+      q,
+      lead-length-short 0xa0 (2 + n) (omega (arith, r)),
+      string-length 0x80 n (a .digits) (r .1),
+      lead-length-short 0x80 n (omega (arith, r)),
+      s .pre .0,
+      (c3 .before .put-lead) .ensures,
+    )
 
 returns : tie.Need-returns
 returns c =

@@ -35,7 +35,18 @@ put-small-requires c κs =
     let r = public-room a (s .pre .0) (s .pre .1) in
     let n = a .count in
     let q = association-public-length a (r .1 .0) (r .1 .1) (r .0) (s .pre .1) in
-    omega (arith, r, q, lead-length-short 0xa0 (7 + n) (omega (arith, r)), lead-length-short 0xa1 (5 + n) (omega (arith, r)), small-length 0x0a (a .plan) (omega (arith, r)), s .pre .2, (c6 .before .put-lead) .ensures, (c .before .before .before .put-lead2) .ensures)
+    omega (
+      arith,
+      r,
+      q,
+      lead-length-short 0xa0 (7 + n) (omega (arith, r)),
+      lead-length-short 0xa1 (5 + n) (omega (arith, r)),
+      small-length 0x0a (a .plan)
+          (omega (arith, r)),
+      s .pre .2,
+      (c6 .before .put-lead) .ensures,
+      (c .before .before .before .put-lead2) .ensures,
+    )
 
 put-string-requires : tie.Need-put-string-requires
 put-string-requires c κs =
@@ -47,7 +58,21 @@ put-string-requires c κs =
     let n = a .count in
     let q = association-public-length a (r .1 .0) (r .1 .1) (r .0) (s .pre .1) in
     let w = string-length 0x12 n (a .digits) (r .1 .1) in
-    omega (arith, r, q, lead-length-short 0xa0 (7 + n) (omega (arith, r)), lead-length-short 0xa1 (5 + n) (omega (arith, r)), small-length 0x0a (a .plan) (omega (arith, r)), w, lead-length-short 0x12 n (omega (arith, r)), s .pre .2, (c9 .before .before .before .put-lead) .ensures, (c6 .before .before .put-lead2) .ensures, (c3 .before .put-small) .ensures)
+    omega (
+      arith,
+      r,
+      q,
+      lead-length-short 0xa0 (7 + n) (omega (arith, r)),
+      lead-length-short 0xa1 (5 + n) (omega (arith, r)),
+      small-length 0x0a (a .plan)
+          (omega (arith, r)),
+      w,
+      lead-length-short 0x12 n (omega (arith, r)),
+      s .pre .2,
+      (c9 .before .before .before .put-lead) .ensures,
+      (c6 .before .before .put-lead2) .ensures,
+      (c3 .before .put-small) .ensures,
+    )
 
 returns : tie.Need-returns
 returns c =
@@ -56,7 +81,8 @@ returns c =
     let s = c18 .before .before in
     let a = s .args .a in
     let r = public-room a (s .pre .0) (s .pre .1) in
-    wrote-public a (r .1 .0) (r .1 .1) (r .0) (s .pre .1) (c12 .before .before .before .put-lead .ensures) (c9 .before .before .put-lead2 .ensures) (c6 .before .put-small .ensures) (c .before .before .put-string .ensures)
+    wrote-public a (r .1 .0) (r .1 .1) (r .0) (s .pre .1) (c12 .before .before .before .put-lead .ensures) (c9 .before .before .put-lead2 .ensures)
+    (c6 .before .put-small .ensures) (c .before .before .put-string .ensures)
 
 pub put-public-spec : {M : Type 1} → statement M
 put-public-spec =

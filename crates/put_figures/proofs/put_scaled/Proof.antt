@@ -26,7 +26,17 @@ put-number-requires c κs =
     let w = c3 .before .before .width-of .result in
     let e = c3 .before .before .width-of .ensures in
     let r = width-range (a .s .number) in
-    omega (arith, e, r, scaled-length (a .tag) (a .s) (omega (arith, s .pre)), lead-length-short (a .tag) (5 + w) (omega (arith, e, r)), number-length 0x81 (a .s .number), c .before .before .before .put-lead .ensures, s .pre)
+    omega (
+      arith,
+      e,
+      r,
+      scaled-length (a .tag) (a .s) (omega (arith, s .pre)),
+      lead-length-short (a .tag) (5 + w) (omega (arith, e, r)),
+      number-length 0x81
+          (a .s .number),
+      c .before .before .before .put-lead .ensures,
+      s .pre,
+    )
 
 put-small-requires : tie.Need-put-small-requires
 put-small-requires c κs =
@@ -54,7 +64,8 @@ returns c =
     let c3 = c .before .before .before in let c6 = c3 .before .before .before in let c9 = c6 .before .before .before in
     let c12 = c9 .before .before .before in
     let s = c12 .before .before in
-    wrote-scaled (s .args .tag) (5 + c9 .before .before .before .width-of .result) (s .args .s) (omega (arith, s .pre)) (omega (arith, c9 .before .before .before .width-of .ensures)) (c9 .before .put-lead .ensures) (c3 .before .before .before .put-number .ensures) (c .before .before .put-small .ensures)
+    wrote-scaled (s .args .tag) (5 + c9 .before .before .before .width-of .result) (s .args .s) (omega (arith, s .pre))
+    (omega (arith, c9 .before .before .before .width-of .ensures)) (c9 .before .put-lead .ensures) (c3 .before .before .before .put-number .ensures) (c .before .before .put-small .ensures)
 
 pub put-scaled-spec : {M : Type 1} → statement M
 put-scaled-spec =

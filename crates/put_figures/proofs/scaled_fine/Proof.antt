@@ -1,5 +1,5 @@
 use Rattle.put_figures.proofs.Tests.{scaled-is}
-use Rattle.put_figures.proofs.Truth.{tests}
+use Rattle.coding.proofs.Tests.{tests}
 use Rattle.put_figures.proofs.scaled_fine.Statement.{statement}
 use Rattle.put_figures.proofs.scaled_fine.Tie as tie
 

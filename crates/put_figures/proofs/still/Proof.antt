@@ -2,7 +2,7 @@ use mathlib.Core.Bool.{_&&_}
 use mathlib.Core.Path.{_≡_, sym}
 use lib.Dec.{eqb}
 use Rattle.coding.proofs.Basic.{and-no}
-use Rattle.put_figures.proofs.Truth.{tests, ne-eqb'}
+use Rattle.coding.proofs.Tests.{tests, ne-eqb'}
 use Rattle.put_figures.proofs.still.Statement.{statement}
 use Rattle.put_figures.proofs.still.Tie as tie
 

@@ -13,9 +13,6 @@ use Rattle.put_lists.proofs.Charged.{figure-fine, units-fine, units-val
 use Rattle.put_lists.proofs.charge_size.Statement.{statement}
 use Rattle.put_lists.proofs.charge_size.Tie as tie
 
-cast-n : tie.Need-cast-n
-cast-n c = search needs
-
 units-size-requires : tie.Need-units-size-requires
 units-size-requires c κs =
     let s = c .before .before .before in
@@ -25,13 +22,15 @@ units-size-requires c κs =
 
 priced-size-requires : tie.Need-priced-size-requires
 priced-size-requires c κs =
-    let s = c .before .before .before .before in
+    let c3 = c .before .before .before in
+    let s = c3 .before in
     let a = s .args in
     (figure-fine (a .operation) (s .pre .0) (withList (a .f) (a .numbers .now) (a .octets .now)) (s .pre .1 .1), omega (arith, c .units-size .ensures .1))
 
 returns : tie.Need-returns
 returns c =
-    let s = c .before .before .before .before .before in
+    let c3 = c .before .before .before in
+    let s = c3 .before .before in
     let a = s .args in
     let x = withList (a .f) (a .numbers .now) (a .octets .now) in
     let n = c .before .units-size in
@@ -43,18 +42,17 @@ returns c =
 
 rates-size-requires : tie.Need-rates-size-requires
 rates-size-requires c κs =
-    let s = c .before .before .before .before .before in
+    let c3 = c .before .before .before in
+    let s = c3 .before .before in
     let a = s .args in
     let x = withList (a .f) (a .numbers .now) (a .octets .now) in
     let v = rates-valid (x .entries) (a .f .count) (rates-fine (a .operation) (s .pre .0) x (s .pre .1 .1) (omega arith)) in
     ((v .0, s .pre .1 .0), v .1)
 
-sized-requires : tie.Need-sized-requires
-sized-requires c κs = search needs
-
 returns-2 : tie.Need-returns-2
 returns-2 c =
-    let s = c .before .before .before .before .before .before .before in
+    let c3 = c .before .before .before in let c6 = c3 .before .before .before in
+    let s = c6 .before in
     let a = s .args in
     let x = withList (a .f) (a .numbers .now) (a .octets .now) in
     let n = c .before .rates-size in
@@ -66,7 +64,8 @@ returns-2 c =
 
 figure-size-requires : tie.Need-figure-size-requires
 figure-size-requires c κs =
-    let s = c .before .before .before .before .before in
+    let c3 = c .before .before .before in
+    let s = c3 .before .before in
     let a = s .args in
     let o = a .operation in
     let k3 = c .before .before .if1 .left in
@@ -75,23 +74,17 @@ figure-size-requires c κs =
 
 returns-3 : tie.Need-returns-3
 returns-3 c =
-    let s = c .before .before .before .before .before .before in
+    let c3 = c .before .before .before in
+    let s = c3 .before .before .before in
     let a = s .args in
     let r = c .figure-size in (
-      r .ensures .0 ∙ ap length (sym (unlisted-write (a .operation) (s .pre .0 .0) (s .pre .0 .1) (withList (a .f) (a .numbers .now) (a .octets .now)) (c .before .before .before .if1 .left) (c .before .if2 .left) (s .pre .1 .1))),
+      r .ensures .0 ∙ ap length (sym (unlisted-write (a .operation) (s .pre .0 .0) (s .pre .0 .1) (withList (a .f) (a .numbers .now) (a .octets .now))
+          (c .before .before .before .if1 .left) (c .before .if2 .left) (s .pre .1 .1))),
       omega (arith, r .ensures .1),
     )
 
 pub charge-size-spec : {M : Type 1} → statement M
 charge-size-spec =
     tie.close
-    (tie.spec
-    cast-n
-    units-size-requires
-    priced-size-requires
-    returns
-    rates-size-requires
-    sized-requires
-    returns-2
-    figure-size-requires
+    (tie.spec (λ c. search needs) units-size-requires priced-size-requires returns rates-size-requires (λ c κs. search needs) returns-2 figure-size-requires
     returns-3)

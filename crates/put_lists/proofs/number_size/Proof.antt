@@ -7,9 +7,6 @@ use Rattle.put_lists.proofs.Entry.{known-size, unknown-size}
 use Rattle.put_lists.proofs.number_size.Statement.{statement}
 use Rattle.put_lists.proofs.number_size.Tie as tie
 
-width-of-requires : tie.Need-width-of-requires
-width-of-requires c κs = search needs
-
 add-result : tie.Need-add-result
 add-result c = omega (arith, width-range (c .before .before .before .args .u .number), c .width-of .ensures)
 
@@ -20,4 +17,4 @@ returns-2 : tie.Need-returns-2
 returns-2 c = omega (arith, unknown-size (c .before .before .args .u) (λ z. omega arith))
 
 pub number-size-spec : {M : Type 1} → statement M
-number-size-spec = tie.close (tie.spec width-of-requires add-result returns returns-2)
+number-size-spec = tie.close (tie.spec (λ c κs. search needs) add-result returns returns-2)

@@ -14,7 +14,8 @@ use Rattle.put_lists.proofs.put_charge.Tie as tie
 
 put-units-charge-requires : tie.Need-put-units-charge-requires
 put-units-charge-requires c κs =
-    let s = c .before .before .before .before in
+    let c3 = c .before .before .before in
+    let s = c3 .before in
     let a = s .args in
     let o = a .operation in
     let x = withList (a .f) (a .numbers .now) (a .octets .now) in
@@ -24,18 +25,17 @@ put-units-charge-requires c κs =
       (omega (arith, s .pre .1 .1 .1, e), omega (arith, s .pre .1 .1 .1, e)),
     )
 
-same-length : tie.Need-same-length
-same-length c = search needs
-
 returns : tie.Need-returns
 returns c =
-    let s = c .before .before .before .before .before .before .before in
+    let c3 = c .before .before .before in let c6 = c3 .before .before .before in
+    let s = c6 .before in
     let a = s .args in
     wrote-as (sym (units-octets (a .operation) (s .pre .0) (withList (a .f) (a .numbers .now) (a .octets .now)) (s .pre .1 .1 .0) (omega arith))) (c .before .before .put-units-charge .ensures)
 
 put-rates-charge-requires : tie.Need-put-rates-charge-requires
 put-rates-charge-requires c κs =
-    let s = c .before .before .before .before .before .before in
+    let c3 = c .before .before .before in
+    let s = c3 .before .before .before in
     let a = s .args in
     let o = a .operation in
     let x = withList (a .f) (a .numbers .now) (a .octets .now) in
@@ -43,18 +43,17 @@ put-rates-charge-requires c κs =
     let e = ap length (rates-octets o (s .pre .0) x v (omega arith)) in
     (s .pre .1 .0, (rates-fine o (s .pre .0) x v (omega arith), (omega (arith, s .pre .1 .1 .1, e), omega (arith, s .pre .1 .1 .1, e))))
 
-same-length-2 : tie.Need-same-length-2
-same-length-2 c = search needs
-
 returns-2 : tie.Need-returns-2
 returns-2 c =
-    let s = c .before .before .before .before .before .before .before .before .before in
+    let c3 = c .before .before .before in let c6 = c3 .before .before .before in
+    let s = c6 .before .before .before in
     let a = s .args in
     wrote-as (sym (rates-octets (a .operation) (s .pre .0) (withList (a .f) (a .numbers .now) (a .octets .now)) (s .pre .1 .1 .0) (omega arith))) (c .before .before .put-rates-charge .ensures)
 
 put-figure-requires : tie.Need-put-figure-requires
 put-figure-requires c κs =
-    let s = c .before .before .before .before .before .before in
+    let c3 = c .before .before .before in
+    let s = c3 .before .before .before in
     let a = s .args in
     let o = a .operation in
     let x = withList (a .f) (a .numbers .now) (a .octets .now) in
@@ -71,25 +70,16 @@ put-figure-requires c κs =
       ),
     )
 
-same-length-3 : tie.Need-same-length-3
-same-length-3 c = search needs
-
 returns-3 : tie.Need-returns-3
 returns-3 c =
-    let s = c .before .before .before .before .before .before .before .before .before in
+    let c3 = c .before .before .before in let c6 = c3 .before .before .before in
+    let s = c6 .before .before .before in
     let a = s .args in
-    wrote-as (sym (unlisted-write (a .operation) (s .pre .0 .0) (s .pre .0 .1) (withList (a .f) (a .numbers .now) (a .octets .now)) (c .before .before .before .before .before .before .if1 .left) (c .before .before .before .before .if2 .left) (s .pre .1 .1 .0))) (c .before .before .put-figure .ensures)
+    wrote-as (sym (unlisted-write (a .operation) (s .pre .0 .0) (s .pre .0 .1) (withList (a .f) (a .numbers .now) (a .octets .now))
+    (c3 .before .before .before .if1 .left) (c3 .before .if2 .left) (s .pre .1 .1 .0))) (c .before .before .put-figure .ensures)
 
 pub put-charge-spec : {M : Type 1} → statement M
 put-charge-spec =
     tie.close
-    (tie.spec
-    put-units-charge-requires
-    same-length
-    returns
-    put-rates-charge-requires
-    same-length-2
-    returns-2
-    put-figure-requires
-    same-length-3
+    (tie.spec put-units-charge-requires (λ c. search needs) returns put-rates-charge-requires (λ c. search needs) returns-2 put-figure-requires (λ c. search needs)
     returns-3)

@@ -10,24 +10,26 @@ use Rattle.put_lists.proofs.put_number.Statement.{statement}
 use Rattle.put_lists.proofs.put_number.Tie as tie
 
 put-number-requires : tie.Need-put-number-requires
-put-number-requires c κs = omega (arith, ap length (number-known (c .before .before .before .before .args .u) (omega arith)))
-
-same-length : tie.Need-same-length
-same-length c = search needs
+put-number-requires c κs =
+    let c3 = c .before .before .before in
+    omega (arith, ap length (number-known (c3 .before .args .u) (omega arith)))
 
 returns : tie.Need-returns
-returns c = wrote-as (sym (number-known (c .before .before .before .before .before .before .before .args .u) (omega arith))) (c .before .before .put-number .ensures)
+returns c =
+    let c3 = c .before .before .before in let c6 = c3 .before .before .before in
+    wrote-as (sym (number-known (c6 .before .args .u) (omega arith))) (c .before .before .put-number .ensures)
 
 put-null-requires : tie.Need-put-null-requires
-put-null-requires c κs = omega (arith, ap length (number-unknown (c .before .before .before .before .args .u) (λ z. omega arith)))
-
-same-length-2 : tie.Need-same-length-2
-same-length-2 c = search needs
+put-null-requires c κs =
+    let c3 = c .before .before .before in
+    omega (arith, ap length (number-unknown (c3 .before .args .u) (λ z. omega arith)))
 
 returns-2 : tie.Need-returns-2
-returns-2 c = wrote-as (sym (number-unknown (c .before .before .before .before .before .before .before .args .u) (λ z. omega arith))) (c .before .before .put-null .ensures)
+returns-2 c =
+    let c3 = c .before .before .before in let c6 = c3 .before .before .before in
+    wrote-as (sym (number-unknown (c6 .before .args .u) (λ z. omega arith))) (c .before .before .put-null .ensures)
 
 pub put-number-spec : {M : Type 1} → statement M
 put-number-spec =
     tie.close
-    (tie.spec put-number-requires same-length returns put-null-requires same-length-2 returns-2)
+    (tie.spec put-number-requires (λ c. search needs) returns put-null-requires (λ c. search needs) returns-2)

@@ -24,20 +24,20 @@ put-lead-requires c κs =
 
 put-rates-requires : tie.Need-put-rates-requires
 put-rates-requires c κs =
-    let s = c .before .before .before .before .before .before .before in
+    let c3 = c .before .before .before in let c6 = c3 .before .before .before in
+    let s = c6 .before in
     let a = s .args in
     let e = laid (a .numbers .now) (a .octets .now) in
-    let n = c .before .before .before .before .before .rates-size in
+    let n = c3 .before .before .rates-size in
     let v = rates-valid e (a .count) (s .pre .1 .0) in
     ((v .0, s .pre .0), (v .1, omega (arith, s .pre .1 .1, n .ensures .0, c .before .before .before .put-lead .ensures .place, rates-length e (a .count) (n .result) (n .ensures .0))))
 
-same-length : tie.Need-same-length
-same-length c = search needs
-
 returns : tie.Need-returns
-returns c = let n = c .before .before .before .before .before .before .before .before .rates-size in wrote-element 0x30 (n .result) (n .ensures .0) (c .before .before .before .before .before .before .put-lead .ensures) (c .before .before .put-rates .ensures)
+returns c =
+    let c3 = c .before .before .before in let c6 = c3 .before .before .before in
+    let n = c6 .before .before .rates-size in wrote-element 0x30 (n .result) (n .ensures .0) (c3 .before .before .before .put-lead .ensures) (c .before .before .put-rates .ensures)
 
 pub put-rates-charge-spec : {M : Type 1} → statement M
 put-rates-charge-spec =
     tie.close
-    (tie.spec rates-size-requires put-lead-requires put-rates-requires same-length returns)
+    (tie.spec rates-size-requires put-lead-requires put-rates-requires (λ c. search needs) returns)

@@ -28,12 +28,20 @@ unit-of-requires c κs = omega arith
 
 put-unit-requires : tie.Need-put-unit-requires Inv-loop μ-loop
 put-unit-requires c κs =
-    let s = c .before .before .before .before .before in
+    let c3 = c .before .before .before in
+    let s = c3 .before .before in
     let a = s .args in
     let l = c .before .before .before .loop in
     let e = c .before .unit-of .ensures in (
       all-at (unit .valid) (a .n) (unitAt (laid (a .numbers .now) (a .octets .now))) (l .i) e (omega arith) (s .pre .1 .0),
-      omega (arith, l .inv .1 .place, l .inv .1 .kept, size-more (unit .write) (unitAt (laid (a .numbers .now) (a .octets .now))) (l .i) e, size-most (unit .write) (unitAt (laid (a .numbers .now) (a .octets .now))) (l .i + 1) (a .n) (omega arith)),
+      omega (
+        arith,
+        l .inv .1 .place,
+        l .inv .1 .kept,
+        size-more (unit .write) (unitAt (laid (a .numbers .now) (a .octets .now))) (l .i) e,
+        size-most (unit .write)
+            (unitAt (laid (a .numbers .now) (a .octets .now))) (l .i + 1) (a .n) (omega arith),
+      ),
     )
 
 add-i : tie.Need-add-i Inv-loop μ-loop
@@ -44,9 +52,10 @@ loop-less c = omega arith
 
 loop-again : tie.Need-loop-again Inv-loop μ-loop
 loop-again c =
-    let a = c .before .before .before .before .before .before .before .before .args in
-    let l = c .before .before .before .before .before .before .loop in
-    (omega arith, wrote-more (unit .write) (unitAt (laid (a .numbers .now) (a .octets .now))) (l .i) (c .before .before .before .before .unit-of .ensures) (l .inv .1) (c .before .before .put-unit .ensures))
+    let c3 = c .before .before .before in let c6 = c3 .before .before .before in
+    let a = c6 .before .before .args in
+    let l = c3 .before .before .before .loop in
+    (omega arith, wrote-more (unit .write) (unitAt (laid (a .numbers .now) (a .octets .now))) (l .i) (c3 .before .unit-of .ensures) (l .inv .1) (c .before .before .put-unit .ensures))
 
 same-length : tie.Need-same-length Inv-loop μ-loop
 same-length c = c .before .loop .inv .1 .kept
@@ -61,14 +70,4 @@ returns c =
 pub put-units-spec : {M : Type 1} → statement M
 put-units-spec =
     tie.close
-    (tie.spec
-    Inv-loop
-    μ-loop
-    loop-holds
-    unit-of-requires
-    put-unit-requires
-    add-i
-    loop-less
-    loop-again
-    same-length
-    returns)
+    (tie.spec Inv-loop μ-loop loop-holds unit-of-requires put-unit-requires add-i loop-less loop-again same-length returns)

@@ -11,17 +11,8 @@ use Rattle.put_lists.proofs.unit_size.Tie as tie
 -- `put_lists::unit_size` meets its contract.
 -- Assumes nothing.
 
-number-size-requires : tie.Need-number-size-requires
-number-size-requires c κs = search needs
-
-add-result : tie.Need-add-result
-add-result c = search needs
-
 type-size-requires : tie.Need-type-size-requires
 type-size-requires c κs = unit-type (c .before .args .u) (c .before .pre)
-
-add-result-2 : tie.Need-add-result-2
-add-result-2 c = search needs
 
 returns : tie.Need-returns
 returns c =
@@ -32,4 +23,4 @@ returns c =
 
 pub unit-size-spec : {M : Type 1} → statement M
 unit-size-spec =
-    tie.close (tie.spec number-size-requires add-result type-size-requires add-result-2 returns)
+    tie.close (tie.spec (λ c κs. search needs) (λ c. search needs) type-size-requires (λ c. search needs) returns)

@@ -15,25 +15,18 @@ returns c = let a = c .before .args in sym (units-none (a .numbers .now) (a .oct
 returns-2 : tie.Need-returns-2
 returns-2 c = let a = c .before .before .args in sym (units-over (a .numbers .now) (a .octets .now) (a .count) (omega arith))
 
-mul-unused-zero : tie.Need-mul-unused-zero
-mul-unused-zero c = search needs
-
-unused-zero-requires : tie.Need-unused-zero-requires
-unused-zero-requires c κs = search needs
-
 returns-3 : tie.Need-returns-3
 returns-3 c =
-    let s = c .before .before .before .before in
+    let c3 = c .before .before .before in
+    let s = c3 .before in
     let a = s .args in
     as-test (units-list (a .numbers .now) (a .octets .now) (a .count) (omega arith) (omega arith) (s .pre .0) (s .pre .1))
     (rw (sym (c .before .unused-zero .ensures) ∙ not-true _ (c .if3 .taken)))
 
-units-valid-requires : tie.Need-units-valid-requires
-units-valid-requires c κs = search needs
-
 returns-4 : tie.Need-returns-4
 returns-4 c =
-    let s = c .before .before .before .before .before in
+    let c3 = c .before .before .before in
+    let s = c3 .before .before in
     let a = s .args in
     as-test (units-list (a .numbers .now) (a .octets .now) (a .count) (omega arith) (omega arith) (s .pre .0) (s .pre .1))
     (rw (sym (c .before .before .unused-zero .ensures) ∙ not-false _ (c .before .if3 .left)) (c .units-valid .ensures))
@@ -41,11 +34,4 @@ returns-4 c =
 pub units-fine-spec : {M : Type 1} → statement M
 units-fine-spec =
     tie.close
-    (tie.spec
-    returns
-    returns-2
-    mul-unused-zero
-    unused-zero-requires
-    returns-3
-    units-valid-requires
-    returns-4)
+    (tie.spec returns returns-2 (λ c. search needs) (λ c κs. search needs) returns-3 (λ c κs. search needs) returns-4)

@@ -41,7 +41,8 @@ loop-less c = omega arith
 
 loop-again : tie.Need-loop-again Inv-loop μ-loop
 loop-again c =
-    let a = c .before .before .before .before .args in
+    let c3 = c .before .before .before in
+    let a = c3 .before .args in
     omega (arith, c .unit-size .ensures, size-more (unit .write) (unitAt (laid (a .numbers .now) (a .octets .now))) (c .before .before .before .loop .i) (c .before .unit-of .ensures))
 
 returns : tie.Need-returns Inv-loop μ-loop
@@ -54,14 +55,4 @@ returns c =
 pub units-size-spec : {M : Type 1} → statement M
 units-size-spec =
     tie.close
-    (tie.spec
-    Inv-loop
-    μ-loop
-    loop-holds
-    unit-of-requires
-    unit-size-requires
-    add-size
-    add-i
-    loop-less
-    loop-again
-    returns)
+    (tie.spec Inv-loop μ-loop loop-holds unit-of-requires unit-size-requires add-size add-i loop-less loop-again returns)

@@ -30,8 +30,10 @@ unit-fine-requires c κs = omega arith
 
 returns : tie.Need-returns Inv-loop μ-loop
 returns c =
-    let a = c .before .before .before .before .before .args in
-    all-stop (unit .valid) (a .n) (unitAt (laid (a .numbers .now) (a .octets .now))) (c .before .before .before .before .loop .i) (c .before .before .unit-of .ensures) (c .before .unit-fine .ensures) (c .if1 .taken) (omega arith)
+    let c3 = c .before .before .before in
+    let a = c3 .before .before .args in
+    all-stop (unit .valid) (a .n) (unitAt (laid (a .numbers .now) (a .octets .now))) (c3 .before .loop .i) (c .before .before .unit-of .ensures)
+    (c .before .unit-fine .ensures) (c .if1 .taken) (omega arith)
 
 add-i : tie.Need-add-i Inv-loop μ-loop
 add-i c = omega arith
@@ -41,8 +43,9 @@ loop-less c = omega arith
 
 loop-again : tie.Need-loop-again Inv-loop μ-loop
 loop-again c =
-    let a = c .before .before .before .before .before .args in
-    let l = c .before .before .before .before .loop in
+    let c3 = c .before .before .before in
+    let a = c3 .before .before .args in
+    let l = c3 .before .loop in
     (omega arith, all-more (unit .valid) (unitAt (laid (a .numbers .now) (a .octets .now))) (l .i) (c .before .before .unit-of .ensures) (c .before .unit-fine .ensures) (c .if1 .left) (l .inv .1))
 
 returns-2 : tie.Need-returns-2 Inv-loop μ-loop
@@ -55,14 +58,4 @@ returns-2 c =
 pub units-valid-spec : {M : Type 1} → statement M
 units-valid-spec =
     tie.close
-    (tie.spec
-    Inv-loop
-    μ-loop
-    loop-holds
-    unit-of-requires
-    unit-fine-requires
-    returns
-    add-i
-    loop-less
-    loop-again
-    returns-2)
+    (tie.spec Inv-loop μ-loop loop-holds unit-of-requires unit-fine-requires returns add-i loop-less loop-again returns-2)

@@ -1,6 +1,6 @@
 -- `put_rates::detail_fine` meets its contract.
 -- Assumes nothing.
-use Rattle.put_figures.proofs.Truth.{tests}
+use Rattle.coding.proofs.Tests.{tests}
 use Rattle.put_rates.specs.Prices.{detailFine}
 use Rattle.put_rates.proofs.Prices.{zero-first}
 use Rattle.put_rates.proofs.detail_fine.Statement.{statement}

@@ -1,6 +1,6 @@
 -- `put_rates::no_step` meets its contract.
 -- Assumes nothing.
-use Rattle.put_figures.proofs.Truth.{tests}
+use Rattle.coding.proofs.Tests.{tests}
 use Rattle.put_rates.proofs.Prices.{zero-first}
 use Rattle.put_rates.proofs.no_step.Statement.{statement}
 use Rattle.put_rates.proofs.no_step.Tie as tie

@@ -34,7 +34,14 @@ put-rate-requires c κs =
     let l = c .before .before .before .loop in
     let e = c .before .rate-of .ensures in (
       all-at (rate .valid) (a .n) (rateAt (laid (a .numbers .now) (a .octets .now))) (l .i) e (omega arith) (s .pre .1 .0),
-      omega (arith, l .inv .1 .place, l .inv .1 .kept, size-more (rate .write) (rateAt (laid (a .numbers .now) (a .octets .now))) (l .i) e, size-most (rate .write) (rateAt (laid (a .numbers .now) (a .octets .now))) (l .i + 1) (a .n) (omega arith)),
+      omega (
+        arith,
+        l .inv .1 .place,
+        l .inv .1 .kept,
+        size-more (rate .write) (rateAt (laid (a .numbers .now) (a .octets .now))) (l .i) e,
+        size-most (rate .write)
+            (rateAt (laid (a .numbers .now) (a .octets .now))) (l .i + 1) (a .n) (omega arith),
+      ),
     )
 
 add-i : tie.Need-add-i Inv-loop μ-loop

@@ -56,7 +56,8 @@ returns-3 : tie.Need-returns-3
 returns-3 c =
     let c3 = c .before .before .before in let c6 = c3 .before .before .before in let c9 = c6 .before .before .before in
     let c12 = c9 .before .before .before in let c15 = c12 .before .before .before in
-    wrote-terms (c15 .before .before .args .r) (λ z. omega arith) (λ z. omega arith) (c9 .before .put-small2 .ensures) (c3 .before .before .before .put-scaled .ensures) (c .before .before .put-step .ensures)
+    wrote-terms (c15 .before .before .args .r) (λ z. omega arith) (λ z. omega arith) (c9 .before .put-small2 .ensures) (c3 .before .before .before .put-scaled .ensures)
+    (c .before .before .put-step .ensures)
 
 pub put-terms-spec : {M : Type 1} → statement M
 put-terms-spec =

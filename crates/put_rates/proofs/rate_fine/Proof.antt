@@ -24,14 +24,26 @@ unfolding priceFine
 returns-3 c =
     let c3 = c .before .before .before in
     let r = c3 .before .before .before .args .r in
-    rw (rate-is r, le-leb (r .item) 4 (omega arith), sym (c .before .before .before .detail-fine .ensures) ∙ not-false _ (c .before .before .if2 .left), sym (c .before .times-fine .ensures) ∙ not-true _ (c .if3 .taken))
+    rw (
+      rate-is r,
+      le-leb (r .item) 4 (omega arith),
+      sym (c .before .before .before .detail-fine .ensures) ∙ not-false _ (c .before .before .if2 .left),
+      sym
+          (c .before .times-fine .ensures) ∙ not-true _ (c .if3 .taken),
+    )
 
 returns-4 : tie.Need-returns-4
 unfolding priceFine
 returns-4 c =
     let c3 = c .before .before .before in let c6 = c3 .before .before .before in
     let r = c6 .before .args .r in
-    rw (rate-is r, le-leb (r .item) 4 (omega arith), sym (c3 .before .detail-fine .ensures) ∙ not-false _ (c .before .before .before .if2 .left), sym (c .before .before .times-fine .ensures) ∙ not-false _ (c .before .if3 .left)) (c .amount-fine .ensures)
+    rw (
+      rate-is r,
+      le-leb (r .item) 4 (omega arith),
+      sym (c3 .before .detail-fine .ensures) ∙ not-false _ (c .before .before .before .if2 .left),
+      sym
+          (c .before .before .times-fine .ensures) ∙ not-false _ (c .before .if3 .left),
+    ) (c .amount-fine .ensures)
 
 pub rate-fine-spec : {M : Type 1} → statement M
 rate-fine-spec =

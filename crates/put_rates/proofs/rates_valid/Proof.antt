@@ -32,7 +32,8 @@ returns : tie.Need-returns Inv-loop μ-loop
 returns c =
     let c3 = c .before .before .before in
     let a = c3 .before .before .args in
-    all-stop (rate .valid) (a .n) (rateAt (laid (a .numbers .now) (a .octets .now))) (c3 .before .loop .i) (c .before .before .rate-of .ensures) (c .before .rate-fine .ensures) (c .if1 .taken) (omega arith)
+    all-stop (rate .valid) (a .n) (rateAt (laid (a .numbers .now) (a .octets .now))) (c3 .before .loop .i) (c .before .before .rate-of .ensures)
+    (c .before .rate-fine .ensures) (c .if1 .taken) (omega arith)
 
 add-i : tie.Need-add-i Inv-loop μ-loop
 add-i c = omega arith

@@ -33,7 +33,15 @@ returns-3 c =
     let s = c3 .before .before .before in
     let r = s .args .r in
     let v = rate-parts r (s .pre) in
-    omega (arith, c .step-size .ensures, c .before .scaled-size .ensures .0 0xa4, c .before .scaled-size .ensures .1, small-length 0x83 (r .detail) (omega (arith, v .detail)), terms-room r (λ z. omega arith) (λ z. omega arith))
+    omega (
+      arith,
+      c .step-size .ensures,
+      c .before .scaled-size .ensures .0 0xa4,
+      c .before .scaled-size .ensures .1,
+      small-length 0x83 (r .detail)
+          (omega (arith, v .detail)),
+      terms-room r (λ z. omega arith) (λ z. omega arith),
+    )
 
 pub terms-size-spec : {M : Type 1} → statement M
 terms-size-spec =

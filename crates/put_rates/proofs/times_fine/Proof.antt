@@ -4,7 +4,7 @@ use mathlib.Core.Path.{sym, _∙_}
 use native.Mathlib.Omega.{arith}
 use borrow.Author.Needs.{needs}
 use borrow.Author.Tests.{eq-eqb, ne-eqb, not-true, not-false}
-use Rattle.put_figures.proofs.Truth.{tests}
+use Rattle.coding.proofs.Tests.{tests}
 use Rattle.put_rates.specs.Prices.{timesFine}
 use Rattle.put_rates.proofs.Prices.{zero-first}
 use Rattle.put_rates.proofs.times_fine.Statement.{statement}

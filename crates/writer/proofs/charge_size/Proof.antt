@@ -7,9 +7,6 @@ use Rattle.writer.proofs.Fits.{operation-range, its-front, its-charge}
 use Rattle.writer.proofs.charge_size.Statement.{statement}
 use Rattle.writer.proofs.charge_size.Tie as tie
 
-is-charged-requires : tie.Need-is-charged-requires
-is-charged-requires c κs = search needs
-
 charge-size-requires : tie.Need-charge-size-requires
 charge-size-requires c κs =
     let s = c .before .before in
@@ -27,4 +24,4 @@ returns-2 c =
     sym (ap length (unpicked _ _ (sym (c .before .is-charged .ensures) ∙ c .if1 .left)))
 
 pub charge-size-spec : {M : Type 1} → statement M
-charge-size-spec = tie.close (tie.spec is-charged-requires charge-size-requires returns returns-2)
+charge-size-spec = tie.close (tie.spec (λ c κs. search needs) charge-size-requires returns returns-2)

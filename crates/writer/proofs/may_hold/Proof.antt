@@ -5,9 +5,6 @@ use borrow.Author.Needs.{needs}
 use Rattle.writer.proofs.may_hold.Statement.{statement}
 use Rattle.writer.proofs.may_hold.Tie as tie
 
-is-charged-requires : tie.Need-is-charged-requires
-is-charged-requires c κs = search needs
-
 returns : tie.Need-returns
 returns c =
     sym (ap (λ (b : Bool). b || eqb (c .before .before .args .kind) 0) (sym (c .before .is-charged .ensures) ∙ c .if1 .taken))
@@ -17,4 +14,4 @@ returns-2 c =
     sym (ap (λ (b : Bool). b || eqb (c .before .before .args .kind) 0) (sym (c .before .is-charged .ensures) ∙ c .if1 .left))
 
 pub may-hold-spec : {M : Type 1} → statement M
-may-hold-spec = tie.close (tie.spec is-charged-requires returns returns-2)
+may-hold-spec = tie.close (tie.spec (λ c κs. search needs) returns returns-2)

@@ -91,36 +91,78 @@ add-put-lead c =
     let s = c .before .before .before .before .before .before .before .before .before .before .before in
     let a = s .args in
     let r = recordOf (a .f) (withList (a .figure) (a .numbers .now) (a .rows .now)) in
-    let v = sym (c .before .before .before .before .before .before .before .before .before .record-fine .ensures .0) ∙ not-false _ (c .before .before .before .before .before .before .before .before .if1 .left) in
+    let v = sym (c .before .before .before .before .before .before .before .before .before .record-fine .ensures .0) ∙ not-false _
+    (c .before .before .before .before .before .before .before .before .if1 .left) in
     omega (arith, frame-few (frontOf r) (its-front (frontOf r) (r .charge) v))
 
 put-lead-requires : tie.Need-put-lead-requires
-put-lead-requires c κs =
-    (omega (arith, c .before .before .before .before .if3 .left), omega (arith, c .before .before .before .element-size .ensures .0 (0xa0 + c .before .before .before .before .before .before .before .before .before .before .before .args .f .frame), c .before .before .if4 .left))
+put-lead-requires c κs = (
+  omega (arith, c .before .before .before .before .if3 .left),
+  omega (
+    arith,
+    c .before .before .before .element-size .ensures .0
+        (0xa0 + c .before .before .before .before .before .before .before .before .before .before .before .args .f .frame),
+    c .before .before .if4 .left,
+  ),
+)
 
 put-body-requires : tie.Need-put-body-requires
 put-body-requires c κs =
     let s = c .before .before .before .before .before .before .before .before .before .before .before .before .before .before .before in
     let a = s .args in
     let r = recordOf (a .f) (withList (a .figure) (a .numbers .now) (a .rows .now)) in
-    let v = sym (c .before .before .before .before .before .before .before .before .before .before .before .before .before .record-fine .ensures .0) ∙ not-false _ (c .before .before .before .before .before .before .before .before .before .before .before .before .if1 .left) in
+    let v = sym (c .before .before .before .before .before .before .before .before .before .before .before .before .before .record-fine .ensures .0) ∙ not-false _
+    (c .before .before .before .before .before .before .before .before .before .before .before .before .if1 .left) in
     let co = chargeOctets (frontOf r) (r .charge) in
     let n = c .before .before .before .before .before .before .before .before .before .before .before .charge-size .ensures in
     let e : c .before .before .before .before .before .before .before .before .before .front-size .result + c .before .before .before .before .before .before .before .before .before .before .before .charge-size .result ≡ length (bodyOf (frontOf r) (r .charge)) =
-    omega (arith, length-append (frontOctets (frontOf r) (length co)) co, c .before .before .before .before .before .before .before .before .before .front-size .ensures .0, ap (λ (k : ℕ). length (frontOctets (frontOf r) k)) n, n) in
-    ((v, c .before .before .before .before .before .before .before .before .before .before .before .before .before .record-fine .ensures .1), ((n, omega (arith, c .before .before .before .before .before .before .before .before .before .before .if2 .left)), omega (arith, e, c .before .before .before .put-lead .ensures .place, c .before .before .before .put-lead .ensures .kept, c .before .before .before .before .before .before .before .element-size .ensures .0 (0xa0 + r .frame), c .before .before .before .before .before .before .if4 .left)))
+    omega (
+      arith,
+      length-append (frontOctets (frontOf r) (length co)) co,
+      c .before .before .before .before .before .before .before .before .before .front-size .ensures .0,
+      ap (λ (k : ℕ). length (frontOctets (frontOf r) k)) n,
+      n,
+    ) in (
+      (v, c .before .before .before .before .before .before .before .before .before .before .before .before .before .record-fine .ensures .1),
+      (
+        (n, omega (arith, c .before .before .before .before .before .before .before .before .before .before .if2 .left)),
+        omega (
+          arith,
+          e,
+          c .before .before .before .put-lead .ensures .place,
+          c .before .before .before .put-lead .ensures .kept,
+          c .before .before .before .before .before .before .before .element-size .ensures .0 (0xa0 + r .frame),
+          c .before .before .before .before .before .before .if4 .left,
+        ),
+      ),
+    )
 
 cast-count : tie.Need-cast-count
 cast-count c =
     let s = c .before .before .before .before .before .before .before .before .before .before .before .before .before .before .before .before .before .before in
     let a = s .args in
     let r = recordOf (a .f) (withList (a .figure) (a .numbers .now) (a .rows .now)) in
-    let v = sym (c .before .before .before .before .before .before .before .before .before .before .before .before .before .before .before .before .record-fine .ensures .0) ∙ not-false _ (c .before .before .before .before .before .before .before .before .before .before .before .before .before .before .before .if1 .left) in
+    let v = sym
+    (c .before .before .before .before .before .before .before .before .before .before .before .before .before .before .before .before .record-fine .ensures .0) ∙ not-false _ (c .before .before .before .before .before .before .before .before .before .before .before .before .before .before .before .if1 .left) in
     let co = chargeOctets (frontOf r) (r .charge) in
     let n = c .before .before .before .before .before .before .before .before .before .before .before .before .before .before .charge-size .ensures in
     let e : c .before .before .before .before .before .before .before .before .before .before .before .before .front-size .result + c .before .before .before .before .before .before .before .before .before .before .before .before .before .before .charge-size .result ≡ length (bodyOf (frontOf r) (r .charge)) =
-    omega (arith, length-append (frontOctets (frontOf r) (length co)) co, c .before .before .before .before .before .before .before .before .before .before .before .before .front-size .ensures .0, ap (λ (k : ℕ). length (frontOctets (frontOf r) k)) n, n) in
-    omega (arith, e, c .before .before .put-body .ensures .place, c .before .before .before .before .before .before .put-lead .ensures .place, c .before .before .before .before .before .before .before .before .before .before .element-size .ensures .0 (0xa0 + r .frame), c .before .before .before .before .before .before .before .before .before .before .element-size .ensures .1, c .before .before .before .before .before .before .before .before .before .before .before .if3 .left)
+    omega (
+      arith,
+      length-append (frontOctets (frontOf r) (length co)) co,
+      c .before .before .before .before .before .before .before .before .before .before .before .before .front-size .ensures .0,
+      ap (λ (k : ℕ). length (frontOctets (frontOf r) k)) n,
+      n,
+    ) in
+    omega (
+      arith,
+      e,
+      c .before .before .put-body .ensures .place,
+      c .before .before .before .before .before .before .put-lead .ensures .place,
+      c .before .before .before .before .before .before .before .before .before .before .element-size .ensures .0 (0xa0 + r .frame),
+      c .before .before .before .before .before .before .before .before .before .before .element-size .ensures .1,
+      c .before .before .before .before .before .before .before .before .before .before .before .if3 .left,
+    )
 
 same-length : tie.Need-same-length
 same-length c = search needs
@@ -130,12 +172,21 @@ returns-5 c =
     let s = c .before .before .before .before .before .before .before .before .before .before .before .before .before .before .before .before .before .before in
     let a = s .args in
     let r = recordOf (a .f) (withList (a .figure) (a .numbers .now) (a .rows .now)) in
-    let v = sym (c .before .before .before .before .before .before .before .before .before .before .before .before .before .before .before .before .record-fine .ensures .0) ∙ not-false _ (c .before .before .before .before .before .before .before .before .before .before .before .before .before .before .before .if1 .left) in
+    let v = sym
+    (c .before .before .before .before .before .before .before .before .before .before .before .before .before .before .before .before .record-fine .ensures .0) ∙ not-false _ (c .before .before .before .before .before .before .before .before .before .before .before .before .before .before .before .if1 .left) in
     let co = chargeOctets (frontOf r) (r .charge) in
     let n = c .before .before .before .before .before .before .before .before .before .before .before .before .before .before .charge-size .ensures in
     let e : c .before .before .before .before .before .before .before .before .before .before .before .before .front-size .result + c .before .before .before .before .before .before .before .before .before .before .before .before .before .before .charge-size .result ≡ length (bodyOf (frontOf r) (r .charge)) =
-    omega (arith, length-append (frontOctets (frontOf r) (length co)) co, c .before .before .before .before .before .before .before .before .before .before .before .before .front-size .ensures .0, ap (λ (k : ℕ). length (frontOctets (frontOf r) k)) n, n) in
-    wrote r (a .buf .now) (search needs) v e (c .before .before .before .before .before .before .before .before .before .before .before .if3 .left) (c .before .before .before .before .before .before .before .before .before .before .element-size .ensures .0) (c .before .before .before .before .before .before .before .before .before .if4 .left) (c .before .before .before .before .before .before .put-lead .ensures) (c .before .before .put-body .ensures)
+    omega (
+      arith,
+      length-append (frontOctets (frontOf r) (length co)) co,
+      c .before .before .before .before .before .before .before .before .before .before .before .before .front-size .ensures .0,
+      ap (λ (k : ℕ). length (frontOctets (frontOf r) k)) n,
+      n,
+    ) in
+    wrote r (a .buf .now) (search needs) v e (c .before .before .before .before .before .before .before .before .before .before .before .if3 .left)
+    (c .before .before .before .before .before .before .before .before .before .before .element-size .ensures .0)
+    (c .before .before .before .before .before .before .before .before .before .if4 .left) (c .before .before .before .before .before .before .put-lead .ensures) (c .before .before .put-body .ensures)
 
 pub put-record-spec : {M : Type 1} → statement M
 put-record-spec =

@@ -6,9 +6,6 @@ use Rattle.writer.proofs.Fits.{operation-range}
 use Rattle.writer.proofs.tested_by.Statement.{statement}
 use Rattle.writer.proofs.tested_by.Tie as tie
 
-is-charged-requires : tie.Need-is-charged-requires
-is-charged-requires c κs = search needs
-
 returns : tie.Need-returns
 returns c =
     let s = c .before .before in
@@ -19,4 +16,4 @@ returns-2 : tie.Need-returns-2
 returns-2 c = (sym (unpicked _ _ (sym (c .before .is-charged .ensures) ∙ c .if1 .left)), (omega arith, omega arith))
 
 pub tested-by-spec : {M : Type 1} → statement M
-tested-by-spec = tie.close (tie.spec is-charged-requires returns returns-2)
+tested-by-spec = tie.close (tie.spec (λ c κs. search needs) returns returns-2)

@@ -7,21 +7,16 @@ use Rattle.writer.proofs.Outcomes.{of-same}
 use Rattle.writer.proofs.write_from.Statement.{statement}
 use Rattle.writer.proofs.write_from.Tie as tie
 
-figure-of-requires : tie.Need-figure-of-requires
-figure-of-requires c κs = search needs
-
 put-record-requires : tie.Need-put-record-requires
 put-record-requires c κs =
     let q = c .before .figure-of .ensures in
     (sym (ap (λ (f : Figure). f .money .currency .octets) q), sym (ap (λ (f : Figure). f .association .digits) q))
 
-same-length : tie.Need-same-length
-same-length c = search needs
-
 returns : tie.Need-returns
 returns c =
-    let a = c .before .before .before .before .before .before .args in
-    of-same (a .buf .now) (ap (λ (f : Figure). recordOf (a .f) (withList f (a .numbers .now) (a .rows .now))) (c .before .before .before .before .figure-of .ensures)) (c .before .before .put-record .ensures)
+    let c3 = c .before .before .before in
+    let a = c3 .before .before .before .args in
+    of-same (a .buf .now) (ap (λ (f : Figure). recordOf (a .f) (withList f (a .numbers .now) (a .rows .now))) (c3 .before .figure-of .ensures)) (c .before .before .put-record .ensures)
 
 pub write-from-spec : {M : Type 1} → statement M
-write-from-spec = tie.close (tie.spec figure-of-requires put-record-requires same-length returns)
+write-from-spec = tie.close (tie.spec (λ c κs. search needs) put-record-requires (λ c. search needs) returns)
