@@ -1,6 +1,6 @@
 #!/bin/sh
 # The pages say what the tree has: what each crate stands on, the lines of each file of definitions, which of them are to be believed,
-# the exports, the names in backticks, the must-fail edits, the links.
+# the exports, the must-fail edits, the theorems, the names in backticks, what is quoted of definitions, the links.
 cd "$(dirname "$0")/.." || exit 2
 exec python3 - <<'PYTHON'
 import glob
@@ -45,11 +45,13 @@ for name in stands:
 
 # ---- the files of definitions: those to be believed, with their lines, and those that only help
 files = {path[len("crates/"):] for path in glob.glob("crates/*/specs/*.antt") if not path.endswith("/Lib.antt")}
-believed = {name: int(lines) for name, lines in re.findall(r"^\| `([a-z_]+/specs/[A-Za-z]+\.antt)` \| (\d+) \|", text(TRUST), re.M)}
+rows = re.findall(r"^\| `([a-z_]+/specs/[A-Za-z]+\.antt)` \| (\d+) \|", text(TRUST), re.M)
+believed = {name: int(lines) for name, lines in rows}
 helping = re.findall(r"^- `([a-z_]+/specs/[A-Za-z]+\.antt)`", text(TRUST), re.M)
 differ(TRUST, "file", set(believed) | set(helping), files)
-for name in sorted(set(believed) & set(helping)):
-    tell(TRUST, f"{name} is in both lists")
+listed = [name for name, lines in rows] + helping
+for name in sorted({name for name in listed if listed.count(name) > 1}):
+    tell(TRUST, f"{name} is listed twice")
 for name, lines in believed.items():
     if name not in files:
         continue
@@ -74,6 +76,20 @@ edits = {"/".join((path.split("/")[1], path.split("/")[3][: -len(".edit")])) for
 named = {name for name in re.findall(r"`([a-z_]+/[a-z_0-9]+)`", text(CONTRACTS)) if name.split("/")[1] not in ("src", "specs", "proofs")}
 differ(CONTRACTS, "edit", named, edits)
 
+# ---- each theorem that CONTRACTS names stands in the file that it names
+folder = file = None
+for line in text(CONTRACTS).split("## Theorems", 1)[1].splitlines():
+    if line.startswith("#"):
+        at = re.search(r"`([a-z_]+/proofs)(?:/(\w+\.antt))?`", line)
+        folder, file = (at[1], at[2]) if at else ("coding/proofs", None)
+    elif line.startswith("| `"):
+        cell = line.split("|")[1]
+        own = re.search(r"\(`(\w+\.antt)`\)", cell)
+        path = f"crates/{folder}/{own[1] if own else file}"
+        for name in re.findall(r"`([^\W\d][\w-]*)`", cell) if own or file else []:
+            if not os.path.exists(path) or not re.search(rf"(?m)^ *(?:pub )?(?:unfoldable )?{re.escape(name)} ", text(path)):
+                tell(CONTRACTS, f"no {name} in {path}")
+
 # ---- names in backticks
 code = {crate: "\n".join(text(path) for path in glob.glob(f"crates/{crate}/src/**/*.rt", recursive=True)) for crate in stands}
 words = set()
@@ -95,6 +111,15 @@ for page in pages:
                 tell(page, f"no {quoted}")
         elif re.fullmatch(r"[^\W\d][\w-]{2,}", quoted) and quoted not in words:
             tell(page, f"no name {quoted}")
+
+# ---- what READING-01 quotes of a definition stands there, `..` for anything
+specs = " ".join(re.sub(r"\s+", " ", text(path)) for path in glob.glob("crates/*/specs/*.antt") + glob.glob("crates/*/proofs/*.antt"))
+for line in text("docs/READING-01.md").splitlines():
+    for quoted in re.findall(r"`([^`]+)`", line) if line.startswith("|") else []:
+        if re.search(r"\S [=∷(]|^\(", quoted):
+            for piece in re.split(r" ?\.\. ?", quoted.replace("\\|", "|")):
+                if piece not in specs:
+                    tell("docs/READING-01.md", f"no definition has {piece}")
 
 # ---- links, and files that are named by their path
 for page in pages + sorted(glob.glob("docs/landings/*.md")):
