@@ -5,5 +5,5 @@ use Rattle.account.specs.declared.Account.{Account}
 use Rattle.account.specs.History.{Given, judged, accountBy}
 
 -- the account's one answer, and over every list of events the answer of the rules
-abbrev pub Told : {R : Type 0} → Account → R → (List Given → R) → R → Type 0
-Told a x rule r = (r ≡ x) × ((h : List Given) → a ≡ accountBy (judged h) → r ≡ rule h)
+abbrev pub ReadsOff : {R : Type 0} → Account → R → (List Given → R) → R → Type 0
+ReadsOff a x rule r = (r ≡ x) × ((h : List Given) → a ≡ accountBy (judged h) → r ≡ rule h)

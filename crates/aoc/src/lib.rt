@@ -23,7 +23,7 @@ ghost use Rattle.account.specs.History.{Given, event, judged, accountBy, curren
 ghost use Rattle.account.specs.Step.{requestsOf, steppedOf, closingOf, marksOf};
 ghost use Rattle.account.specs.Outcome.{Connect, Clear, Released, Component, Suspend, Resume};
 ghost use Rattle.aoc.specs.Events.{plainEvent, setupEvent, Took};
-ghost use Rattle.aoc.specs.Reading.{Told};
+ghost use Rattle.aoc.specs.Reading.{ReadsOff};
 ghost use Rattle.price.specs.Price.{priceOf};
 
 // ---- components
@@ -269,42 +269,42 @@ pub extern "C" fn aoc_component(a: &mut account::Account, octets: &[u8]) -> acco
 
 #[no_mangle]
 pub extern "C" fn aoc_rate_of(a: &account::Account) -> types::Charge
-    ensures { λ r. ⌜ Told (now (a .entry)) (now (a .entry) .rate) (λ h. currentRate (judged h)) r ⌝ }
+    ensures { λ r. ⌜ ReadsOff (now (a .entry)) (now (a .entry) .rate) (λ h. currentRate (judged h)) r ⌝ }
 {
     account::rate_of(*a)
 }
 
 #[no_mangle]
 pub extern "C" fn aoc_running_of(a: &account::Account) -> types::Charge
-    ensures { λ r. ⌜ Told (now (a .entry)) (now (a .entry) .running) (λ h. running (judged h)) r ⌝ }
+    ensures { λ r. ⌜ ReadsOff (now (a .entry)) (now (a .entry) .running) (λ h. running (judged h)) r ⌝ }
 {
     account::running_of(*a)
 }
 
 #[no_mangle]
 pub extern "C" fn aoc_closing_of(a: &account::Account) -> account::Closing
-    ensures { λ r. ⌜ Told (now (a .entry)) (closingOf (now (a .entry))) (λ h. closing (judged h)) r ⌝ }
+    ensures { λ r. ⌜ ReadsOff (now (a .entry)) (closingOf (now (a .entry))) (λ h. closing (judged h)) r ⌝ }
 {
     account::closing_of(*a)
 }
 
 #[no_mangle]
 pub extern "C" fn aoc_marks_of(a: &account::Account) -> account::Marks
-    ensures { λ r. ⌜ Told (now (a .entry)) (marksOf (now (a .entry))) (λ h. marks (judged h)) r ⌝ }
+    ensures { λ r. ⌜ ReadsOff (now (a .entry)) (marksOf (now (a .entry))) (λ h. marks (judged h)) r ⌝ }
 {
     account::marks_of(*a)
 }
 
 #[no_mangle]
 pub extern "C" fn aoc_pending_of(a: &account::Account) -> account::Pending
-    ensures { λ r. ⌜ Told (now (a .entry)) (pendingOf (requestsOf (now (a .entry) .status))) (λ h. pendingOf (requests (judged h))) r ⌝ }
+    ensures { λ r. ⌜ ReadsOff (now (a .entry)) (pendingOf (requestsOf (now (a .entry) .status))) (λ h. pendingOf (requests (judged h))) r ⌝ }
 {
     account::pending_of(*a)
 }
 
 #[no_mangle]
 pub extern "C" fn aoc_phase_of(a: &account::Account) -> u8
-    ensures { λ r. ⌜ Told (now (a .entry)) (now (a .entry) .status .phase) (λ h. phase (judged h)) r ⌝ }
+    ensures { λ r. ⌜ ReadsOff (now (a .entry)) (now (a .entry) .status .phase) (λ h. phase (judged h)) r ⌝ }
 {
     account::phase_of(*a)
 }

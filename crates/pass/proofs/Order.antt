@@ -17,7 +17,7 @@ use Rattle.coding.proofs.Header.{read-element, element-range}
 use Rattle.facility.specs.Element.{tiled, led, elementOf}
 use Rattle.facility.specs.Parts.{startsOf, firstOr}
 use Rattle.facility.proofs.Tiles.{answer-found}
-use Rattle.pass.specs.Pass.{nothing, upTo, among, passOf}
+use Rattle.pass.specs.Pass.{noComponent, componentUpTo, amongStarts, passOf}
 use Rattle.pass.specs.Places.{afterIn, emptyAt}
 
 -- each start lies below the next, the last below the end
@@ -65,26 +65,26 @@ starts-rise s e =
 -- ---- a place among the starts
 
 pub among-found : (s : List ℕ) (place : ℕ) (xs : List ℕ) → Rises (length s) xs → (q : ℕ) → afterIn place (length s) xs ≡ q → (q ≡ 0 → ⊥)
-    → (place < q) × (q ≤ length s) × (among s place xs ≡ upTo s place q)
-unfolding afterIn among
+    → (place < q) × (q ≤ length s) × (amongStarts s place xs ≡ componentUpTo s place q)
+unfolding afterIn amongStarts
 among-found s place [] r q e n = absurd (n (sym e))
 among-found s place (a ∷ xs) r q e n = go (eqb a place) refl e (λ f. among-found s place xs (r .1) q f n)
   where
     go : (b : Bool) → eqb a place ≡ b → cond b (firstOr (length s) xs) (afterIn place (length s) xs) ≡ q
-        → (afterIn place (length s) xs ≡ q → (place < q) × (q ≤ length s) × (among s place xs ≡ upTo s place q))
-        → (place < q) × (q ≤ length s) × (cond b (upTo s a (firstOr (length s) xs)) (among s place xs) ≡ upTo s place q)
+        → (afterIn place (length s) xs ≡ q → (place < q) × (q ≤ length s) × (amongStarts s place xs ≡ componentUpTo s place q))
+        → (place < q) × (q ≤ length s) × (cond b (componentUpTo s a (firstOr (length s) xs)) (amongStarts s place xs) ≡ componentUpTo s place q)
     go true t f more =
         let z : a ≡ place = eqb-true a place t in
-        (omega (arith, r .0, z, f), omega (arith, first-inside (length s) xs (r .1), f), ap (λ (k : ℕ). upTo s k (firstOr (length s) xs)) z ∙ ap (λ (k : ℕ). upTo s place k) f)
+        (omega (arith, r .0, z, f), omega (arith, first-inside (length s) xs (r .1), f), ap (λ (k : ℕ). componentUpTo s k (firstOr (length s) xs)) z ∙ ap (λ (k : ℕ). componentUpTo s place k) f)
     go false t f more = more f
 
-pub among-none : (s : List ℕ) (place : ℕ) (xs : List ℕ) → Rises (length s) xs → afterIn place (length s) xs ≡ 0 → among s place xs ≡ nothing 16
-unfolding afterIn among
+pub among-none : (s : List ℕ) (place : ℕ) (xs : List ℕ) → Rises (length s) xs → afterIn place (length s) xs ≡ 0 → amongStarts s place xs ≡ noComponent 16
+unfolding afterIn amongStarts
 among-none s place [] r e = refl
 among-none s place (a ∷ xs) r e = go (eqb a place) e (among-none s place xs (r .1))
   where
-    go : (b : Bool) → cond b (firstOr (length s) xs) (afterIn place (length s) xs) ≡ 0 → (afterIn place (length s) xs ≡ 0 → among s place xs ≡ nothing 16)
-        → cond b (upTo s a (firstOr (length s) xs)) (among s place xs) ≡ nothing 16
+    go : (b : Bool) → cond b (firstOr (length s) xs) (afterIn place (length s) xs) ≡ 0 → (afterIn place (length s) xs ≡ 0 → amongStarts s place xs ≡ noComponent 16)
+        → cond b (componentUpTo s a (firstOr (length s) xs)) (amongStarts s place xs) ≡ noComponent 16
     go true f more = absurd (omega (arith, r .0, f))
     go false f more = more f
 
@@ -124,12 +124,12 @@ unfolding passOf
 find-end s place f e = picked _ _ (eq-eqb _ 0 f) ∙ picked _ _ (eq-eqb place (length s) e)
 
 module _ (s : List ℕ) (place : ℕ) (fine : elementOf s .number ≡ 0) (more : place ≡ length s → ⊥) where
-  inner : passOf s place ≡ among s place (startsOf (elementOf s))
+  inner : passOf s place ≡ amongStarts s place (startsOf (elementOf s))
   unfolding passOf
   inner = picked _ _ (eq-eqb _ 0 fine) ∙ unpicked _ _ (ne-eqb place (length s) more)
 
   pub find-none : afterIn place (length s) (startsOf (elementOf s)) ≡ 0 → passOf s place ≡ emptyAt 0 16
   find-none e = inner ∙ among-none s place _ (starts-rise s fine .0) e
 
-  pub find-some : (q : ℕ) → afterIn place (length s) (startsOf (elementOf s)) ≡ q → (q ≡ 0 → ⊥) → (place < q) × (q ≤ length s) × (passOf s place ≡ upTo s place q)
+  pub find-some : (q : ℕ) → afterIn place (length s) (startsOf (elementOf s)) ≡ q → (q ≡ 0 → ⊥) → (place < q) × (q ≤ length s) × (passOf s place ≡ componentUpTo s place q)
   find-some q e n = let f = among-found s place _ (starts-rise s fine .0) q e n in (f .0, f .1, inner ∙ f .2)

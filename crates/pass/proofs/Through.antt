@@ -14,7 +14,7 @@ use Rattle.types.specs.declared.Answer.{Answer}
 use Rattle.types.specs.Frames.{readOf}
 use Rattle.facility.specs.Element.{elementOf}
 use Rattle.facility.specs.Parts.{startsOf, firstOr, partsOf}
-use Rattle.pass.specs.Pass.{Passed, atEnd, nothing, upTo, among, passOf, Through}
+use Rattle.pass.specs.Pass.{Passed, atEnd, noComponent, componentUpTo, amongStarts, passOf, Through}
 use Rattle.pass.specs.Pass.Through.{over, next}
 use Rattle.pass.specs.Places.{afterIn}
 use Rattle.pass.proofs.Order.{Rises, first-inside, starts-rise, among-found, among-none}
@@ -25,8 +25,8 @@ below : (end b : ℕ) (before : List ℕ) (a : ℕ) (xs : List ℕ) → Rises en
 below end b [] a xs r = r .0
 below end b (c ∷ before) a xs r = omega (arith, r .0, below end c before a xs (r .1))
 
-skips : (s before : List ℕ) (a : ℕ) (xs : List ℕ) → Rises (length s) (before ++ (a ∷ xs)) → among s a (before ++ (a ∷ xs)) ≡ upTo s a (firstOr (length s) xs)
-unfolding among
+skips : (s before : List ℕ) (a : ℕ) (xs : List ℕ) → Rises (length s) (before ++ (a ∷ xs)) → amongStarts s a (before ++ (a ∷ xs)) ≡ componentUpTo s a (firstOr (length s) xs)
+unfolding amongStarts
 skips s [] a xs r = picked _ _ (eq-eqb a a refl)
 skips s (b ∷ before) a xs r = unpicked _ _ (ne-eqb b a (λ e. omega (arith, below (length s) b before a xs r, e))) ∙ skips s before a xs (r .1)
 
@@ -39,12 +39,12 @@ module _ (s : List ℕ) (fine : elementOf s .number ≡ 0) where
   unfolding passOf
   end-here = picked _ _ (eq-eqb _ 0 fine) ∙ picked _ _ (eq-eqb (length s) (length s) refl)
 
-  start-here : (before : List ℕ) (a : ℕ) (xs : List ℕ) → startsOf (elementOf s) ≡ before ++ (a ∷ xs) → passOf s a ≡ upTo s a (firstOr (length s) xs)
+  start-here : (before : List ℕ) (a : ℕ) (xs : List ℕ) → startsOf (elementOf s) ≡ before ++ (a ∷ xs) → passOf s a ≡ componentUpTo s a (firstOr (length s) xs)
   unfolding passOf
   start-here before a xs e =
       let r = rw e at (starts-rise s fine .0) in
       picked _ _ (eq-eqb _ 0 fine) ∙ unpicked _ _ (ne-eqb a (length s) (λ z. omega (arith, inside (length s) before a xs r, z)))
-      ∙ ap (among s a) e ∙ skips s before a xs r
+      ∙ ap (amongStarts s a) e ∙ skips s before a xs r
 
   onward : (before xs : List ℕ) → startsOf (elementOf s) ≡ before ++ xs → Through s (firstOr (length s) xs) (map readOf (partsOf s xs))
   onward before [] e = over end-here
@@ -67,30 +67,30 @@ through-once s p (x ∷ xs) (y ∷ ys) (next {after = q} e t) (next {after = r} 
 -- ---- every place gives one of four: 15, 16, the end, a component with the place after it
 
 pub one-of-four : (s : List ℕ) (place : ℕ)
-    → (passOf s place ≡ nothing 15) ⊎ ((passOf s place ≡ nothing 16) ⊎ ((passOf s place ≡ atEnd) ⊎ ((q : ℕ) × (place < q) × (q ≤ length s) × (passOf s place ≡ upTo s place q))))
+    → (passOf s place ≡ noComponent 15) ⊎ ((passOf s place ≡ noComponent 16) ⊎ ((passOf s place ≡ atEnd) ⊎ ((q : ℕ) × (place < q) × (q ≤ length s) × (passOf s place ≡ componentUpTo s place q))))
 unfolding passOf
 one-of-four s place = go (eqb (elementOf s .number) 0) refl
   where
     found : elementOf s .number ≡ 0 → (q : ℕ) → afterIn place (length s) (startsOf (elementOf s)) ≡ q
-        → (among s place (startsOf (elementOf s)) ≡ nothing 16) ⊎ ((q : ℕ) × (place < q) × (q ≤ length s) × (among s place (startsOf (elementOf s)) ≡ upTo s place q))
+        → (amongStarts s place (startsOf (elementOf s)) ≡ noComponent 16) ⊎ ((q : ℕ) × (place < q) × (q ≤ length s) × (amongStarts s place (startsOf (elementOf s)) ≡ componentUpTo s place q))
     found fine zero e = inl (among-none s place _ (starts-rise s fine .0) e)
     found fine (suc q) e = let f = among-found s place _ (starts-rise s fine .0) (suc q) e (λ z. omega (arith, z)) in inr (suc q, f .0, f .1, f .2)
 
-    split : {B : Type 0} {x : Passed} → ((x ≡ nothing 16) ⊎ B) → ((x ≡ nothing 16) ⊎ ((x ≡ atEnd) ⊎ B))
+    split : {B : Type 0} {x : Passed} → ((x ≡ noComponent 16) ⊎ B) → ((x ≡ noComponent 16) ⊎ ((x ≡ atEnd) ⊎ B))
     split (inl e) = inl e
     split (inr b) = inr (inr b)
 
     here : (b : Bool) → elementOf s .number ≡ 0
-        → (cond b atEnd (among s place (startsOf (elementOf s))) ≡ nothing 16)
-        ⊎ ((cond b atEnd (among s place (startsOf (elementOf s))) ≡ atEnd)
-        ⊎ ((q : ℕ) × (place < q) × (q ≤ length s) × (cond b atEnd (among s place (startsOf (elementOf s))) ≡ upTo s place q)))
+        → (cond b atEnd (amongStarts s place (startsOf (elementOf s))) ≡ noComponent 16)
+        ⊎ ((cond b atEnd (amongStarts s place (startsOf (elementOf s))) ≡ atEnd)
+        ⊎ ((q : ℕ) × (place < q) × (q ≤ length s) × (cond b atEnd (amongStarts s place (startsOf (elementOf s))) ≡ componentUpTo s place q)))
     here true fine = inr (inl refl)
     here false fine = split (found fine _ refl)
 
     go : (b : Bool) → eqb (elementOf s .number) 0 ≡ b
-        → (cond b (cond (eqb place (length s)) atEnd (among s place (startsOf (elementOf s)))) (nothing 15) ≡ nothing 15)
-        ⊎ ((cond b (cond (eqb place (length s)) atEnd (among s place (startsOf (elementOf s)))) (nothing 15) ≡ nothing 16)
-        ⊎ ((cond b (cond (eqb place (length s)) atEnd (among s place (startsOf (elementOf s)))) (nothing 15) ≡ atEnd)
-        ⊎ ((q : ℕ) × (place < q) × (q ≤ length s) × (cond b (cond (eqb place (length s)) atEnd (among s place (startsOf (elementOf s)))) (nothing 15) ≡ upTo s place q))))
+        → (cond b (cond (eqb place (length s)) atEnd (amongStarts s place (startsOf (elementOf s)))) (noComponent 15) ≡ noComponent 15)
+        ⊎ ((cond b (cond (eqb place (length s)) atEnd (amongStarts s place (startsOf (elementOf s)))) (noComponent 15) ≡ noComponent 16)
+        ⊎ ((cond b (cond (eqb place (length s)) atEnd (amongStarts s place (startsOf (elementOf s)))) (noComponent 15) ≡ atEnd)
+        ⊎ ((q : ℕ) × (place < q) × (q ≤ length s) × (cond b (cond (eqb place (length s)) atEnd (amongStarts s place (startsOf (elementOf s)))) (noComponent 15) ≡ componentUpTo s place q))))
     go true e = inr (here (eqb place (length s)) (eqb-true _ 0 e))
     go false e = inl refl

@@ -22,24 +22,24 @@ pub record Passed : Type 0 where
 abbrev pub atEnd : Passed
 atEnd = record { ended = 1; after = 0; answer = accepted noRecord }
 
-abbrev pub nothing : ℕ → Passed
-nothing number = record { ended = 0; after = 0; answer = refused number }
+abbrev pub noComponent : ℕ → Passed
+noComponent number = record { ended = 0; after = 0; answer = refused number }
 
 -- the component from a place up to another, read by itself
-abbrev pub upTo : List ℕ → ℕ → ℕ → Passed
-upTo s at after = record { ended = 0; after = after; answer = readOf (part s at after) }
+abbrev pub componentUpTo : List ℕ → ℕ → ℕ → Passed
+componentUpTo s at after = record { ended = 0; after = after; answer = readOf (part s at after) }
 
 -- a component begins at one of the starts and ends at the next, the last one at the element's end; any other place is 16
-unfoldable pub among : List ℕ → ℕ → List ℕ → Passed
-among s place [] = nothing 16
-among s place (a ∷ starts) = cond (eqb a place) (upTo s a (firstOr (length s) starts)) (among s place starts)
+unfoldable pub amongStarts : List ℕ → ℕ → List ℕ → Passed
+amongStarts s place [] = noComponent 16
+amongStarts s place (a ∷ starts) = cond (eqb a place) (componentUpTo s a (firstOr (length s) starts)) (amongStarts s place starts)
 
 -- The whole tiling is judged first: 15. The place after the last octet is the end.
 unfoldable pub passOf : List ℕ → ℕ → Passed
 passOf s place =
     cond (eqb (elementOf s .number) 0)
-    (cond (eqb place (length s)) atEnd (among s place (startsOf (elementOf s))))
-    (nothing 15)
+    (cond (eqb place (length s)) atEnd (amongStarts s place (startsOf (elementOf s))))
+    (noComponent 15)
 
 -- what is answered by value, and the list in two arrays
 abbrev pub wholeNext : Next → List ℕ → List ℕ → Passed

@@ -3,7 +3,7 @@ ghost use mathlib.Core.Path.{_≡_};
 ghost use Prim.Native.Nat.{_≤_, _<_};
 ghost use lib.ListN.{length, take};
 ghost use Rattle.component.specs.Ways.{plainAnswer};
-ghost use Rattle.pass.specs.Pass.{passOf, upTo, wholeNext};
+ghost use Rattle.pass.specs.Pass.{passOf, componentUpTo, wholeNext};
 ghost use Rattle.pass.specs.Places.{afterIn, emptyAt};
 
 // after: the place after the component. ended: 1 at the end of the element, where all else is zero.
@@ -73,7 +73,7 @@ struct Found {
 
 fn find(octets: &[u8], place: usize) -> Found
     ensures none { λ r. ⌜ (r .after ≡ 0 → passOf (now (octets .entry)) place ≡ emptyAt (r .ended) (r .number)) ⌝ }
-    ensures some { λ r. ⌜ ((r .after ≡ 0 → ⊥) → (place < r .after) × (r .after ≤ length (now (octets .entry))) × (passOf (now (octets .entry)) place ≡ upTo (now (octets .entry)) place (r .after))) ⌝ }
+    ensures some { λ r. ⌜ ((r .after ≡ 0 → ⊥) → (place < r .after) × (r .after ≤ length (now (octets .entry))) × (passOf (now (octets .entry)) place ≡ componentUpTo (now (octets .entry)) place (r .after))) ⌝ }
 {
     let tiles = facility::element(octets);
     if tiles.number != 0 {

@@ -22,8 +22,8 @@ returns-3 c =
     let d = c .before .before .before in
     let t = d .before .before .before .element .ensures .0 in
     let fine = sym (ap (λ (x : Starts). x .number) t) ∙ d .before .if1 .left in
-    let among = rw (c .before .wide .ensures .0, t) at (c .after-of .ensures) in
-    (λ z. find-none _ _ fine (d .if2 .left) (sym among ∙ z), λ n. find-some _ _ fine (d .if2 .left) _ (sym among) n)
+    let amongStarts = rw (c .before .wide .ensures .0, t) at (c .after-of .ensures) in
+    (λ z. find-none _ _ fine (d .if2 .left) (sym amongStarts ∙ z), λ n. find-some _ _ fine (d .if2 .left) _ (sym amongStarts) n)
 
 pub find-spec : {M : Type 1} → statement M
 find-spec = tie.close (tie.spec (search needs) returns returns-2 (search needs) (search needs) returns-3)
