@@ -1,10 +1,10 @@
 -- Choices by a test.
 use Prim.Native.Nat.{ℕ}
 use mathlib.Core.Path.{_≡_, refl, ap}
-use mathlib.Core.Bool.{Bool, true, false, not, _&&_, _||_, cond}
+use mathlib.Core.Bool.{Bool, true, false, not, _&&_, _||_, cond, and-false, or-false}
 use lib.Dec.{eqb}
 use native.Mathlib.Omega.{arith}
-use borrow.Author.Tests.{eqb-true}
+use borrow.Author.Tests.{eqb-true, eq-eqb, ne-eqb, le-leb, lt-leb}
 
 pub if-same : {A : Type 0} (b : Bool) (x : A) → cond b x x ≡ x
 if-same true x = refl
@@ -34,3 +34,6 @@ second-of false b q = never q
 pub implied : (a b : Bool) → a ≡ true → (not a || b) ≡ true → b ≡ true
 implied true b t q = q
 implied false b t q = never t
+
+-- what the code's tests say
+pub ruleset tests = (eq-eqb, ne-eqb, le-leb, lt-leb, and-false, or-false)

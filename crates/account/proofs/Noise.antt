@@ -10,7 +10,7 @@ use Rattle.account.specs.declared.Stepped.{Stepped}
 use Rattle.account.specs.Outcome.{isRefusal, outcome, judge}
 use Rattle.account.specs.History.{Given, chargeIn, known, judged, accountBy, steppedBy, Shown, fresh, answers}
 use Rattle.account.specs.Step.{knownOf, changeOf, steppedOf, closingOf, marksOf, ours}
-use Rattle.account.specs.Noise.{isNoise, chosen, onlyNoise, Standing, standing, Told, told, outcomes}
+use Rattle.account.specs.Noise.{isNoise, chosen, onlyNoise, Standing, standing, Past, past, outcomes}
 use Rattle.account.proofs.Choice.{first-of, second-of}
 use Rattle.account.proofs.Demand.{known-stands, closing-stands, step-stands, after-nothing}
 
@@ -45,19 +45,19 @@ standingOf a = record { known = knownOf a; marks = marksOf a; rate = a .rate; ru
 stands : (h : List Given) → standingOf (accountBy (judged h)) ≡ standing h
 stands h = rw (known-stands h, closing-stands h)
 
--- and so is what is told of one event more
-abbrev toldOf : Given → Account → Told
-toldOf g a = record {
+-- and so is what one event more adds to a history
+abbrev pastOf : Given → Account → Past
+pastOf g a = record {
   given = g;
   outcome = steppedOf a (g .event) (g .octets) .outcome;
   after = standingOf (steppedOf a (g .event) (g .octets) .account);
 }
 
-tells : (h : List Given) (g : Given) → toldOf g (accountBy (judged h)) ≡ record { given = g; outcome = judge (known (judged h)) (g .event) (g .octets); after = standing (g ∷ h) }
+tells : (h : List Given) (g : Given) → pastOf g (accountBy (judged h)) ≡ record { given = g; outcome = judge (known (judged h)) (g .event) (g .octets); after = standing (g ∷ h) }
 tells h g = rw (step-stands h g, stands (g ∷ h))
 
--- for every call's list, and every choice of events that leaves out noise alone: what is told of the events that remain is what was told of them
-pub noise-dropped : (c : List Bool) (h : List Given) → onlyNoise c (outcomes h) ≡ true → told (chosen c h) ≡ chosen c (told h)
+-- for every call's list, and every choice of events that leaves out noise alone: each event that remains has the outcome that it had, and all that stands after it is what stood
+pub noise-dropped : (c : List Bool) (h : List Given) → onlyNoise c (outcomes h) ≡ true → past (chosen c h) ≡ chosen c (past h)
 noise-dropped [] h q = refl
 noise-dropped (b ∷ c) [] q = refl
 noise-dropped (true ∷ c) (g ∷ h) q =

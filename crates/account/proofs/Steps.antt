@@ -4,7 +4,7 @@ use mathlib.Core.Path.{_≡_, refl, sym, _∙_, ap}
 use mathlib.Core.List.{List}
 use mathlib.Core.Bool.{Bool, true, false, not, _&&_, cond}
 use lib.Dec.{T, eqb, eqb→eq}
-use borrow.Author.Tests.{eq-eqb, ne-eqb, eqb-false, eqb-true, not-true}
+use borrow.Author.Tests.{eq-eqb, ne-eqb, eqb-false}
 use Rattle.types.specs.declared.Charge.{Charge}
 use Rattle.types.specs.declared.Record.{Record}
 use Rattle.types.specs.declared.Answer.{Answer}
@@ -19,10 +19,9 @@ use Rattle.account.specs.declared.Change.{Change}
 use Rattle.account.specs.declared.Closing.{Closing}
 use Rattle.account.specs.declared.Stepped.{Stepped}
 use Rattle.account.specs.Outcome.{Idle, Suspended, Setup, Component, S, noService, clashes, allowed, leadsTo, isRefusal, serviceOf, holderOf, runs, closes, fits, judgeRecord, judgeAnswer, judge}
-use Rattle.account.specs.History.{Given, event, was, judged, accountBy, closing, steppedBy}
+use Rattle.account.specs.History.{Given, event, judged, accountBy, closing, steppedBy}
 use Rattle.account.specs.Step.{knownOf, requestsOf, moved, noted, placeOf, changeBy, changeOf, put, changed, steppedOf, closingOf}
 use Rattle.account.specs.Parts.{nextPhase, claimRecord, resolved, taken}
-use Rattle.account.proofs.Choice.{first-of, second-of}
 use Rattle.account.proofs.Transitions.{next-none, next-some}
 use Rattle.account.proofs.Refusals.{decoding-refusal}
 use Rattle.account.proofs.Demand.{step-stands, closing-stands, notes-nothing, keeps-nothing, moves-nothing}
@@ -81,16 +80,6 @@ module _ (a : Account) (o : List ℕ) {x : Answer} (read : x ≡ readOf o) where
 
     pub taken-kept : (p : ℕ) → p ≡ placeOf r → (p ≡ 0 → ⊥) → record { outcome = r; place = p; status = t; charge = x .value .charge } ≡ taken a (readOf o)
     taken-kept p is-place some = sym (rw (← is-place, ne-eqb p 0 some)) ∙ taken-is
-
--- an outcome that keeps nothing, and is no final that is still to be compared
-pub idle-test : (r : Outcome) (p : ℕ) → p ≡ placeOf r → was 22 r ≡ false → eqb p 0 ≡ (not (was 22 r) && eqb (placeOf r) 0)
-idle-test r p e q = ap (λ (n : ℕ). eqb n 0) e ∙ sym (rw q)
-
-pub idle-place : (r : Outcome) (b : Bool) → b ≡ (not (was 22 r) && eqb (placeOf r) 0) → b ≡ true → placeOf r ≡ 0
-idle-place r b e t = eqb-true (placeOf r) 0 (second-of (not (was 22 r)) (eqb (placeOf r) 0) (sym e ∙ t))
-
-pub idle-resolved : (a : Account) (r : Outcome) (c : Charge) (b : Bool) → b ≡ (not (was 22 r) && eqb (placeOf r) 0) → b ≡ true → r ≡ resolved a r c
-idle-resolved a r c b e t = sym (rw (not-true (was 22 r) (first-of (not (was 22 r)) (eqb (placeOf r) 0) (sym e ∙ t))))
 
 -- ---- any event
 

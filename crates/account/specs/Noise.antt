@@ -50,15 +50,15 @@ standing h = record {
 }
 
 -- an event, its outcome, and all that stands after it
-pub record Told : Type 0 where
+pub record Past : Type 0 where
   pub given : Given
   pub outcome : Outcome
   pub after : Standing
 
 -- of each event of a history, the latest first
-abbrev pub told : List Given → List Told
-told [] = []
-told (g ∷ h) = record { given = g; outcome = judge (known (judged h)) (g .event) (g .octets); after = standing (g ∷ h) } ∷ told h
+abbrev pub past : List Given → List Past
+past [] = []
+past (g ∷ h) = record { given = g; outcome = judge (known (judged h)) (g .event) (g .octets); after = standing (g ∷ h) } ∷ past h
 
 abbrev pub outcomes : List Given → List Outcome
-outcomes h = map (λ (t : Told). t .outcome) (told h)
+outcomes h = map (λ (t : Past). t .outcome) (past h)

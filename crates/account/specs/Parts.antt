@@ -2,7 +2,9 @@
 use Prim.Native.Nat.{ℕ}
 use mathlib.Core.Bool.{Bool, not, _&&_, _||_, cond}
 use lib.Dec.{eqb}
+use mathlib.Core.List.{List}
 use Rattle.types.specs.declared.Charge.{Charge}
+use Rattle.types.specs.declared.Figure.{Figure}
 use Rattle.types.specs.declared.Answer.{Answer}
 use Rattle.values.specs.Sets.{has}
 use Rattle.account.specs.declared.Outcome.{Outcome}
@@ -57,6 +59,10 @@ serviceBy frame operation = cond (eqb frame 1 && not (eqb operation 30)) (servic
 unfoldable pub claimRecord : ℕ → Requests → ℕ → ℕ → ℕ → ℕ → ℕ → ℕ → Outcome
 claimRecord phase q frame operation unnamed id kind total =
     cond (eqb phase Suspended) (outcome 27 (serviceBy frame operation)) (claimFrame phase q frame operation unnamed id kind total)
+
+-- a charge from its parts
+abbrev pub chargeFrom : Figure → List ℕ → List ℕ → Charge
+chargeFrom f numbers rows = record { figure = f; entries = record { numbers = numbers; octets = rows } }
 
 -- a final that is claimed is compared with the first one
 abbrev pub resolved : Account → Outcome → Charge → Outcome

@@ -12,9 +12,9 @@ ghost use Prim.Native.Nat.{ℕ};
 ghost use Rattle.types.specs.Arguments.{noCharge};
 ghost use Rattle.types.specs.Frames.{readOf};
 ghost use Rattle.account.specs.Outcome.{serviceOf, clash, asking, clashes, holderOf, judgeFinal, judgeFailure, outcome, noService};
-ghost use Rattle.account.specs.History.{Given, event, was, judged, accountBy, currentRate, running, closing, marks, phase, requests, fresh, stepped, steppedBy, pendingOf};
+ghost use Rattle.account.specs.History.{Given, event, judged, accountBy, currentRate, running, closing, marks, phase, requests, fresh, stepped, steppedBy, pendingOf};
 ghost use Rattle.account.specs.Step.{requestsOf, firstFigure, moved, noted, placeOf, changeOf, changed, steppedOf, closingOf, marksOf};
-ghost use Rattle.account.specs.Parts.{nextPhase, runsBy, closesBy, claimFigure, claimInvoke, fitsBy, claimResult, claimFrame, serviceBy, claimRecord, resolved, taken};
+ghost use Rattle.account.specs.Parts.{nextPhase, runsBy, closesBy, claimFigure, claimInvoke, fitsBy, claimResult, claimFrame, serviceBy, claimRecord, chargeFrom, resolved, taken};
 
 // number: 20 to 32, a refusal, or 0 for a phase event that is not refused. service: 0 for none.
 #[repr(C)]
@@ -473,9 +473,15 @@ fn claimed(
 
 // ---- what a component does
 
-// A final, beside the first one of its service.
-fn final_outcome(first: Charge, c: Charge, service: u8) -> Outcome
-    ensures { λ r. ⌜ r ≡ judgeFinal (firstFigure first) service c ⌝ }
+// A final, beside the first one of its service. Its charge is put together only where there is one to compare it with.
+fn final_outcome(
+    first: Charge,
+    figure: types::Figure,
+    numbers: &[u32; 32],
+    rows: &[u8; 192],
+    service: u8,
+) -> Outcome
+    ensures { λ r. ⌜ r ≡ judgeFinal (firstFigure first) service (chargeFrom figure (now (numbers .entry)) (now (rows .entry))) ⌝ }
 {
     if first.figure.kind == 0 {
         return Outcome {
@@ -483,7 +489,11 @@ fn final_outcome(first: Charge, c: Charge, service: u8) -> Outcome
             service,
         };
     }
-    if same::same(first, c) {
+    let entries = types::Entries {
+        numbers: *numbers,
+        octets: *rows,
+    };
+    if same::same(first, Charge { figure, entries }) {
         return Outcome {
             number: 28,
             service,
@@ -495,18 +505,24 @@ fn final_outcome(first: Charge, c: Charge, service: u8) -> Outcome
     }
 }
 
-fn resolved(a: Account, o: Outcome, c: Charge) -> Outcome
-    ensures { λ r. ⌜ r ≡ resolved a o c ⌝ }
+fn resolved(
+    a: Account,
+    o: Outcome,
+    figure: types::Figure,
+    numbers: &[u32; 32],
+    rows: &[u8; 192],
+) -> Outcome
+    ensures { λ r. ⌜ r ≡ resolved a o (chargeFrom figure (now (numbers .entry)) (now (rows .entry))) ⌝ }
 {
     if o.number != 22 {
         return o;
     }
     if o.service == 2 {
         let first = a.dfinal;
-        return final_outcome(first, c, o.service);
+        return final_outcome(first, figure, numbers, rows, o.service);
     }
     let first = a.efinal;
-    final_outcome(first, c, o.service)
+    final_outcome(first, figure, numbers, rows, o.service)
 }
 
 // A request that is no longer pending.
@@ -605,16 +621,6 @@ fn plain(number: u8, status: Status) -> Change
     still(outcome, status)
 }
 
-// Whether an outcome keeps no figure, and is no final that is still to be compared.
-fn idles(o: Outcome) -> bool
-    ensures { λ r. ⌜ r ≡ not (was 22 o) && eqb (placeOf o) 0 ⌝ }
-{
-    if o.number == 22 {
-        return false;
-    }
-    place_of(o) == 0
-}
-
 fn taken(a: Account, octets: &[u8]) -> Change
     ensures { λ r. ⌜ r ≡ taken a (readOf (now (octets .entry))) ⌝ }
 {
@@ -635,32 +641,23 @@ fn taken(a: Account, octets: &[u8]) -> Change
         figure.kind,
         figure.total,
     );
-    if idles(claim) {
-        let same = noted(t, claim);
-        return still(claim, same);
-    }
-    let charge = Charge {
-        figure,
-        entries: types::Entries {
-            numbers,
-            octets: rows,
-        },
-    };
-    let outcome = resolved(a, claim, charge);
+    let outcome = resolved(a, claim, figure, &numbers, &rows);
     let status = noted(t, outcome);
     let place = place_of(outcome);
-    let mut w = Change {
+    if place == 0 {
+        return still(outcome, status);
+    }
+    let entries = types::Entries {
+        numbers,
+        octets: rows,
+    };
+    let charge = Charge { figure, entries };
+    Change {
         outcome,
         place,
         status,
         charge,
-    };
-    if place != 0 {
-        return w;
     }
-    let none = no_charge();
-    w.charge = none;
-    w
 }
 
 // The step by value: what an event changes.

@@ -11,10 +11,14 @@ same-requires : tie.Need-same-requires
 same-requires c κs = search needs
 
 returns-2 : tie.Need-returns-2
-returns-2 c = simp (ne-eqb _ _ (c .before .before .if1 .left), sym (c .before .same .ensures) ∙ c .if2 .taken)
+returns-2 c =
+    let t = c .before .before .before in
+    simp (ne-eqb _ _ (t .before .if1 .left), sym (c .before .same .ensures) ∙ c .if2 .taken)
 
 returns-3 : tie.Need-returns-3
-returns-3 c = simp (ne-eqb _ _ (c .before .before .if1 .left), sym (c .before .same .ensures) ∙ c .if2 .left)
+returns-3 c =
+    let t = c .before .before .before in
+    simp (ne-eqb _ _ (t .before .if1 .left), sym (c .before .same .ensures) ∙ c .if2 .left)
 
 pub final-outcome-spec : {M : Type 1} → statement M
 final-outcome-spec = tie.close (tie.spec returns same-requires returns-2 returns-3)

@@ -1,8 +1,8 @@
 use Rattle.types.specs.declared.Answer.{Answer}
-use Rattle.account.proofs.Steps.{taken-refused, taken-unkept, taken-kept, idle-place, idle-resolved}
+use Rattle.account.proofs.Steps.{taken-refused, taken-unkept, taken-kept}
 use Rattle.account.proofs.Refusals.{number-fits}
 use native.Mathlib.Omega.{arith}
-use mathlib.Core.Path.{_≡_, ap, sym, _∙_}
+use mathlib.Core.Path.{ap, sym, _∙_}
 use Prim.Native.Nat.{_≤_}
 use borrow.Author.Needs.{needs}
 use Rattle.account.proofs.taken.Statement.{statement}
@@ -23,19 +23,17 @@ returns c =
     let x = s .before .args in
     taken-refused (x .a) (x .octets .now) (m .read-into .ensures) (c .plain .result) (i .if1 .taken) (c .plain .ensures)
 
--- a claim that keeps nothing
 returns-2 : tie.Need-returns-2
 returns-2 c =
-    let n = c .before in
-    let d = n .before .before in
-    let k = d .before in
+    let p = c .before .before in
+    let r = p .before .before in
+    let k = r .before .before .before in
     let i = k .before .before in
     let m = i .before .before .before in
     let s = m .before .before .before in
     let x = s .before .args in
-    let idle = n .before .if2 .taken in
-    taken-unkept (x .a) (x .octets .now) (m .read-into .ensures) (i .if1 .left) (k .claimed .result) (k .claimed .result) (n .noted .result) (k .claimed .ensures)
-    (idle-resolved (x .a) (k .claimed .result) _ _ (d .idles .ensures) idle) (n .noted .ensures) (c .still .result) (idle-place (k .claimed .result) _ (d .idles .ensures) idle) (c .still .ensures)
+    taken-unkept (x .a) (x .octets .now) (m .read-into .ensures) (i .if1 .left) (k .claimed .result) (r .resolved .result) (p .before .noted .result)
+    (k .claimed .ensures) (r .resolved .ensures) (p .before .noted .ensures) (c .still .result) (sym (p .place-of .ensures) ∙ c .before .if2 .taken) (c .still .ensures)
 
 returns-3 : tie.Need-returns-3
 returns-3 c =
@@ -46,24 +44,10 @@ returns-3 c =
     let m = i .before .before .before in
     let s = m .before .before .before in
     let x = s .before .args in
-    taken-kept (x .a) (x .octets .now) (m .read-into .ensures) (i .if1 .left) (k .claimed .result) (r .resolved .result) (p .before .noted2 .result)
-    (k .claimed .ensures) (r .resolved .ensures) (p .before .noted2 .ensures) (p .place-of .result) (p .place-of .ensures) (c .if3 .taken)
-
--- a final that was compared and is not kept
-returns-4 : tie.Need-returns-4
-returns-4 c =
-    let p = c .before .before in
-    let r = p .before .before in
-    let k = r .before .before .before in
-    let i = k .before .before in
-    let m = i .before .before .before in
-    let s = m .before .before .before in
-    let x = s .before .args in
-    let none : p .place-of .result ≡ 0 = c .before .if3 .left in
-    taken-unkept (x .a) (x .octets .now) (m .read-into .ensures) (i .if1 .left) (k .claimed .result) (r .resolved .result) (p .before .noted2 .result)
-    (k .claimed .ensures) (r .resolved .ensures) (p .before .noted2 .ensures) _ (sym (p .place-of .ensures) ∙ none) (rw (none, c .no-charge .ensures))
+    taken-kept (x .a) (x .octets .now) (m .read-into .ensures) (i .if1 .left) (k .claimed .result) (r .resolved .result) (p .before .noted .result)
+    (k .claimed .ensures) (r .resolved .ensures) (p .before .noted .ensures) (p .place-of .result) (p .place-of .ensures) (c .if2 .left)
 
 pub taken-spec : {M : Type 1} → statement M
 taken-spec =
     tie.close
-    (tie.spec (search needs) cast-plain (search needs) returns (search needs) (search needs) (search needs) (search needs) returns-2 (search needs) (search needs) (search needs) returns-3 (search needs) returns-4)
+    (tie.spec (search needs) cast-plain (search needs) returns (search needs) (search needs) (search needs) (search needs) (search needs) returns-2 returns-3)
