@@ -20,10 +20,6 @@ use Rattle.heads.proofs.Codes.{has-below}
 use Rattle.fronts.specs.declared.Front.{Front}
 use Rattle.fronts.specs.Fronts.{frontFine, frontOctets, idOctets, problemFine, sameFront, frontBy, called}
 
-pub operation-30 : (o : ℕ) → o ≡ 30 → oneOf operations o ≡ true
-unfolding oneOf
-operation-30 o e = rw e
-
 -- ---- by the frame
 
 module _ (f : Front) (n : ℕ) where
@@ -172,8 +168,6 @@ size-unnamed f n v x y z u =
     let k : length (frontOctets f n) ≡ 5 =
     rw (front-4 f n x y z, eq-eqb _ _ u) (simp (length-append, null-length, small-length (f .problem) (f .detail) (small-4 f v x y z)) (omega arith)) in
     (sym k, (omega arith, omega arith))
-
-pub ruleset sizes = (size-request, size-invoke, size-result, size-result-long, size-error, size-unnamed, size-reject)
 
 -- at least five, whatever is in it
 pub front-least : (f : Front) (n : ℕ) → 5 ≤ length (frontOctets f n)
