@@ -1,6 +1,6 @@
 #!/bin/sh
 # The pages say what the tree has: what each crate stands on, the lines of each file of definitions, which of them are to be believed,
-# the exports, the must-fail edits, the theorems, the names in backticks, what is quoted of definitions, the links.
+# the exports, the sizes, the must-fail edits, the theorems, the names in backticks and their files, what is quoted of definitions, the links.
 cd "$(dirname "$0")/.." || exit 2
 exec python3 - <<'PYTHON'
 import glob
@@ -71,6 +71,13 @@ table = "".join(line + "\n" for line in text(ARCHITECTURE).splitlines() if line.
 inline = re.findall(r"static inline [^;{]*?\b(aoc_\w+)\(", text("include/aoc.h"))
 differ(ARCHITECTURE, "export", set(re.findall(r"`(aoc_\w+)`", table)) - set(inline), exports)
 
+# ---- the sizes that hosts are told
+sizes = {name: eval(number) for name, number in re.findall(r"sizeof\((aoc_\w+)\) == ([\d +]+)", text("include/aoc_parts.h"))}
+for names, numbers in re.findall(r"^\| (`aoc_\w+`(?:, `aoc_\w+`)*) \| ([\d, ]+) \|", text("docs/HOST.md").split("## Sizes")[1].split("\n## ")[0], re.M):
+    for name, number in zip(re.findall(r"aoc_\w+", names), numbers.split(", ")):
+        if sizes.get(name) != int(number.replace(",", "")):
+            tell("docs/HOST.md", f"{name} has {sizes.get(name)} octets")
+
 # ---- the must-fail edits
 edits = {"/".join((path.split("/")[1], path.split("/")[3][: -len(".edit")])) for path in glob.glob("crates/*/must-fail/*.edit")}
 named = {name for name in re.findall(r"`([a-z_]+/[a-z_0-9]+)`", text(CONTRACTS)) if name.split("/")[1] not in ("src", "specs", "proofs")}
@@ -111,6 +118,14 @@ for page in pages:
                 tell(page, f"no {quoted}")
         elif re.fullmatch(r"[^\W\d][\w-]{2,}", quoted) and quoted not in words:
             tell(page, f"no name {quoted}")
+
+# ---- `name` in `file`: the file has it; so has the file of a row of AUDIT's order of reading
+places = [(page, found) for page in pages for found in re.findall(r"((?:`[\w-]+`(?:, | and | to )?)+) in `([a-z_]+/(?:specs|proofs|src)/[\w/]+\.\w+)`", text(page))]
+places += [("docs/AUDIT.md", (names, path)) for path, names in re.findall(r"^\| `([a-z_]+/specs/\w+\.antt)` \| \d+ \| (.*) \|$", text("docs/AUDIT.md"), re.M)]
+for page, (names, path) in places:
+    for name in re.findall(r"`([\w-]+)`", names):
+        if os.path.exists("crates/" + path) and not re.search(rf"(?m)^(?!--|//).*(?<![\w-]){re.escape(name)}(?![\w-])", text("crates/" + path)):
+            tell(page, f"no {name} in {path}")
 
 # ---- what READING-01 quotes of a definition stands there, `..` for anything
 specs = " ".join(re.sub(r"\s+", " ", text(path)) for path in glob.glob("crates/*/specs/*.antt") + glob.glob("crates/*/proofs/*.antt"))
