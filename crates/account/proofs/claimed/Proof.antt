@@ -4,19 +4,13 @@ use Rattle.account.specs.Parts.{claimRecord}
 use Rattle.account.proofs.claimed.Statement.{statement}
 use Rattle.account.proofs.claimed.Tie as tie
 
-service-by-requires : tie.Need-service-by-requires
-service-by-requires c κs = search needs
-
 returns : tie.Need-returns
 unfolding claimRecord
 returns c = simp (eq-eqb _ _ (c .before .if1 .taken), c .service-by .ensures)
-
-frame-outcome-requires : tie.Need-frame-outcome-requires
-frame-outcome-requires c κs = search needs
 
 returns-2 : tie.Need-returns-2
 unfolding claimRecord
 returns-2 c = simp (ne-eqb _ _ (c .before .if1 .left)) (c .frame-outcome .ensures)
 
 pub claimed-spec : {M : Type 1} → statement M
-claimed-spec = tie.close (tie.spec service-by-requires returns frame-outcome-requires returns-2)
+claimed-spec = tie.close (tie.spec (search needs) returns (search needs) returns-2)

@@ -7,9 +7,6 @@ use Rattle.account.proofs.final_outcome.Tie as tie
 returns : tie.Need-returns
 returns c = simp (eq-eqb _ _ (c .if1 .taken))
 
-same-requires : tie.Need-same-requires
-same-requires c κs = search needs
-
 returns-2 : tie.Need-returns-2
 returns-2 c =
     let t = c .before .before .before in
@@ -21,4 +18,4 @@ returns-3 c =
     simp (ne-eqb _ _ (t .before .if1 .left), sym (c .before .same .ensures) ∙ c .if2 .left)
 
 pub final-outcome-spec : {M : Type 1} → statement M
-final-outcome-spec = tie.close (tie.spec returns same-requires returns-2 returns-3)
+final-outcome-spec = tie.close (tie.spec returns (search needs) returns-2 returns-3)

@@ -6,19 +6,17 @@ use Rattle.account.proofs.resolved.Tie as tie
 returns : tie.Need-returns
 returns c = simp (ne-eqb _ _ (c .if1 .taken))
 
-final-outcome-requires : tie.Need-final-outcome-requires
-final-outcome-requires c κs = search needs
-
 returns-2 : tie.Need-returns-2
-returns-2 c = simp (eq-eqb _ _ (c .before .before .before .before .if1 .left), eq-eqb _ _ (c .before .before .if2 .taken)) (c .final-outcome .ensures)
-
-final-outcome-requires-2 : tie.Need-final-outcome-requires-2
-final-outcome-requires-2 c κs = search needs
+returns-2 c =
+    let back = c .before .before .before in
+    simp (eq-eqb _ _ (back .before .if1 .left), eq-eqb _ _ (c .before .before .if2 .taken)) (c .final-outcome .ensures)
 
 returns-3 : tie.Need-returns-3
-returns-3 c = simp (eq-eqb _ _ (c .before .before .before .before .if1 .left), ne-eqb _ _ (c .before .before .if2 .left)) (c .final-outcome2 .ensures)
+returns-3 c =
+    let back = c .before .before .before in
+    simp (eq-eqb _ _ (back .before .if1 .left), ne-eqb _ _ (c .before .before .if2 .left)) (c .final-outcome2 .ensures)
 
 pub resolved-spec : {M : Type 1} → statement M
 resolved-spec =
     tie.close
-    (tie.spec returns final-outcome-requires returns-2 final-outcome-requires-2 returns-3)
+    (tie.spec returns (search needs) returns-2 (search needs) returns-3)

@@ -7,9 +7,6 @@ use Rattle.account.proofs.result_outcome.Tie as tie
 returns : tie.Need-returns
 returns c = simp (eq-eqb _ _ (c .if1 .taken))
 
-fits-requires : tie.Need-fits-requires
-fits-requires c κs = search needs
-
 returns-2 : tie.Need-returns-2
 returns-2 c = simp (ne-eqb _ _ (c .before .before .if1 .left), sym (c .before .fits2 .ensures) ∙ c .if2 .taken)
 
@@ -17,4 +14,4 @@ returns-3 : tie.Need-returns-3
 returns-3 c = simp (ne-eqb _ _ (c .before .before .if1 .left), sym (c .before .fits2 .ensures) ∙ c .if2 .left)
 
 pub result-outcome-spec : {M : Type 1} → statement M
-result-outcome-spec = tie.close (tie.spec returns fits-requires returns-2 returns-3)
+result-outcome-spec = tie.close (tie.spec returns (search needs) returns-2 returns-3)
