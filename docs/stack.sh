@@ -3,7 +3,8 @@
 #                           docs/HOST.md: its return address, its own frame and the deepest of what it calls; those of the C library apart (memcpy, memmove, memset).
 # sh docs/stack.sh write    puts that table into docs/HOST.md.
 # The frames are read off the machine code (objdump or llvm-objdump): pushes and what is taken off the stack pointer. After a jump or a
-# return the depth counts as the function's deepest so far, so a figure may be too high and not too low.
+# return the depth counts as the function's deepest so far, so a figure may be too high and not too low. A function that calls itself
+# is counted as often as DEEP says.
 cd "$(dirname "$0")/.." || exit 2
 page=docs/HOST.md
 sh tools/archive || exit 1
@@ -17,6 +18,8 @@ python3 - "$work/code" >"$work/table" <<'END' || exit 1
 import re, sys
 
 APART = {"memcpy", "memmove", "memset"}
+# the search for an end marker goes on past two of at most 254 octets at each turn
+DEEP = {"coding::find_end": 128}
 frames, calls, name, at_call = {}, {}, None, None
 depth = deepest = 0
 for line in open(sys.argv[1]):
@@ -47,6 +50,9 @@ for line in open(sys.argv[1]):
         depth -= int(number[1], 0)
     elif op in ("call", "callq"):
         at_call = depth + 8
+        if f"<{name}>" in rest:  # a call of itself needs no relocation
+            calls[name].append((name, at_call))
+            at_call = None
     elif op in ("jmp", "jmpq"):
         at_call = depth
     elif re.search(r"%rsp$", rest) and not op.startswith(("cmp", "test", "mov")):
@@ -59,9 +65,12 @@ for line in open(sys.argv[1]):
 
 def most(name, above=()):
     if name in above:
-        sys.exit(f"stack: {name} calls itself")
-    below = [at + most(callee, above + (name,)) for callee, at in calls[name] if callee not in APART]
-    return max([frames[name]] + below)
+        sys.exit(f"stack: {name} is called from what it calls")
+    itself = [at for callee, at in calls[name] if callee == name]
+    if itself and name not in DEEP:
+        sys.exit(f"stack: {name} calls itself, and DEEP does not say how often")
+    below = [at + most(callee, above + (name,)) for callee, at in calls[name] if callee not in APART and callee != name]
+    return max([frames[name]] + below) + (max(itself) * (DEEP[name] - 1) if itself else 0)
 
 
 print("| Function | Octets |\n|---|---|")
