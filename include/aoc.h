@@ -39,7 +39,7 @@ extern "C" {
 /* Refusals. AOC_ACCEPTED, 0, is none. */
 #define AOC_REFUSALS(ROW)                                                                              \
     ROW(AOC_REFUSED_CUT, 1, "the octets end too early")                                                \
-    ROW(AOC_REFUSED_LENGTH_FORM, 2, "a length octet that is not allowed")                              \
+    ROW(AOC_REFUSED_LENGTH_FORM, 2, "a length octet of 83 to FF, or of 80 on a primitive element")     \
     ROW(AOC_REFUSED_TOO_LONG, 3, "over 254 octets")                                                    \
     ROW(AOC_REFUSED_UNKNOWN_COMPONENT, 4, "the first octet is not A1 to A4")                           \
     ROW(AOC_REFUSED_TRAILING, 5, "octets after the component")                                         \
