@@ -1,4 +1,4 @@
-use Rattle.put_figures.proofs.Truth.{tests}
+use Rattle.coding.proofs.Tests.{tests}
 use Rattle.closing.proofs.is_closing.Statement.{statement}
 use Rattle.closing.proofs.is_closing.Tie as tie
 
