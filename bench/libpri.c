@@ -52,4 +52,4 @@ static unsigned rewrite_one(long i)
     return (unsigned)rewrite(row[i & 7].octets, row[i & 7].length, buffer, sizeof buffer);
 }
 
-const struct job jobs[] = {{"read", read_one}, {"rewrite", rewrite_one}, {NULL, NULL}};
+const struct job jobs[] = {{"read", read_one, 9, 1}, {"rewrite", rewrite_one, 9, 1}, {0}};

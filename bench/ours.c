@@ -75,4 +75,4 @@ static unsigned step_one(long i)
 }
 
 const struct job jobs[] = {
-    {"read", read_one}, {"rewrite", rewrite_one}, {"element", element_one}, {"step", step_one}, {NULL, NULL}};
+    {"read", read_one, 9, 1}, {"rewrite", rewrite_one, 9, 1}, {"element", element_one, 1, 8}, {"step", step_one, 1, 1}, {0}};

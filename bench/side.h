@@ -6,6 +6,8 @@
 struct job {
     const char *name;
     unsigned (*one)(long i);
+    int choices;                    /* 9: the row, then each of its components alone; 1: the row */
+    int components;                 /* of an item: a round has so many times fewer items */
 };
 
 extern const struct job jobs[];     /* ends with a null name */
