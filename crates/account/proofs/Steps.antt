@@ -21,7 +21,7 @@ use Rattle.account.specs.declared.Stepped.{Stepped}
 use Rattle.account.specs.Outcome.{Idle, Suspended, Setup, Component, S, noService, clashes, allowed, leadsTo, isRefusal, serviceOf, holderOf, runs, closes, fits, judgeRecord, judgeAnswer, judge}
 use Rattle.account.specs.History.{Given, event, judged, accountBy, closing, steppedBy}
 use Rattle.account.specs.Step.{knownOf, requestsOf, moved, noted, placeOf, changeBy, changeOf, put, changed, steppedOf, closingOf}
-use Rattle.account.specs.Parts.{nextPhase, claimRecord, resolved, taken}
+use Rattle.account.specs.Parts.{nextPhase, moving, movingOf, claimRecord, resolved, taken}
 use Rattle.account.proofs.Transitions.{next-none, next-some}
 use Rattle.account.proofs.Refusals.{decoding-refusal}
 use Rattle.account.proofs.Demand.{step-stands, closing-stands, notes-nothing, keeps-nothing, moves-nothing}
@@ -81,6 +81,33 @@ module _ (a : Account) (o : List ℕ) {x : Answer} (read : x ≡ readOf o) where
     pub taken-kept : (p : ℕ) → p ≡ placeOf r → (p ≡ 0 → ⊥) → record { outcome = r; place = p; status = t; charge = x .value .charge } ≡ taken a (readOf o)
     taken-kept p is-place some = sym (rw (← is-place, ne-eqb p 0 some)) ∙ taken-is
 
+-- ---- an event that is no component
+
+module _ (t : Status) (e : Event) (n : ℕ) (leads : n ≡ nextPhase (e .kind) (t .phase)) where
+  pub moving-none : n ≡ Idle → moving 14 t ≡ movingOf t e
+  unfolding movingOf
+  moving-none z = sym (rw (next-none (e .kind) (t .phase) n leads z))
+
+  module _ (some : n ≡ Idle → ⊥) where
+    pub moving-clash : (eqb (e .kind) Setup && clashes e) ≡ true → moving 13 t ≡ movingOf t e
+    unfolding movingOf
+    moving-clash c = sym (rw (next-some (e .kind) (t .phase) n leads some .0, c))
+
+    pub moving-went : (eqb (e .kind) Setup && clashes e) ≡ false → (s : Status) → s ≡ moved t e n → moving 0 s ≡ movingOf t e
+    unfolding movingOf
+    moving-went c s is = let g = next-some (e .kind) (t .phase) n leads some in rw (is, g .1) (sym (rw (g .0, c)))
+
+-- it changes the status alone, whatever the rest of the account is
+pub phase-change : (a : Account) (e : Event) (o : List ℕ) → (e .kind ≡ 5 → ⊥) → unkept (movingOf (a .status) e .outcome) (movingOf (a .status) e .status) ≡ changeOf a e o
+unfolding changeOf judge movingOf
+phase-change a e o n = go (allowed (e .kind) (a .status .phase)) refl (eqb (e .kind) Setup && clashes e) refl
+  where
+    go : (b : Bool) → allowed (e .kind) (a .status .phase) ≡ b → (c : Bool) → (eqb (e .kind) Setup && clashes e) ≡ c
+        → unkept (movingOf (a .status) e .outcome) (movingOf (a .status) e .status) ≡ changeOf a e o
+    go true p true q = rw (p, q, ne-eqb (e .kind) 5 n)
+    go true p false q = rw (p, q, ne-eqb (e .kind) 5 n)
+    go false p c q = rw (p, ne-eqb (e .kind) 5 n)
+
 -- ---- any event
 
 module _ (a : Account) (e : Event) (o : List ℕ) (w : Change) (n : ℕ) (leads : n ≡ nextPhase (e .kind) (a .status .phase)) where
@@ -97,17 +124,9 @@ module _ (a : Account) (e : Event) (o : List ℕ) (w : Change) (n : ℕ) (leads 
     goes-on : (allowed (e .kind) (a .status .phase) ≡ true) × (n ≡ leadsTo (e .kind) (a .status .phase))
     goes-on = next-some (e .kind) (a .status .phase) n leads some
 
-    pub has-clash : e .kind ≡ Setup → clashes e ≡ true → w ≡ unkept (noService 13) (a .status) → w ≡ changeOf a e o
-    unfolding judge isRefusal
-    has-clash k c u = refused 13 refl (rw (goes-on .0, ap (λ (x : ℕ). eqb x Component) k, eq-eqb (e .kind) Setup k, c)) u
-
     pub heard : e .kind ≡ Component → w ≡ taken a (readOf o) → w ≡ changeOf a e o
     unfolding judge changeOf
     heard k u = u ∙ sym (rw (goes-on .0, eq-eqb (e .kind) Component k))
-
-    pub went : eqb (e .kind) Component ≡ false → (eqb (e .kind) Setup && clashes e) ≡ false → (t : Status) → t ≡ moved (a .status) e n → w ≡ unkept (noService 0) t → w ≡ changeOf a e o
-    unfolding judge changeOf
-    went k c t is u = u ∙ rw (is, goes-on .1) (sym (rw (goes-on .0, k, c)))
 
 -- ---- what is promised of the step, and of what is read off
 

@@ -9,15 +9,29 @@ use Rattle.types.specs.declared.Answer.{Answer}
 use Rattle.values.specs.Sets.{has}
 use Rattle.account.specs.declared.Outcome.{Outcome}
 use Rattle.account.specs.declared.Account.{Account}
+use Rattle.account.specs.declared.Event.{Event}
+use Rattle.account.specs.declared.Status.{Status}
+use Rattle.account.specs.declared.Moving.{Moving}
 use Rattle.account.specs.declared.Change.{Change}
-use Rattle.account.specs.Outcome.{Idle, Establishment, Active, Clearing, Suspended, allowed, leadsTo, S, D, E}
+use Rattle.account.specs.Outcome.{Idle, Establishment, Active, Clearing, Suspended, Setup, clashes, allowed, leadsTo, S, D, E}
 use Rattle.account.specs.Outcome.{outcome, noService, serviceOf, Requests, holderOf, firstFinal, judgeFailure, judgeFinal, judgeAnswer}
 use Rattle.account.specs.History.{was}
-use Rattle.account.specs.Step.{knownOf, noted, changeBy}
+use Rattle.account.specs.Step.{knownOf, moved, noted, changeBy}
 
 -- the phase that an event leads to, and Idle where it is not allowed: nothing leads to Idle
 abbrev pub nextPhase : ℕ → ℕ → ℕ
 nextPhase kind phase = cond (allowed kind phase) (leadsTo kind phase) Idle
+
+-- ---- what an event that is no component changes
+
+abbrev pub moving : ℕ → Status → Moving
+moving n t = record { outcome = noService n; status = t }
+
+unfoldable pub movingOf : Status → Event → Moving
+movingOf t e =
+    cond (allowed (e .kind) (t .phase))
+    (cond (eqb (e .kind) Setup && clashes e) (moving 13 t) (moving 0 (moved t e (leadsTo (e .kind) (t .phase)))))
+    (moving 14 t)
 
 -- ---- the outcome of a component but for comparing finals: one that is claimed is 22
 

@@ -14,7 +14,7 @@ ghost use Rattle.types.specs.Frames.{readOf};
 ghost use Rattle.account.specs.Outcome.{serviceOf, clash, asking, clashes, holderOf, judgeFinal, judgeFailure, outcome, noService};
 ghost use Rattle.account.specs.History.{Given, event, judged, accountBy, currentRate, running, closing, marks, phase, requests, fresh, stepped, steppedBy, pendingOf};
 ghost use Rattle.account.specs.Step.{requestsOf, firstFigure, moved, noted, placeOf, changeOf, changed, steppedOf, closingOf, marksOf};
-ghost use Rattle.account.specs.Parts.{nextPhase, runsBy, closesBy, claimFigure, claimInvoke, fitsBy, claimResult, claimFrame, serviceBy, claimRecord, chargeFrom, resolved, taken};
+ghost use Rattle.account.specs.Parts.{nextPhase, moving, movingOf, runsBy, closesBy, claimFigure, claimInvoke, fitsBy, claimResult, claimFrame, serviceBy, claimRecord, chargeFrom, resolved, taken};
 
 // number: 20 to 32, a refusal, or 0 for a phase event that is not refused. service: 0 for none.
 #[repr(C)]
@@ -69,6 +69,13 @@ pub struct Change {
     pub place: u16,
     pub status: Status,
     pub charge: Charge,
+}
+
+// What an event that is no component changes.
+#[repr(C)]
+pub struct Moving {
+    pub outcome: Outcome,
+    pub status: Status,
 }
 
 // service: 0 for no closing figure.
@@ -660,28 +667,54 @@ fn taken(a: Account, octets: &[u8]) -> Change
     }
 }
 
+fn going(number: u8, status: Status) -> Moving
+    ensures { λ r. ⌜ r ≡ moving number status ⌝ }
+{
+    let outcome = Outcome { number, service: 0 };
+    Moving { outcome, status }
+}
+
+// A Setup with two requests that have one identifier.
+fn bad_setup(e: Event) -> bool
+    ensures { λ r. ⌜ r ≡ eqb (e .kind) 1 && clashes e ⌝ }
+{
+    if e.kind != 1 {
+        return false;
+    }
+    clashes(e)
+}
+
+// What an event that is no component changes: it looks at the status alone, and changes no other part.
+pub fn phase_step(t: Status, e: Event) -> Moving
+    ensures { λ r. ⌜ r ≡ movingOf t e ⌝ }
+{
+    let phase = next_phase(e.kind, t.phase);
+    if phase == 0 {
+        return going(14, t);
+    }
+    if bad_setup(e) {
+        return going(13, t);
+    }
+    let next = moved(t, e, phase);
+    going(0, next)
+}
+
 // The step by value: what an event changes.
 pub fn step(a: Account, e: Event, octets: &[u8]) -> Change
     ensures one { λ r. ⌜ r ≡ changeOf a e (now (octets .entry)) ⌝ }
     ensures rules { λ r. ⌜ ((h : List Given) → a ≡ accountBy (judged h) → changed a r ≡ steppedBy (event e (now (octets .entry))) h) ⌝ }
 {
     let t = a.status;
+    if e.kind != 5 {
+        let m = phase_step(t, e);
+        let status = m.status;
+        return still(m.outcome, status);
+    }
     let phase = next_phase(e.kind, t.phase);
     if phase == 0 {
         return plain(14, t);
     }
-    if e.kind == 5 {
-        return taken(a, octets);
-    }
-    if e.kind == 1 {
-        if clashes(e) {
-            return plain(13, t);
-        }
-        let up = moved(t, e, phase);
-        return plain(0, up);
-    }
-    let next = moved(t, e, phase);
-    plain(0, next)
+    taken(a, octets)
 }
 
 // The same of a whole account.
