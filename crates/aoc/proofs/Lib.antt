@@ -1,3 +1,4 @@
+pub mod Phases
 pub mod Lent
 pub mod Whole
 pub mod Moves

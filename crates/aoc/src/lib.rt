@@ -21,6 +21,7 @@ ghost use Rattle.values.specs.Sets.{emptySet, isService, has, with};
 ghost use Rattle.why.specs.Reasons.{whyOf};
 ghost use Rattle.account.specs.History.{Given, event, judged, accountBy, currentRate, running, closing, marks, phase, requests, stepped, steppedBy, fresh, pendingOf};
 ghost use Rattle.account.specs.Step.{requestsOf, steppedOf, closingOf, marksOf};
+ghost use Rattle.account.specs.Parts.{movingOf};
 ghost use Rattle.account.specs.Outcome.{Connect, Clear, Released, Component, Suspend, Resume};
 ghost use Rattle.aoc.specs.Events.{plainEvent, setupEvent, Took};
 ghost use Rattle.aoc.specs.Reading.{ReadsOff};
@@ -149,19 +150,13 @@ pub extern "C" fn aoc_step(
     account::step_in(a, e, octets)
 }
 
-// The events, one function for each. An event without octets is taken by value, and the account stored behind the reference.
+// The events, one function for each. An event without octets is taken by its status, which alone it changes.
 
-fn after(a: account::Account, e: account::Event) -> account::Stepped
-    ensures { λ r. ⌜ Took a e [] r ⌝ }
+fn set_up(t: account::Status, asked: values::Services, ids: values::Three) -> account::Moving
+    ensures { λ r. ⌜ r ≡ movingOf t (setupEvent asked ids) ⌝ }
 {
-    account::step_whole(a, e, b"")
-}
-
-fn set_up(a: account::Account, asked: values::Services, ids: values::Three) -> account::Stepped
-    ensures { λ r. ⌜ Took a (setupEvent asked ids) [] r ⌝ }
-{
-    after(
-        a,
+    account::phase_step(
+        t,
         account::Event {
             kind: 1,
             asked,
@@ -172,11 +167,11 @@ fn set_up(a: account::Account, asked: values::Services, ids: values::Three) -> a
     )
 }
 
-fn moved(a: account::Account, kind: u8) -> account::Stepped
-    ensures { λ r. ⌜ Took a (plainEvent kind) [] r ⌝ }
+fn moved(t: account::Status, kind: u8) -> account::Moving
+    ensures { λ r. ⌜ r ≡ movingOf t (plainEvent kind) ⌝ }
 {
-    after(
-        a,
+    account::phase_step(
+        t,
         account::Event {
             kind,
             asked: values::Services::EMPTY,
@@ -207,54 +202,54 @@ pub extern "C" fn aoc_setup(
 ) -> account::Outcome
     ensures { λ r. ⌜ Took (now (a .entry)) (setupEvent asked ids) [] (stepped r (now (a .exit))) ⌝ }
 {
-    let r = set_up(*a, asked, ids);
-    *a = r.account;
-    r.outcome
+    let m = set_up(a.status, asked, ids);
+    a.status = m.status;
+    m.outcome
 }
 
 #[no_mangle]
 pub extern "C" fn aoc_connect(a: &mut account::Account) -> account::Outcome
     ensures { λ r. ⌜ Took (now (a .entry)) (plainEvent Connect) [] (stepped r (now (a .exit))) ⌝ }
 {
-    let r = moved(*a, 2);
-    *a = r.account;
-    r.outcome
+    let m = moved(a.status, 2);
+    a.status = m.status;
+    m.outcome
 }
 
 #[no_mangle]
 pub extern "C" fn aoc_clear(a: &mut account::Account) -> account::Outcome
     ensures { λ r. ⌜ Took (now (a .entry)) (plainEvent Clear) [] (stepped r (now (a .exit))) ⌝ }
 {
-    let r = moved(*a, 3);
-    *a = r.account;
-    r.outcome
+    let m = moved(a.status, 3);
+    a.status = m.status;
+    m.outcome
 }
 
 #[no_mangle]
 pub extern "C" fn aoc_released(a: &mut account::Account) -> account::Outcome
     ensures { λ r. ⌜ Took (now (a .entry)) (plainEvent Released) [] (stepped r (now (a .exit))) ⌝ }
 {
-    let r = moved(*a, 4);
-    *a = r.account;
-    r.outcome
+    let m = moved(a.status, 4);
+    a.status = m.status;
+    m.outcome
 }
 
 #[no_mangle]
 pub extern "C" fn aoc_suspend(a: &mut account::Account) -> account::Outcome
     ensures { λ r. ⌜ Took (now (a .entry)) (plainEvent Suspend) [] (stepped r (now (a .exit))) ⌝ }
 {
-    let r = moved(*a, 6);
-    *a = r.account;
-    r.outcome
+    let m = moved(a.status, 6);
+    a.status = m.status;
+    m.outcome
 }
 
 #[no_mangle]
 pub extern "C" fn aoc_resume(a: &mut account::Account) -> account::Outcome
     ensures { λ r. ⌜ Took (now (a .entry)) (plainEvent Resume) [] (stepped r (now (a .exit))) ⌝ }
 {
-    let r = moved(*a, 7);
-    *a = r.account;
-    r.outcome
+    let m = moved(a.status, 7);
+    a.status = m.status;
+    m.outcome
 }
 
 #[no_mangle]
