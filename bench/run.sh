@@ -115,7 +115,7 @@ tables() {
     each 'read, instructions' read instructions
     each 'read and written, instructions' rewrite instructions
 }
-tables | tee "$work/tables"
+tables >"$work/tables" && cat "$work/tables"
 [ "$1" = write ] || exit 0
 [ "$(grep -c '^<!-- \(measured\|end of what is measured\) -->$' "$page")" = 2 ] || { echo "bench: $page has not its two marks"; exit 1; }
 awk -v file="$work/tables" '/^<!-- end of what is measured -->$/ { skip = 0 } !skip
