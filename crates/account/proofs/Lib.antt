@@ -4,5 +4,6 @@ pub mod Refusals
 pub mod Demand
 pub mod Noise
 pub mod Steps
+pub mod Machine
 pub mod Lent
 pub mod Examples

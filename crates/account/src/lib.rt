@@ -717,51 +717,6 @@ pub fn step(a: Account, e: Event, octets: &[u8]) -> Change
     taken(a, octets)
 }
 
-// The same of a whole account.
-pub fn step_whole(mut a: Account, e: Event, octets: &[u8]) -> Stepped
-    ensures one { λ r. ⌜ r ≡ steppedOf a e (now (octets .entry)) ⌝ }
-    ensures rules { λ r. ⌜ ((h : List Given) → a ≡ accountBy (judged h) → r ≡ steppedBy (event e (now (octets .entry))) h) ⌝ }
-{
-    let w = step(a, e, octets);
-    let outcome = w.outcome;
-    let status = w.status;
-    let charge = w.charge;
-    let place = w.place;
-    a.status = status;
-    if place == 1 {
-        a.rate = charge;
-        return Stepped {
-            outcome,
-            account: a,
-        };
-    }
-    if place == 2 {
-        a.running = charge;
-        return Stepped {
-            outcome,
-            account: a,
-        };
-    }
-    if place == 3 {
-        a.dfinal = charge;
-        return Stepped {
-            outcome,
-            account: a,
-        };
-    }
-    if place == 4 {
-        a.efinal = charge;
-        return Stepped {
-            outcome,
-            account: a,
-        };
-    }
-    Stepped {
-        outcome,
-        account: a,
-    }
-}
-
 // The host lends the account, and the step updates it there.
 pub fn step_in(a: &mut Account, e: Event, octets: &[u8]) -> Outcome
     ensures { λ r. ⌜ (stepped r (now (a .exit)) ≡ steppedOf (now (a .entry)) e (now (octets .entry))) × ((h : List Given) → now (a .entry) ≡ accountBy (judged h) → stepped r (now (a .exit)) ≡ steppedBy (event e (now (octets .entry))) h) ⌝ }
@@ -785,6 +740,18 @@ pub fn step_in(a: &mut Account, e: Event, octets: &[u8]) -> Outcome
         return w.outcome;
     }
     w.outcome
+}
+
+// The same of an account by value.
+pub fn step_whole(mut a: Account, e: Event, octets: &[u8]) -> Stepped
+    ensures one { λ r. ⌜ r ≡ steppedOf a e (now (octets .entry)) ⌝ }
+    ensures rules { λ r. ⌜ ((h : List Given) → a ≡ accountBy (judged h) → r ≡ steppedBy (event e (now (octets .entry))) h) ⌝ }
+{
+    let outcome = step_in(&mut a, e, octets);
+    Stepped {
+        outcome,
+        account: a,
+    }
 }
 
 // ---- reading off

@@ -62,6 +62,7 @@ use Rattle.account.proofs.Change as N
 use Rattle.account.proofs.Change.Laws as N′
 use Rattle.account.proofs.Steps.{promised, atPlace, stored-T, stored-none-T}
 use Rattle.account.proofs.Lent.{accountTy, changeTy, accountVal, changeVal, lent}
+use Rattle.account.proofs.Machine.{vA, vE, vO, vT, vF, tellsA, tellsE}
 use Rattle.account.proofs.step as step
 use Rattle.account.proofs.step.Symbol as step-def
 use Rattle.account.proofs.step.Symbol.{name as #account·step}
@@ -80,30 +81,6 @@ account-name = 97 ∷ 99 ∷ 99 ∷ 111 ∷ 117 ∷ 110 ∷ 116 ∷ 58 ∷ 58 �
 
 abbrev change-name : List ℕ
 change-name = 97 ∷ 99 ∷ 99 ∷ 111 ∷ 117 ∷ 110 ∷ 116 ∷ 58 ∷ 58 ∷ 67 ∷ 104 ∷ 97 ∷ 110 ∷ 103 ∷ 101 ∷ []
-
--- the machine values, which the walk does not look into
-vA : Account → Val
-vA = LL.val T.the-type T′.the-laws
-
-vE : Event → Val
-vE = LL.val E.the-type E′.the-laws
-
-vO : Outcome → Val
-vO = LL.val O.the-type O′.the-laws
-
-vT : Status → Val
-vT = LL.val S.the-type S′.the-laws
-
-vF : Charge → Val
-vF = LL.val F.the-type F′.the-laws
-
-tellsA : Tells T.the-row (Is T.the-row) (λ d. vA d ∷ [])
-unfolding vA
-tellsA = LL.tells T.the-type T′.the-laws
-
-tellsE : Tells E.the-row (Is E.the-row) (λ d. vE d ∷ [])
-unfolding vE
-tellsE = LL.tells E.the-type E′.the-laws
 
 -- an account's machine value is made of those of its parts
 parts : (h : Account) → vA h ≡ accountVal (vT (h .status)) (vF (h .rate)) (vF (h .running)) (vF (h .dfinal)) (vF (h .efinal))
