@@ -12,7 +12,13 @@ import re, sys
 text = open(sys.argv[1], errors="replace").read()
 first = re.search(r"^(?:\S*?/must-fail/[a-z_]+/[a-z_0-9]+/)?((?:proofs|specs)/\S+?):\d+:\d+: error: `([^`]+)`: ((?:.|\n)*?)(?=^\S+:\d+:\d+: |\Z)", text, re.M)
 if not first:
-    sys.exit("no error")
+    # a function without a proof file: its needs are found, or not, where they stand
+    need = re.search(r"it is not proved that [^\n]*\(`([^`]+)`\)", text)
+    function = re.search(r"^fn \w+::([\w:]+): (?!proved)", text, re.M)
+    if not need or not function:
+        sys.exit("no error")
+    print(f"`{function[1]}` | `{need[1]}` | not found by search")
+    sys.exit()
 place, need, says = first.groups()
 place = re.sub(r"^proofs/(?:(\w+)/)?(\w+)/Proof\.antt$", lambda m: (m[1] + "::" if m[1] else "") + m[2], place)
 sides = re.findall(r"one has `([^`]*)`\s*\(expected\)(?:, [^`]*`[^`]*`)?,?\s*and the other has `([^`]*)`", says)
