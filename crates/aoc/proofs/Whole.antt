@@ -11,15 +11,11 @@ use base.Fml.{ftrue, fsep}
 use prog.Wp.{Heap}
 use ghost.Atoms.{Atoms, sem}
 use types.Kit.{Given, ‵, given, _$_, _∵_, !, qed, move, drop, use1, learn, fsplit, check, done}
-use denote.Laws.{Is, Tells, shows}
+use denote.Laws.{Is, shows}
 use denote.Steps.{only, peeks}
 use denote.Struct.Laws as LL
 use denote.Struct.Rest.{own-open}
-use Rattle.types.specs.declared.Charge.{Charge}
-use Rattle.types.proofs.Charge as F
-use Rattle.types.proofs.Charge.Laws as F′
 use Rattle.account.specs.declared.Account.{Account}
-use Rattle.account.specs.declared.Outcome.{Outcome}
 use Rattle.account.specs.declared.Status.{Status}
 use Rattle.account.specs.declared.Moving.{Moving}
 use Rattle.account.proofs.Account as T
@@ -31,6 +27,8 @@ use Rattle.account.proofs.Status.Laws as S′
 use Rattle.account.proofs.Moving as N
 use Rattle.account.proofs.Moving.Laws as N′
 use Rattle.account.proofs.Lent.{accountVal}
+unfoldable pub use Rattle.account.proofs.Machine.{vA, vO, vT, vF}
+pub use Rattle.account.proofs.Machine.{tellsA}
 use Rattle.aoc.proofs.Phases.{withStatus}
 
 -- the names of the structs in MIR: account::Account, account::Moving
@@ -39,22 +37,6 @@ account-name = 97 ∷ 99 ∷ 99 ∷ 111 ∷ 117 ∷ 110 ∷ 116 ∷ 58 ∷ 58 �
 
 abbrev pub moving-name : List ℕ
 moving-name = 97 ∷ 99 ∷ 99 ∷ 111 ∷ 117 ∷ 110 ∷ 116 ∷ 58 ∷ 58 ∷ 77 ∷ 111 ∷ 118 ∷ 105 ∷ 110 ∷ 103 ∷ []
-
-pub vA : Account → Val
-vA = LL.val T.the-type T′.the-laws
-
-pub vO : Outcome → Val
-vO = LL.val O.the-type O′.the-laws
-
-pub vT : Status → Val
-vT = LL.val S.the-type S′.the-laws
-
-pub vF : Charge → Val
-vF = LL.val F.the-type F′.the-laws
-
-pub tellsA : Tells T.the-row (Is T.the-row) (λ d. vA d ∷ [])
-unfolding vA
-tellsA = LL.tells T.the-type T′.the-laws
 
 -- an account's machine value is made of those of its parts
 pub parts : (h : Account) → vA h ≡ accountVal (vT (h .status)) (vF (h .rate)) (vF (h .running)) (vF (h .dfinal)) (vF (h .efinal))
