@@ -16,7 +16,7 @@ use Rattle.coding.specs.Codec.{Run, Spans, isTag, apart, cons, frames}
 use Rattle.coding.specs.Shown.{shown}
 use Rattle.coding.proofs.Basic.{passing, failing, chain, same-got, picked, unpicked, followed, and-left, and-right, and-both, or-false, apart-has}
 use Rattle.coding.proofs.Laws.{RunLaws}
-use Rattle.coding.proofs.Header.{tagged-yes, spans-complete, spans-tag, spans-range, spans-forward}
+use Rattle.coding.proofs.Header.{opened-there, spans-complete, spans-tag, spans-range, spans-forward}
 use Rattle.coding.proofs.Combine.{consLaws}
 use Rattle.coding.proofs.More.{blamed-got}
 use Rattle.coding.proofs.Reading.{some-code}
@@ -30,11 +30,6 @@ module _ (tags : List ℕ) (m : Fault → Fault) (w : Fault) (s : List ℕ) (a e
       unpicked _ _ (lt-leb e a h) ∙ picked _ _ t
       ∙ ap (λ r. after (blamed m r) (λ x next. cond (eqb next e) (got x next) (halt w next))) q
 
-  -- and it is opened as that tag alone would be
-  opens-one : a < e → opened (getD s a 0) s a e ≡ lengthAt a s (a + 1) e
-  unfolding opened choice
-  opens-one h = picked _ _ (tagged-yes s a e (getD s a 0) h refl)
-
   -- what is entered begins with one of the tags, is opened as that tag alone would be, and ends where the octets end
   pub any-got : {x : Extent} {n : ℕ} → enteredAny tags m w s a e ≡ got x n
       → (oneOf tags (getD s a 0) ≡ true) × (opened (getD s a 0) s a e ≡ got x n) × (n ≡ e)
@@ -45,7 +40,7 @@ module _ (tags : List ℕ) (m : Fault → Fault) (w : Fault) (s : List ℕ) (a e
       let b = chain (blamed m (lengthAt a s (a + 1) e)) _ (q .1) in
       let t = passing (eqb (b .1) e) _ _ _ (b .3) in (
         q .0,
-        opens-one (leb-false e a (p .0)) ∙ blamed-got m (lengthAt a s (a + 1) e) (b .2) ∙ t .1,
+        opened-there (getD s a 0) s a e (leb-false e a (p .0)) refl ∙ blamed-got m (lengthAt a s (a + 1) e) (b .2) ∙ t .1,
         same-got (λ y k. k ≡ e) (t .1) (eqb-true (b .1) e (t .0)),
       )
 
@@ -84,7 +79,7 @@ module _ {A : Type 0} (tags : List ℕ) (tagOf : A → ℕ) (m : Fault → Fault
         let k' : (f t) .Means x s c l = subst (λ (u : ℕ). (f u) .Means x s c l) (sym (spans-tag op)) k in
         let op' : Spans t s a c l n = subst (λ (u : ℕ). Spans u s a c l n) (sym (spans-tag op)) op in
         let walk = F t .walked s c l x k' in
-        followed _ (any-opens tags m w s a e ae (ap (oneOf tags) (spans-tag op) ∙ h) _ (sym (opens-one tags m w s a e ae) ∙ spans-complete t s a c l n e ne op' walk) ∙ picked _ _ (eq-eqb n e (omega arith)))
+        followed _ (any-opens tags m w s a e ae (ap (oneOf tags) (spans-tag op) ∙ h) _ (sym (opened-there t s a e ae refl) ∙ spans-complete t s a c l n e ne op' walk) ∙ picked _ _ (eq-eqb n e (omega arith)))
         ∙ followed _ (F t .complete s c l l x (omega arith) (omega (arith, g .2)) (ap (λ b. b || not ((f t) .avoid (getD s l 0))) (le-leb l l (omega arith))) k')
         ∙ picked _ _ (eq-eqb l l refl);
     written = λ s a x v b h.

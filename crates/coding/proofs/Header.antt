@@ -38,6 +38,11 @@ neither-never s a e r = never (failing (ltb a e) _ _ _ r .1)
 
 -- ---- an element's tag and length octets
 
+-- after its own tag the length octets decide
+pub opened-there : (tag : ℕ) (s : List ℕ) (a e : ℕ) → a < e → getD s a 0 ≡ tag → opened tag s a e ≡ lengthAt a s (a + 1) e
+unfolding opened choice
+opened-there tag s a e h t = picked _ _ (tagged-yes s a e tag h t)
+
 pub opened-forward : {tag : ℕ} {s : List ℕ} {a c n : ℕ} → Opens tag s a c n → a < n
 opened-forward (t, f, le) = omega (arith, length-forward f)
 
@@ -118,10 +123,9 @@ spans-simple low (definite o q) = (o, q)
 spans-simple low (indefinite t b l c le z z' q) = absurd (true≢false (sym b ∙ low))
 
 opened-element : (tag : ℕ) (s : List ℕ) (a c m n e : ℕ) → n ≤ e → getD s a 0 ≡ tag → Element s a c m n → opened tag s a e ≡ got (record { start = c; stop = m }) n
-unfolding opened choice
 opened-element tag s a c m n e h t o =
     let g = element-range o in
-    picked _ _ (tagged-yes s a e tag (omega (arith, g .0, g .1, g .2)) t) ∙ element-read s a c m n e h o
+    opened-there tag s a e (omega (arith, g .0, g .1, g .2)) t ∙ element-read s a c m n e h o
 
 -- any length with a number is read
 pub opened-complete : (tag : ℕ) (s : List ℕ) (a c n e : ℕ) → n ≤ e → Opens tag s a c n → opened tag s a e ≡ got (record { start = c; stop = n }) n

@@ -79,6 +79,11 @@ pub endless-octet : (s : List ℕ) (tag at end : ℕ) → (getD s at 0 ≡ 128 �
 unfolding endless
 endless-octet s tag at end h = and-no (ltb at end) _ (and-not (eqb (getD s at 0) 128) _ (ne-eqb (getD s at 0) 128 h))
 
+-- nor does a primitive element
+pub endless-simple : (s : List ℕ) (tag at end : ℕ) → composite (getD s tag 0) ≡ false → endless s tag at end ≡ false
+unfolding endless
+endless-simple s tag at end h = and-no (ltb at end) _ (and-no (eqb (getD s at 0) 128) _ h)
+
 -- length octets that say a number do not begin with 80
 pub form-octet : {s : List ℕ} {p k c : ℕ} → LengthForm s p k c → getD s p 0 ≡ 128 → ⊥
 form-octet (short l q r) e = omega (arith, e)

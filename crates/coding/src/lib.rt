@@ -226,7 +226,7 @@ fn span_at(s: &[u8], tag: usize, start: usize, end: usize) -> Opened
 }
 
 // The length octets at a place, of the element whose tag is at tag.
-pub fn length_at(s: &[u8], tag: usize, at: usize, end: usize) -> Opened
+fn length_at(s: &[u8], tag: usize, at: usize, end: usize) -> Opened
     requires { ⌜ (end ≤ length (now s)) × (tag < at) ⌝ }
     ensures { λ r. ⌜ (r .fault, r .place, r .value, r .next) ≡ shown (record { start = 0; stop = 0 }) (lengthAt tag (now (s .entry)) at end) ⌝ }
     ensures inside { λ r. ⌜ (r .value .start ≤ r .value .stop) × (r .value .stop ≤ end) ⌝ }
@@ -295,6 +295,25 @@ pub fn open_long(s: &[u8], at: usize, end: usize, tag: u8) -> Opened
         return halted(41, at);
     }
     length_at(s, at, at + 1, end)
+}
+
+// The same for a tag that is mostly a primitive element's: there the length has a number, and no end marker is searched.
+// With one caller it becomes part of it: so natural_long is large and stays a call, and natural_at becomes part of each reader above.
+fn open_leaf(s: &[u8], at: usize, end: usize, tag: u8) -> Opened
+    requires { ⌜ end ≤ length (now s) ⌝ }
+    ensures { λ r. ⌜ (r .fault, r .place, r .value, r .next) ≡ shown (record { start = 0; stop = 0 }) (opened tag (now (s .entry)) at end) ⌝ }
+    ensures inside { λ r. ⌜ (r .value .start ≤ r .value .stop) × (r .value .stop ≤ end) ⌝ }
+{
+    if tag / 32 % 2 == 1 {
+        return open_long(s, at, end, tag);
+    }
+    if end <= at {
+        return halted(40, end);
+    }
+    if s[at] != tag {
+        return halted(41, at);
+    }
+    numbered_at(s, at, at + 1, end)
 }
 
 // ---- Numbers.
@@ -457,7 +476,7 @@ pub fn natural_long(s: &[u8], at: usize, end: usize, tag: u8, low: u32, high: u3
     ensures { λ r. ⌜ (r .fault, r .place, r .value, r .next) ≡ shown 0 ((prim tag (number low high)) .read (now (s .entry)) at end) ⌝ }
     ensures bounded { λ r. ⌜ r .value ≤ high ⌝ }
 {
-    let e = open_long(s, at, end, tag);
+    let e = open_leaf(s, at, end, tag);
     if e.fault != 0 {
         return NumberRead {
             fault: e.fault,
