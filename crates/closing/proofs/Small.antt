@@ -17,10 +17,10 @@ use Rattle.put_figures.proofs.Valid.{charge-fine}
 use Rattle.closing.specs.Range.{closingService, operationOf, inRange}
 
 -- an argument of 33 to 36
-pub operation-range : (service kind : ℕ) → (30 ≤ operationOf service kind) × (operationOf service kind ≤ 36)
+pub operation-range : (service kind : ℕ) → (31 ≤ operationOf service kind) × (operationOf service kind ≤ 36)
 operation-range service kind = by-tests (eqb service 2) (eqb kind 3)
   where
-    by-tests : (d u : Bool) → (30 ≤ cond d (cond u 34 33) (cond u 36 35)) × (cond d (cond u 34 33) (cond u 36 35) ≤ 36)
+    by-tests : (d u : Bool) → (31 ≤ cond d (cond u 34 33) (cond u 36 35)) × (cond d (cond u 34 33) (cond u 36 35) ≤ 36)
     by-tests true true = (omega arith, omega arith)
     by-tests true false = (omega arith, omega arith)
     by-tests false true = (omega arith, omega arith)
@@ -36,5 +36,5 @@ small service c v =
     let o : ℕ = operationOf service (c .figure .kind) in
     let r = operation-range service (c .figure .kind) in
     let w = and-right (not (isKind 0 c)) _ (and-right (closingService service) _ v) in
-    let f = and-left (figureFine o (c .figure)) _ (sym (charge-fine o (r .0) (r .1) c) ∙ w) in
+    let f = and-left (figureFine o (c .figure)) _ (sym (charge-fine o (omega arith) (r .1) c) ∙ w) in
     of-money (c .figure .money) (eqb (c .figure .kind) 2) (and-left (moneyFine (c .figure)) _ (and-right (marksFine o (c .figure)) _ f))

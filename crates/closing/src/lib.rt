@@ -1,5 +1,6 @@
 // Whether a closing figure is in range. A host hands it over, so that it may hold anything.
 use types::Charge;
+use types::Record;
 ghost use mathlib.Core.Path.{_≡_};
 ghost use Prim.Native.Nat.{_≤_};
 ghost use Rattle.types.specs.Arguments.{chargeOf};
@@ -30,21 +31,24 @@ fn operation_of(service: u32, kind: u8) -> u8
     35
 }
 
-// Whether a charge may be written as the argument of an operation.
+// Whether a charge may be written as the argument of an operation: with no room at all, the writer refuses an invoke of it otherwise than by 10.
 fn argument_fine(c: Charge, operation: u8) -> bool
-    requires { ⌜ (30 ≤ operation) × (operation ≤ 36) ⌝ }
+    requires { ⌜ (31 ≤ operation) × (operation ≤ 36) ⌝ }
     ensures { λ r. ⌜ r ≡ (chargeOf operation) .valid c ⌝ }
 {
-    let figure = c.figure;
-    let entries = c.entries;
-    let money = figure.money;
-    let currency = money.currency;
-    let association = figure.association;
-    let text = currency.octets;
-    let digits = association.digits;
-    let numbers = entries.numbers;
-    let octets = entries.octets;
-    put_lists::charge_fine(figure, &text, &digits, &numbers, &octets, operation)
+    let invoke = Record {
+        frame: 1,
+        unnamed: 0,
+        id: 0,
+        operation,
+        error: 0,
+        problem: 0,
+        detail: 0,
+        charge: c,
+    };
+    let mut none: [u8; 0] = [];
+    let w = writer::write(invoke, &mut none);
+    w.number != 10
 }
 
 pub fn in_range(service: u32, c: Charge) -> bool

@@ -1,0 +1,17 @@
+use mathlib.Core.Path.{ap, _∙_}
+use mathlib.Core.Bool.{not}
+use borrow.Author.Needs.{needs}
+use lib.Dec.{eqb}
+use Rattle.writer.specs.declared.Written.{Written}
+use Rattle.closing.proofs.Asked.{asked}
+use Rattle.closing.proofs.argument_fine.Statement.{statement}
+use Rattle.closing.proofs.argument_fine.Tie as tie
+
+returns : tie.Need-returns
+returns c =
+    let w = c .before .before in
+    let s = w .before .before in
+    ap (λ (x : Written). not (eqb (x .number) 10)) (w .write .ensures .0) ∙ asked (s .args .c) (s .args .operation) _ (s .pre .0) (s .pre .1)
+
+pub argument-fine-spec : {M : Type 1} → statement M
+argument-fine-spec = tie.close (tie.spec (λ c. search needs) (λ c κs. search needs) returns)
