@@ -1,5 +1,5 @@
-/* What stands behind aoc.h, which includes it and which hosts read instead: the two functions of the library over the parts
- * of a record, the bodies of the inline functions, and the layout that the library has. */
+/* What stands behind aoc.h, which includes it and which hosts read instead: the functions of the library over the parts of a
+ * record, the bodies of the inline functions, and the layout that the library has. */
 #ifndef AOC_PARTS_H
 #define AOC_PARTS_H
 
@@ -9,25 +9,27 @@
 
 /* ------------------------------------------------------------------ a record in parts */
 
-/* Numbers go by value and arrays are lent, so that no list is copied. Of what is passed, the front is the record's first 8
- * octets, the figure its charge's first 48, and a short answer an answer's first 64. */
+/* A record lies in four parts: its front, the first 8 octets; its figure, the charge's first 48; and the charge's two arrays,
+ * which hold its list. Reading is lent all four and stores each octet where it is to lie. Writing is lent the arrays and takes
+ * the numbers by value. So no part is copied. */
+
+/* A refusal and its offset, as an answer begins. */
+typedef struct {
+    uint32_t refusal, offset;
+} aoc_refusal_at;
+
+/* What stands at a place of an element: a component's refusal or none, with the place after it; or the end. */
+typedef struct {
+    size_t after, ended;
+    aoc_refusal_at answer;
+} aoc_next_answer;
+
+/* A front as numbers. */
 typedef struct {
     uint8_t frame, unnamed;
     uint16_t id;
     uint8_t operation, error, problem, detail;
 } aoc_front;
-
-typedef struct {
-    aoc_money money;
-    aoc_association association;
-    uint8_t kind, total, billed, billing, arrangement, count;
-} aoc_figure;
-
-typedef struct {
-    uint32_t refusal, offset;
-    aoc_front front;
-    aoc_figure figure;
-} aoc_short_answer;
 
 /* A figure's small numbers: of the association the identifier, the count of digits, the kind and the plan; the count of the
  * currency's octets; and the rest under its own names. */
@@ -36,15 +38,11 @@ typedef struct {
     uint8_t currency, multiplier, party, plan, kind, total, billed, billing, arrangement, count;
 } aoc_outline;
 
-/* What stands at a place of an element: a component's short answer with the place after it, or the end. */
-typedef struct {
-    size_t after, ended;
-    aoc_short_answer answer;
-} aoc_next_answer;
-
 /* Proved. What aoc_read, aoc_next and aoc_write say, over the parts. */
-aoc_short_answer aoc_read_into(const uint8_t *octets, size_t length, uint32_t (*numbers)[32], uint8_t (*rows)[192]);
-aoc_next_answer aoc_next_into(const uint8_t *octets, size_t length, size_t place, uint32_t (*numbers)[32], uint8_t (*rows)[192]);
+aoc_refusal_at aoc_read_into(const uint8_t *octets, size_t length, uint8_t (*front)[8], uint8_t (*figure)[48],
+                             uint32_t (*numbers)[32], uint8_t (*rows)[192]);
+aoc_next_answer aoc_next_into(const uint8_t *octets, size_t length, size_t place, uint8_t (*front)[8], uint8_t (*figure)[48],
+                              uint32_t (*numbers)[32], uint8_t (*rows)[192]);
 aoc_written aoc_write_from(aoc_front front, aoc_outline outline, uint32_t number, const uint8_t (*currency)[10],
                            const uint8_t (*digits)[20], const uint32_t (*numbers)[32], const uint8_t (*rows)[192],
                            uint8_t *buffer, size_t room);
@@ -52,7 +50,8 @@ aoc_written aoc_write_from(aoc_front front, aoc_outline outline, uint32_t number
 static inline aoc_refusal aoc_read(const uint8_t *octets, size_t length, aoc_answer *answer)
 {
     aoc_charge *charge = &answer->record.charge;
-    aoc_short_answer a = aoc_read_into(octets, length, &charge->numbers, &charge->octets);
+    aoc_refusal_at a = aoc_read_into(octets, length, (uint8_t(*)[8])&answer->record, (uint8_t(*)[48])charge,
+                                     &charge->numbers, &charge->octets);
     memcpy(answer, &a, sizeof a);
     return (aoc_refusal)a.refusal;
 }
@@ -60,7 +59,8 @@ static inline aoc_refusal aoc_read(const uint8_t *octets, size_t length, aoc_ans
 static inline bool aoc_next(const uint8_t *octets, size_t length, size_t *place, aoc_answer *answer)
 {
     aoc_charge *charge = &answer->record.charge;
-    aoc_next_answer next = aoc_next_into(octets, length, *place, &charge->numbers, &charge->octets);
+    aoc_next_answer next = aoc_next_into(octets, length, *place, (uint8_t(*)[8])&answer->record, (uint8_t(*)[48])charge,
+                                         &charge->numbers, &charge->octets);
     memcpy(answer, &next.answer, sizeof next.answer);
     if (next.after == 0)
         return false;
@@ -71,13 +71,21 @@ static inline bool aoc_next(const uint8_t *octets, size_t length, size_t *place,
 static inline aoc_written aoc_write(const aoc_record *record, uint8_t *buffer, size_t room)
 {
     const aoc_charge *c = &record->charge;
+    const aoc_money *m = &c->money;
     const aoc_association *a = &c->association;
     aoc_front front;
+    /* The outline is set as the two words that it is passed in, its first octet lowest. Set field by field it would be stored
+     * in small pieces and loaded in large ones, and such a load waits for the stores. */
+    union {
+        uint64_t words[2];
+        aoc_outline outline;
+    } o;
     memcpy(&front, record, sizeof front);
-    aoc_outline outline = {a->id, a->count, c->money.currency.count, c->money.multiplier, a->kind, a->plan,
-                           c->kind, c->total, c->billed, c->billing, c->arrangement, c->count};
-    return aoc_write_from(front, outline, c->money.number, &c->money.currency.octets, &a->digits, &c->numbers, &c->octets,
-                          buffer, room);
+    o.words[0] = (uint64_t)a->id | (uint64_t)a->count << 16 | (uint64_t)m->currency.count << 32 |
+                 (uint64_t)m->multiplier << 40 | (uint64_t)a->kind << 48 | (uint64_t)a->plan << 56;
+    o.words[1] = (uint64_t)c->kind | (uint64_t)c->total << 8 | (uint64_t)c->billed << 16 | (uint64_t)c->billing << 24 |
+                 (uint64_t)c->arrangement << 32 | (uint64_t)c->count << 40;
+    return aoc_write_from(front, o.outline, m->number, &m->currency.octets, &a->digits, &c->numbers, &c->octets, buffer, room);
 }
 
 /* ------------------------------------------------------------------ values */
@@ -159,13 +167,12 @@ AOC_LAYOUT(offsetof(aoc_charge, rates) == 176);
 AOC_LAYOUT(sizeof(aoc_record) == 376 && offsetof(aoc_record, id) == 2 && offsetof(aoc_record, operation) == 4);
 AOC_LAYOUT(offsetof(aoc_record, detail) == 7 && offsetof(aoc_record, charge) == 8);
 AOC_LAYOUT(sizeof(aoc_answer) == 384 && offsetof(aoc_answer, offset) == 4 && offsetof(aoc_answer, record) == 8);
-AOC_LAYOUT(sizeof(aoc_front) == offsetof(aoc_record, charge) && offsetof(aoc_front, detail) == offsetof(aoc_record, detail));
-AOC_LAYOUT(sizeof(aoc_figure) == offsetof(aoc_charge, numbers) && offsetof(aoc_figure, count) == offsetof(aoc_charge, count));
-AOC_LAYOUT(sizeof(aoc_outline) == 14 && offsetof(aoc_outline, count) == 13);
-AOC_LAYOUT(sizeof(aoc_short_answer) == 64 && offsetof(aoc_short_answer, front) == 8);
-AOC_LAYOUT(offsetof(aoc_short_answer, figure) == 16);
+AOC_LAYOUT(sizeof(aoc_refusal_at) == 8 && offsetof(aoc_refusal_at, offset) == offsetof(aoc_answer, offset));
+AOC_LAYOUT(sizeof(aoc_next_answer) == 24 && offsetof(aoc_next_answer, answer) == 16);
+AOC_LAYOUT(sizeof(aoc_front) == 8 && offsetof(aoc_front, id) == offsetof(aoc_record, id));
+AOC_LAYOUT(offsetof(aoc_front, operation) == offsetof(aoc_record, operation));
+AOC_LAYOUT(sizeof(aoc_outline) == 14 && offsetof(aoc_outline, currency) == 4 && offsetof(aoc_outline, kind) == 8);
 AOC_LAYOUT(sizeof(aoc_written) == 8 && offsetof(aoc_written, count) == 4);
-AOC_LAYOUT(sizeof(aoc_next_answer) == 16 + 64 && offsetof(aoc_next_answer, answer) == 16);
 AOC_LAYOUT(sizeof(aoc_services) == 3 && sizeof(aoc_identifiers) == 6 && sizeof(aoc_outcome) == 2);
 AOC_LAYOUT(sizeof(aoc_event) == 10 && offsetof(aoc_event, asked) == 1 && offsetof(aoc_event, s) == 4);
 AOC_LAYOUT(sizeof(aoc_account) == 1488 && offsetof(aoc_account, asked) == 1 && offsetof(aoc_account, s) == 4);
@@ -179,5 +186,10 @@ AOC_LAYOUT(sizeof(aoc_why_answer) == 16 && offsetof(aoc_why_answer, event) == 8)
 AOC_LAYOUT(sizeof(aoc_priced) == 32 && offsetof(aoc_priced, is_free) == 4 && offsetof(aoc_priced, currency) == 5);
 AOC_LAYOUT(offsetof(aoc_priced, thousandths) == 16 && offsetof(aoc_priced, quotient) == 24);
 #undef AOC_LAYOUT
+
+/* Numbers lie low octet first, in what reading stores and in the outline's words. */
+#if defined(__BYTE_ORDER__) && __BYTE_ORDER__ != __ORDER_LITTLE_ENDIAN__
+#error "the library is for x86-64"
+#endif
 
 #endif

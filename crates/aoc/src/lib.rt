@@ -29,17 +29,19 @@ ghost use Rattle.price.specs.Price.{priceOf};
 
 // ---- components
 
-// Numbers go by value and arrays are lent, so that no list is copied.
+// A record that is read goes to four parts that are lent, and one that is written comes from its numbers by value and its arrays lent: none is copied.
 
 #[no_mangle]
 pub extern "C" fn aoc_read_into(
     octets: &[u8],
+    front: &mut [u8; 8],
+    figure: &mut [u8; 48],
     numbers: &mut [u32; 32],
     rows: &mut [u8; 192],
-) -> component::MainAnswer
-    ensures { λ r. ⌜ wholeAnswer r (now (numbers .exit)) (now (rows .exit)) ≡ readOf (now (octets .entry)) ⌝ }
+) -> component::Refusal
+    ensures { λ r. ⌜ wholeAnswer r (now (front .exit)) (now (figure .exit)) (now (numbers .exit)) (now (rows .exit)) ≡ readOf (now (octets .entry)) ⌝ }
 {
-    component::read_into(octets, numbers, rows)
+    component::read_into(octets, front, figure, numbers, rows)
 }
 
 #[no_mangle]
@@ -73,12 +75,14 @@ pub extern "C" fn aoc_reply(octets: &[u8], buf: &mut [u8]) -> writer::Written
 pub extern "C" fn aoc_next_into(
     octets: &[u8],
     place: usize,
+    front: &mut [u8; 8],
+    figure: &mut [u8; 48],
     numbers: &mut [u32; 32],
     rows: &mut [u8; 192],
 ) -> pass::Next
-    ensures { λ r. ⌜ wholeNext r (now (numbers .exit)) (now (rows .exit)) ≡ passOf (now (octets .entry)) place ⌝ }
+    ensures { λ r. ⌜ wholeNext r (now (front .exit)) (now (figure .exit)) (now (numbers .exit)) (now (rows .exit)) ≡ passOf (now (octets .entry)) place ⌝ }
 {
-    pass::next_into(octets, place, numbers, rows)
+    pass::next_into(octets, place, front, figure, numbers, rows)
 }
 
 // ---- values

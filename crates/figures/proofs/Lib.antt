@@ -1,2 +1,4 @@
+pub mod Answers
+pub mod Kept
 pub mod Texts
 pub mod Steps

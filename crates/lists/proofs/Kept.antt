@@ -4,19 +4,22 @@ use Prim.Native.Nat.{ℕ, _+_, _-_, _*_, _≤_, _<_}
 use native.Mathlib.Omega.{arith}
 use mathlib.Core.Path.{_≡_, refl, ap₂, _∙_}
 use mathlib.Core.List.{List, [], _∷_, _++_}
-use lib.ListN.{length, getD, length-append}
+use lib.ListN.{length, getD, length-append, replicate, set}
 use lib.Seq.{sets}
-use Rattle.coding.specs.Reader.{Ans, Reader, after, listOf}
+use Rattle.coding.specs.Reader.{Ans, Reader, after, listOf, part}
 use Rattle.coding.specs.Reader.Ans.{got}
 use Rattle.coding.specs.Codec.{pad}
 use Rattle.coding.specs.Rows.{rows}
 use Rattle.coding.specs.Shown.{shown}
 use Rattle.coding.proofs.Reading.{gives}
 use Rattle.coding.proofs.Rows.{rows-more-at}
-use Rattle.coding.proofs.Lists.{Going, going-start, going-more, list-done, list-fault, list-limit, list-strange}
+use Rattle.coding.proofs.Lists.{Going, going-start, going-more, list-done, list-fault, list-limit, list-strange, list-none}
 use Rattle.types.specs.declared.Charge.{Charge}
+use Rattle.coding.specs.declared.Empty.{Empty}
 use Rattle.types.specs.Arguments.{noCharge, listFigure}
-use Rattle.lists.specs.Readers.{whole, Zero, figureRead}
+use Rattle.types.specs.Stored.{figureIn, Blank}
+use Rattle.lists.specs.Readers.{whole}
+use Rattle.figures.proofs.Answers.{refused, arrived}
 
 -- the entries read so far are those that the arrays hold, as many as counted, and the next would be at i
 pub record Kept {A : Type 0} (most : ℕ) (entry : Reader A) (low small : A → List ℕ) (s : List ℕ) (at end : ℕ) (numbers octets : List ℕ) (count i : ℕ) : Type 0 where
@@ -27,9 +30,17 @@ pub record Kept {A : Type 0} (most : ℕ) (entry : Reader A) (low small : A → 
   pub counted : length known ≡ count
 
 module _ {A : Type 0} (most : ℕ) (entry : Reader A) (low small : A → List ℕ) (s : List ℕ) (at end : ℕ) where
-  pub kept-start : {numbers octets : List ℕ} → at < end → Zero numbers octets → Kept most entry low small s at end numbers octets 0 at
+  -- a list of a kind as a charge
+  abbrev listed : ℕ → List A → Charge
+  listed kind xs = record { figure = listFigure kind (length xs); entries = record { numbers = pad 32 0 (rows low xs); octets = pad 192 0 (rows small xs) } }
+
+  pub kept-start : {figure numbers octets : List ℕ} → at < end → Blank figure numbers octets → Kept most entry low small s at end numbers octets 0 at
   unfolding pad rows
-  kept-start h z = record { known = []; going = going-start _ _ _ _ _ _ h; laid = z .numbers-zero; marked = z .octets-zero; counted = refl }
+  kept-start h z = record { known = []; going = going-start _ _ _ _ _ _ h; laid = z .numbers-blank; marked = z .rows-blank; counted = refl }
+
+  pub kept-none : (f : List A → ℕ → Ans Charge) (figure numbers octets : List ℕ) {r : Empty} → r ≡ record { fault = 40; place = end; next = 0 } → end ≤ at →
+      whole r figure numbers octets ≡ shown noCharge (after (listOf 0x30 most entry s at end) f)
+  kept-none f figure numbers octets a h = refused _ _ a (λ k. omega arith) (list-none _ _ _ _ _ _ f _ h)
 
   module _ {numbers octets : List ℕ} {count i : ℕ} (kept : Kept most entry low small s at end numbers octets count i) where
     -- an entry more, its rows stored after the others
@@ -45,20 +56,28 @@ module _ {A : Type 0} (most : ℕ) (entry : Reader A) (low small : A → List �
       counted = simp length-append (omega (arith, kept .counted));
     }
 
-    module _ (f : List A → ℕ → Ans Charge) where
-      pub kept-done : (kind : ℕ) → end ≤ i →
-          ((xs : List A) (n : ℕ) → f xs n ≡ got (record { figure = listFigure kind (length xs); entries = record { numbers = pad 32 0 (rows low xs); octets = pad 192 0 (rows small xs) } }) n) →
-          whole (figureRead (listFigure kind count) i) numbers octets ≡ shown noCharge (after (listOf 0x30 most entry s at end) f)
-      kept-done kind h e =
+    -- each return; after a fault whatever the parts hold
+    module _ (f : List A → ℕ → Ans Charge) {r : Empty} where
+      pub kept-done : {b : List ℕ} (kind : ℕ) → r ≡ record { fault = 0; place = 0; next = i } → end ≤ i → b ≡ replicate 48 0 →
+          ((xs : List A) (n : ℕ) → f xs n ≡ got (listed kind xs) n) →
+          whole r (set (set b 42 kind) 47 count) numbers octets ≡ shown noCharge (after (listOf 0x30 most entry s at end) f)
+      unfolding figureIn part
+      kept-done kind a h blank fs =
           list-done _ _ _ _ _ _ f _ (kept .known) _ (kept .going) h
-          (rw (e, kept .laid, kept .marked, ← kept .counted) (gives _ _ _))
+          (rw fs (arrived _ _ a (rw (blank, kept .laid, kept .marked, ← kept .counted) (gives _ _ _))))
 
-      pub kept-fault : (z : A) {k p n : ℕ} {v : A} → i < end → count < most → (k, p, v, n) ≡ shown z (entry s i end) → (k ≡ 0 → ⊥) →
-          (k, p, noCharge, 0) ≡ shown noCharge (after (listOf 0x30 most entry s at end) f)
-      kept-fault z h l e k0 = list-fault _ _ _ _ _ _ f _ (kept .known) _ (kept .going) z h (omega (arith, kept .counted)) e k0
+      module _ (figure numbers' octets' : List ℕ) where
+        pub kept-fault : (z : A) {k p n : ℕ} {v : A} → r ≡ record { fault = k; place = p; next = 0 } → i < end → count < most → (k, p, v, n) ≡ shown z (entry s i end) →
+            (k ≡ 0 → ⊥) → whole r figure numbers' octets' ≡ shown noCharge (after (listOf 0x30 most entry s at end) f)
+        kept-fault z a h l e k0 = refused _ _ a k0 (list-fault _ _ _ _ _ _ f _ (kept .known) _ (kept .going) z h (omega (arith, kept .counted)) e k0)
 
-      pub kept-limit : i < end → most ≤ count → getD s i 0 ≡ 0x30 → (45, i, noCharge, 0) ≡ shown noCharge (after (listOf 0x30 most entry s at end) f)
-      kept-limit h l e = list-limit _ _ _ _ _ _ f _ (kept .known) _ (kept .going) h (omega (arith, kept .counted)) e
+        pub kept-limit : r ≡ record { fault = 45; place = i; next = 0 } → i < end → most ≤ count → getD s i 0 ≡ 0x30 →
+            whole r figure numbers' octets' ≡ shown noCharge (after (listOf 0x30 most entry s at end) f)
+        kept-limit a h l e = refused _ _ a (λ k. omega arith) (list-limit _ _ _ _ _ _ f _ (kept .known) _ (kept .going) h (omega (arith, kept .counted)) e)
 
-      pub kept-strange : i < end → most ≤ count → (getD s i 0 ≡ 0x30 → ⊥) → (41, i, noCharge, 0) ≡ shown noCharge (after (listOf 0x30 most entry s at end) f)
-      kept-strange h l e = list-strange _ _ _ _ _ _ f _ (kept .known) _ (kept .going) h (omega (arith, kept .counted)) e
+        pub kept-strange : r ≡ record { fault = 41; place = i; next = 0 } → i < end → most ≤ count → (getD s i 0 ≡ 0x30 → ⊥) →
+            whole r figure numbers' octets' ≡ shown noCharge (after (listOf 0x30 most entry s at end) f)
+        kept-strange a h l e = refused _ _ a (λ k. omega arith) (list-strange _ _ _ _ _ _ f _ (kept .known) _ (kept .going) h (omega (arith, kept .counted)) e)
+
+-- what the returns of such a loop cite
+pub ruleset keeping = (kept-none, kept-done, kept-fault, kept-limit, kept-strange)

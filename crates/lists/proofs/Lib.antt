@@ -1,2 +1,4 @@
+pub mod Answers
+pub mod Stores
 pub mod Steps
 pub mod Kept

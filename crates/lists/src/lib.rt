@@ -1,16 +1,20 @@
-// Reading charges that may hold a list: the arguments of operations 31, 34 and 36, and the result of operation 30.
+// Reading charges: the result of operation 30 and the arguments of operations 31 to 36, where they are available.
 //
-// The readers store a list in two arrays that are lent to them, zero before and zero again after a fault, and answer the rest of the charge:
-// so no list is copied from level to level.
+// The readers store what they read where it will lie: a list in two arrays and the rest in the figure's 48 octets, all zero before.
+// After a fault what is stored does not count.
 ghost use mathlib.Core.Path.{_≡_};
+ghost use mathlib.Core.Bool.{false, _&&_, _||_};
 ghost use Prim.Native.Nat.{_+_, _*_, _≤_, _<_};
 ghost use lib.ListN.{length};
+ghost use lib.Dec.{eqb};
 ghost use lib.Seq.{sets};
-ghost use Rattle.coding.specs.Codec.{cons, sort};
+ghost use Rattle.coding.specs.Reader.{tagged};
 ghost use Rattle.coding.specs.Shown.{shown, refusal};
 ghost use Rattle.types.specs.Entries.{noUnits, unit, unitNumbers, unitOctets};
-ghost use Rattle.types.specs.Arguments.{plain, noCharge, isKind, listFigure, totalled, associated, inUnits, during, subtotals, ending, settled, finals, rates, arrangement, available};
-ghost use Rattle.lists.specs.Readers.{whole, Zero, figureRead, unitNumber, inRates};
+ghost use Rattle.types.specs.Arguments.{noCharge, inUnits, rates, available};
+ghost use Rattle.types.specs.Stored.{Blank};
+ghost use Rattle.figures.specs.Beside.{Unassociated};
+ghost use Rattle.lists.specs.Readers.{whole, Clear, unitNumber, inRates, isTariff, isSubtotal, isMoney, amountBy, typeBy, billingBy, framedBy, pricedOf, settledOf, figureOf};
 
 pub struct UnitsRead {
     pub fault: u8,
@@ -112,82 +116,7 @@ pub fn keep_unit(numbers: &mut [u32; 32], octets: &mut [u8; 192], i: usize, u: t
     octets[2 * i + 1] = u.kind;
 }
 
-// After a fault the arrays are zero, whatever was read into them.
-fn refuse(
-    numbers: &mut [u32; 32],
-    octets: &mut [u8; 192],
-    fault: u8,
-    place: usize,
-) -> figures::FigureRead
-    ensures { λ r. ⌜ whole r (now (numbers .exit)) (now (octets .exit)) ≡ refusal noCharge fault place ⌝ }
-{
-    *numbers = [0; 32];
-    *octets = [0; 192];
-    figures::no_figure(fault, place)
-}
-
-// A list of a kind, its entries in the arrays.
-fn list_read(kind: u8, count: u8, next: usize) -> figures::FigureRead
-    ensures { λ r. ⌜ r ≡ figureRead (listFigure kind count) next ⌝ }
-{
-    figures::FigureRead {
-        fault: 0,
-        place: 0,
-        value: types::Figure {
-            money: figures::NO_MONEY,
-            association: figures::NO_ASSOCIATION,
-            kind,
-            total: 0,
-            billed: 0,
-            billing: 0,
-            arrangement: 0,
-            count,
-        },
-        next,
-    }
-}
-
-// What was read, up to another place.
-fn figure_read(value: types::Figure, next: usize) -> figures::FigureRead
-    ensures { λ r. ⌜ r ≡ figureRead value next ⌝ }
-{
-    figures::FigureRead {
-        fault: 0,
-        place: 0,
-        value,
-        next,
-    }
-}
-
-// The same with its type and billing.
-fn totalled_read(
-    value: types::Figure,
-    total: u8,
-    billed: u8,
-    billing: u8,
-    next: usize,
-) -> figures::FigureRead
-    ensures { λ r. ⌜ r ≡ figureRead ((totalled total billed billing (plain value)) .figure) next ⌝ }
-{
-    let mut value = value;
-    value.total = total;
-    value.billed = billed;
-    value.billing = billing;
-    figure_read(value, next)
-}
-
-// The same with its association.
-fn associated_read(
-    value: types::Figure,
-    association: types::Association,
-    next: usize,
-) -> figures::FigureRead
-    ensures { λ r. ⌜ r ≡ figureRead ((associated association (plain value)) .figure) next ⌝ }
-{
-    let mut value = value;
-    value.association = association;
-    figure_read(value, next)
-}
+// ---- lists
 
 // 1 to 32 entries of units, up to the end of the enclosing element.
 fn units_in(
@@ -196,201 +125,37 @@ fn units_in(
     end: usize,
     numbers: &mut [u32; 32],
     octets: &mut [u8; 192],
-) -> figures::FigureRead
+    figure: &mut [u8; 48],
+) -> coding::Empty
     requires { ⌜ end ≤ length (now s) ⌝ }
-    requires { ⌜ Zero (now numbers) (now octets) ⌝ }
-    ensures { λ r. ⌜ whole r (now (numbers .exit)) (now (octets .exit)) ≡ shown noCharge (inUnits .read (now (s .entry)) at end) ⌝ }
+    requires { ⌜ Blank (now figure) (now numbers) (now octets) ⌝ }
+    ensures { λ r. ⌜ whole r (now (figure .exit)) (now (numbers .exit)) (now (octets .exit)) ≡ shown noCharge (inUnits .read (now (s .entry)) at end) ⌝ }
+    ensures clear { λ _. ⌜ Clear (now (figure .exit)) ⌝ }
 {
     if end <= at {
-        return refuse(numbers, octets, 40, end);
+        return figures::halted(40, end);
     }
     let mut count: usize = 0;
     let mut i = at;
     while i < end {
         if 32 <= count {
             if s[i] == 0x30 {
-                return refuse(numbers, octets, 45, i);
+                return figures::halted(45, i);
             }
-            return refuse(numbers, octets, 41, i);
+            return figures::halted(41, i);
         }
         let u = unit_at(s, i, end);
         if u.fault != 0 {
-            return refuse(numbers, octets, u.fault, u.place);
+            return figures::halted(u.fault, u.place);
         }
         let v = u.value;
         keep_unit(numbers, octets, count, v);
         count += 1;
         i = u.next;
     }
-    list_read(3, count as u8, i)
-}
-
-// The A1 of operations 34 and 36.
-fn units_at(
-    s: &[u8],
-    at: usize,
-    end: usize,
-    numbers: &mut [u32; 32],
-    octets: &mut [u8; 192],
-) -> figures::FigureRead
-    requires { ⌜ end ≤ length (now s) ⌝ }
-    requires { ⌜ Zero (now numbers) (now octets) ⌝ }
-    ensures { λ r. ⌜ whole r (now (numbers .exit)) (now (octets .exit)) ≡ shown noCharge ((cons 0xa1 inUnits) .read (now (s .entry)) at end) ⌝ }
-{
-    let e = coding::open_at(s, at, end, 0xa1);
-    if e.fault != 0 {
-        return refuse(numbers, octets, e.fault, e.place);
-    }
-    let u = units_in(s, e.value.start, e.value.stop, numbers, octets);
-    if u.fault != 0 {
-        return refuse(numbers, octets, u.fault, u.place);
-    }
-    if u.next != e.value.stop {
-        return refuse(numbers, octets, 41, u.next);
-    }
-    figure_read(u.value, e.next)
-}
-
-// The 30 of operation 34: A1, 82 type, optional 83 billing.
-fn units_during_at(
-    s: &[u8],
-    at: usize,
-    end: usize,
-    numbers: &mut [u32; 32],
-    octets: &mut [u8; 192],
-) -> figures::FigureRead
-    requires { ⌜ end ≤ length (now s) ⌝ }
-    requires { ⌜ Zero (now numbers) (now octets) ⌝ }
-    ensures { λ r. ⌜ whole r (now (numbers .exit)) (now (octets .exit)) ≡ shown noCharge ((during inUnits) .read (now (s .entry)) at end) ⌝ }
-{
-    let e = coding::open_at(s, at, end, 0x30);
-    if e.fault != 0 {
-        return refuse(numbers, octets, e.fault, e.place);
-    }
-    let u = units_at(s, e.value.start, e.value.stop, numbers, octets);
-    if u.fault != 0 {
-        return refuse(numbers, octets, u.fault, u.place);
-    }
-    let t = coding::natural_at(s, u.next, e.value.stop, 0x82, 0, 1);
-    if t.fault != 0 {
-        return refuse(numbers, octets, t.fault, t.place);
-    }
-    let b = coding::chosen_at(s, t.next, e.value.stop, 0x83, 0, 2);
-    if b.fault != 0 {
-        return refuse(numbers, octets, b.fault, b.place);
-    }
-    if b.next != e.value.stop {
-        return refuse(numbers, octets, 41, b.next);
-    }
-    totalled_read(
-        u.value,
-        t.value as u8,
-        figures::flag(b.value.given),
-        b.value.value as u8,
-        e.next,
-    )
-}
-
-// The argument of operation 34: 81 00 free, or the 30.
-fn units_subtotals_at(
-    s: &[u8],
-    at: usize,
-    end: usize,
-    numbers: &mut [u32; 32],
-    octets: &mut [u8; 192],
-) -> figures::FigureRead
-    requires { ⌜ end ≤ length (now s) ⌝ }
-    requires { ⌜ Zero (now numbers) (now octets) ⌝ }
-    ensures { λ r. ⌜ whole r (now (numbers .exit)) (now (octets .exit)) ≡ shown noCharge ((subtotals inUnits) .read (now (s .entry)) at end) ⌝ }
-{
-    if coding::is_tag(s, at, end, 0x81) {
-        return figures::sign_at(s, at, end, 0x81, 1);
-    }
-    units_during_at(s, at, end, numbers, octets)
-}
-
-// The inner 30 of operation 36: A1, optional 82 billing.
-fn units_ending_at(
-    s: &[u8],
-    at: usize,
-    end: usize,
-    numbers: &mut [u32; 32],
-    octets: &mut [u8; 192],
-) -> figures::FigureRead
-    requires { ⌜ end ≤ length (now s) ⌝ }
-    requires { ⌜ Zero (now numbers) (now octets) ⌝ }
-    ensures { λ r. ⌜ whole r (now (numbers .exit)) (now (octets .exit)) ≡ shown noCharge ((ending inUnits) .read (now (s .entry)) at end) ⌝ }
-{
-    let e = coding::open_at(s, at, end, 0x30);
-    if e.fault != 0 {
-        return refuse(numbers, octets, e.fault, e.place);
-    }
-    let u = units_at(s, e.value.start, e.value.stop, numbers, octets);
-    if u.fault != 0 {
-        return refuse(numbers, octets, u.fault, u.place);
-    }
-    let b = coding::chosen_at(s, u.next, e.value.stop, 0x82, 0, 7);
-    if b.fault != 0 {
-        return refuse(numbers, octets, b.fault, b.place);
-    }
-    if b.next != e.value.stop {
-        return refuse(numbers, octets, 41, b.next);
-    }
-    totalled_read(
-        u.value,
-        0,
-        figures::flag(b.value.given),
-        b.value.value as u8,
-        e.next,
-    )
-}
-
-// 81 00 free, or the inner 30 of operation 36.
-fn units_settled_at(
-    s: &[u8],
-    at: usize,
-    end: usize,
-    numbers: &mut [u32; 32],
-    octets: &mut [u8; 192],
-) -> figures::FigureRead
-    requires { ⌜ end ≤ length (now s) ⌝ }
-    requires { ⌜ Zero (now numbers) (now octets) ⌝ }
-    ensures { λ r. ⌜ whole r (now (numbers .exit)) (now (octets .exit)) ≡ shown noCharge ((settled inUnits) .read (now (s .entry)) at end) ⌝ }
-{
-    if coding::is_tag(s, at, end, 0x81) {
-        return figures::sign_at(s, at, end, 0x81, 1);
-    }
-    units_ending_at(s, at, end, numbers, octets)
-}
-
-// The argument of operation 36: a settled charge, optional association.
-fn units_finals_at(
-    s: &[u8],
-    at: usize,
-    end: usize,
-    numbers: &mut [u32; 32],
-    octets: &mut [u8; 192],
-) -> figures::FigureRead
-    requires { ⌜ end ≤ length (now s) ⌝ }
-    requires { ⌜ Zero (now numbers) (now octets) ⌝ }
-    ensures { λ r. ⌜ whole r (now (numbers .exit)) (now (octets .exit)) ≡ shown noCharge ((finals inUnits) .read (now (s .entry)) at end) ⌝ }
-{
-    let e = coding::open_at(s, at, end, 0x30);
-    if e.fault != 0 {
-        return refuse(numbers, octets, e.fault, e.place);
-    }
-    let u = units_settled_at(s, e.value.start, e.value.stop, numbers, octets);
-    if u.fault != 0 {
-        return refuse(numbers, octets, u.fault, u.place);
-    }
-    let a = figures::association_at(s, u.next, e.value.stop);
-    if a.fault != 0 {
-        return refuse(numbers, octets, a.fault, a.place);
-    }
-    if a.next != e.value.stop {
-        return refuse(numbers, octets, 41, a.next);
-    }
-    associated_read(u.value, a.value, e.next)
+    figure[42] = 3;
+    figure[47] = count as u8;
+    figures::reached(i)
 }
 
 // 1 to 10 entries of rates, up to the end of the enclosing element.
@@ -400,33 +165,36 @@ fn rates_in(
     end: usize,
     numbers: &mut [u32; 32],
     octets: &mut [u8; 192],
-) -> figures::FigureRead
+    figure: &mut [u8; 48],
+) -> coding::Empty
     requires { ⌜ end ≤ length (now s) ⌝ }
-    requires { ⌜ Zero (now numbers) (now octets) ⌝ }
-    ensures { λ r. ⌜ whole r (now (numbers .exit)) (now (octets .exit)) ≡ shown noCharge (inRates (now (s .entry)) at end) ⌝ }
+    requires { ⌜ Blank (now figure) (now numbers) (now octets) ⌝ }
+    ensures { λ r. ⌜ whole r (now (figure .exit)) (now (numbers .exit)) (now (octets .exit)) ≡ shown noCharge (inRates (now (s .entry)) at end) ⌝ }
 {
     if end <= at {
-        return refuse(numbers, octets, 40, end);
+        return figures::halted(40, end);
     }
     let mut count: usize = 0;
     let mut i = at;
     while i < end {
         if 10 <= count {
             if s[i] == 0x30 {
-                return refuse(numbers, octets, 45, i);
+                return figures::halted(45, i);
             }
-            return refuse(numbers, octets, 41, i);
+            return figures::halted(41, i);
         }
         let r = rates::rate_at(s, i, end);
         if r.fault != 0 {
-            return refuse(numbers, octets, r.fault, r.place);
+            return figures::halted(r.fault, r.place);
         }
         let v = r.value;
         rates::keep_rate(numbers, octets, count, v);
         count += 1;
         i = r.next;
     }
-    list_read(4, count as u8, i)
+    figure[42] = 4;
+    figure[47] = count as u8;
+    figures::reached(i)
 }
 
 // The argument of operation 31.
@@ -436,44 +204,272 @@ fn rates_at(
     end: usize,
     numbers: &mut [u32; 32],
     octets: &mut [u8; 192],
-) -> figures::FigureRead
+    figure: &mut [u8; 48],
+) -> coding::Empty
     requires { ⌜ end ≤ length (now s) ⌝ }
-    requires { ⌜ Zero (now numbers) (now octets) ⌝ }
-    ensures { λ r. ⌜ whole r (now (numbers .exit)) (now (octets .exit)) ≡ shown noCharge (rates .read (now (s .entry)) at end) ⌝ }
+    requires { ⌜ Blank (now figure) (now numbers) (now octets) ⌝ }
+    ensures { λ r. ⌜ whole r (now (figure .exit)) (now (numbers .exit)) (now (octets .exit)) ≡ shown noCharge (rates .read (now (s .entry)) at end) ⌝ }
 {
     let e = coding::open_at(s, at, end, 0x30);
     if e.fault != 0 {
-        return refuse(numbers, octets, e.fault, e.place);
+        return figures::halted(e.fault, e.place);
     }
-    let r = rates_in(s, e.value.start, e.value.stop, numbers, octets);
+    let r = rates_in(s, e.value.start, e.value.stop, numbers, octets, figure);
     if r.fault != 0 {
-        return refuse(numbers, octets, r.fault, r.place);
+        return figures::halted(r.fault, r.place);
     }
     if r.next != e.value.stop {
-        return refuse(numbers, octets, 41, r.next);
+        return figures::halted(41, r.next);
     }
-    figure_read(r.value, e.next)
+    figures::reached(e.next)
 }
 
-// The result of operation 30: a special arrangement, or a list of rates.
-fn result_at(
+// ---- figures: operations 33 to 36, by one set of functions
+
+// 33 and 34 hand over subtotals and totals; 35 and 36 finals.
+fn is_subtotal(operation: u8) -> bool
+    ensures { λ r. ⌜ r ≡ isSubtotal operation ⌝ }
+{
+    if operation == 33 {
+        return true;
+    }
+    operation == 34
+}
+
+// 35 and 33 hand over money; 36 and 34 units.
+fn is_money(operation: u8) -> bool
+    ensures { λ r. ⌜ r ≡ isMoney operation ⌝ }
+{
+    if operation == 35 {
+        return true;
+    }
+    operation == 33
+}
+
+// What A1 holds.
+fn price_in(
     s: &[u8],
     at: usize,
     end: usize,
+    operation: u8,
     numbers: &mut [u32; 32],
     octets: &mut [u8; 192],
-) -> figures::FigureRead
+    figure: &mut [u8; 48],
+) -> coding::Empty
     requires { ⌜ end ≤ length (now s) ⌝ }
-    requires { ⌜ Zero (now numbers) (now octets) ⌝ }
-    ensures { λ r. ⌜ whole r (now (numbers .exit)) (now (octets .exit)) ≡ shown noCharge ((sort 0x02 (isKind 5) arrangement rates) .read (now (s .entry)) at end) ⌝ }
+    requires { ⌜ Blank (now figure) (now numbers) (now octets) ⌝ }
+    ensures { λ r. ⌜ whole r (now (figure .exit)) (now (numbers .exit)) (now (octets .exit)) ≡ shown noCharge ((amountBy operation) .read (now (s .entry)) at end) ⌝ }
+    ensures clear { λ _. ⌜ Clear (now (figure .exit)) ⌝ }
 {
-    if coding::is_tag(s, at, end, 0x02) {
-        return figures::arrangement_at(s, at, end);
+    if !is_money(operation) {
+        return units_in(s, at, end, numbers, octets, figure);
     }
-    rates_at(s, at, end, numbers, octets)
+    let m = figures::money_at(s, at, end, figure);
+    if m.fault != 0 {
+        return figures::halted(m.fault, m.place);
+    }
+    figure[42] = 2;
+    figures::reached(m.next)
 }
 
-// The result of operation 30, or the argument of operation 31, 34 or 36, where it is available: the list into the arrays, the rest as the answer.
+// The type of 33 and 34; 35 and 36 have none.
+fn type_at(s: &[u8], at: usize, end: usize, operation: u8) -> coding::NumberRead
+    requires { ⌜ end ≤ length (now s) ⌝ }
+    ensures { λ r. ⌜ (r .fault, r .place, r .value, r .next) ≡ shown 0 (typeBy (isSubtotal operation) (now (s .entry)) at end) ⌝ }
+    ensures bounded { λ r. ⌜ r .value ≤ 1 ⌝ }
+{
+    if is_subtotal(operation) {
+        return coding::natural_at(s, at, end, 0x82, 0, 1);
+    }
+    coding::NumberRead {
+        fault: 0,
+        place: 0,
+        value: 0,
+        next: at,
+    }
+}
+
+// Optional billing: 83 to 2 in 33 and 34, 82 to 7 in 35 and 36.
+fn billing_at(s: &[u8], at: usize, end: usize, operation: u8) -> coding::ChosenRead
+    requires { ⌜ end ≤ length (now s) ⌝ }
+    ensures { λ r. ⌜ (r .fault, r .place, r .value, r .next) ≡ shown (record { given = false; value = 0 }) (billingBy (isSubtotal operation) (now (s .entry)) at end) ⌝ }
+    ensures bounded { λ r. ⌜ r .value .value ≤ 7 ⌝ }
+{
+    if is_subtotal(operation) {
+        return coding::chosen_at(s, at, end, 0x83, 0, 2);
+    }
+    coding::chosen_at(s, at, end, 0x82, 0, 7)
+}
+
+// The 30 that holds A1, the type and the billing.
+fn priced_at(
+    s: &[u8],
+    at: usize,
+    end: usize,
+    operation: u8,
+    numbers: &mut [u32; 32],
+    octets: &mut [u8; 192],
+    figure: &mut [u8; 48],
+) -> coding::Empty
+    requires { ⌜ end ≤ length (now s) ⌝ }
+    requires { ⌜ Blank (now figure) (now numbers) (now octets) ⌝ }
+    ensures { λ r. ⌜ whole r (now (figure .exit)) (now (numbers .exit)) (now (octets .exit)) ≡ shown noCharge ((pricedOf operation) .read (now (s .entry)) at end) ⌝ }
+    ensures clear { λ _. ⌜ Clear (now (figure .exit)) ⌝ }
+{
+    let e = coding::open_at(s, at, end, 0x30);
+    if e.fault != 0 {
+        return figures::halted(e.fault, e.place);
+    }
+    let a = coding::open_at(s, e.value.start, e.value.stop, 0xa1);
+    if a.fault != 0 {
+        return figures::halted(a.fault, a.place);
+    }
+    let p = price_in(
+        s,
+        a.value.start,
+        a.value.stop,
+        operation,
+        numbers,
+        octets,
+        figure,
+    );
+    if p.fault != 0 {
+        return figures::halted(p.fault, p.place);
+    }
+    if p.next != a.value.stop {
+        return figures::halted(41, p.next);
+    }
+    let t = type_at(s, a.next, e.value.stop, operation);
+    if t.fault != 0 {
+        return figures::halted(t.fault, t.place);
+    }
+    let b = billing_at(s, t.next, e.value.stop, operation);
+    if b.fault != 0 {
+        return figures::halted(b.fault, b.place);
+    }
+    if b.next != e.value.stop {
+        return figures::halted(41, b.next);
+    }
+    figure[43] = t.value as u8;
+    figure[44] = figures::flag(b.value.given);
+    figure[45] = b.value.value as u8;
+    figures::reached(e.next)
+}
+
+// 81 00 free, or the 30.
+fn settled_at(
+    s: &[u8],
+    at: usize,
+    end: usize,
+    operation: u8,
+    numbers: &mut [u32; 32],
+    octets: &mut [u8; 192],
+    figure: &mut [u8; 48],
+) -> coding::Empty
+    requires { ⌜ end ≤ length (now s) ⌝ }
+    requires { ⌜ Blank (now figure) (now numbers) (now octets) ⌝ }
+    ensures { λ r. ⌜ whole r (now (figure .exit)) (now (numbers .exit)) (now (octets .exit)) ≡ shown noCharge ((settledOf operation) .read (now (s .entry)) at end) ⌝ }
+    ensures clear { λ _. ⌜ Unassociated (now (figure .exit)) ⌝ }
+{
+    if coding::is_tag(s, at, end, 0x81) {
+        return figures::free_at(s, at, end, figure);
+    }
+    priced_at(s, at, end, operation, numbers, octets, figure)
+}
+
+// 35 and 36 have a 30 around the charge and its association; 33 and 34 have none.
+fn frame_at(s: &[u8], at: usize, end: usize, operation: u8) -> coding::Opened
+    requires { ⌜ end ≤ length (now s) ⌝ }
+    ensures { λ r. ⌜ (r .fault, r .place, r .value, r .next) ≡ shown (record { start = 0; stop = 0 }) (framedBy (isSubtotal operation) (now (s .entry)) at end) ⌝ }
+    ensures inside { λ r. ⌜ r .value .stop ≤ end ⌝ }
+{
+    if !is_subtotal(operation) {
+        return coding::open_at(s, at, end, 0x30);
+    }
+    coding::Opened {
+        fault: 0,
+        place: 0,
+        value: coding::Extent {
+            start: at,
+            stop: end,
+        },
+        next: end,
+    }
+}
+
+// The argument of operations 33 to 36.
+fn figure_at(
+    s: &[u8],
+    at: usize,
+    end: usize,
+    operation: u8,
+    numbers: &mut [u32; 32],
+    octets: &mut [u8; 192],
+    figure: &mut [u8; 48],
+) -> coding::Empty
+    requires { ⌜ end ≤ length (now s) ⌝ }
+    requires { ⌜ Blank (now figure) (now numbers) (now octets) ⌝ }
+    ensures { λ r. ⌜ whole r (now (figure .exit)) (now (numbers .exit)) (now (octets .exit)) ≡ shown noCharge ((figureOf operation) .read (now (s .entry)) at end) ⌝ }
+{
+    let e = frame_at(s, at, end, operation);
+    if e.fault != 0 {
+        return figures::halted(e.fault, e.place);
+    }
+    let u = settled_at(
+        s,
+        e.value.start,
+        e.value.stop,
+        operation,
+        numbers,
+        octets,
+        figure,
+    );
+    if u.fault != 0 {
+        return figures::halted(u.fault, u.place);
+    }
+    if is_subtotal(operation) {
+        return u;
+    }
+    if u.next == e.value.stop {
+        return figures::reached(e.next);
+    }
+    let a = figures::association_at(s, u.next, e.value.stop, figure);
+    if a.fault != 0 {
+        return figures::halted(a.fault, a.place);
+    }
+    if a.next != e.value.stop {
+        return figures::halted(41, a.next);
+    }
+    figures::reached(e.next)
+}
+
+// ---- by the operation
+
+// 30 to 32 hand over no figure.
+fn is_tariff(operation: u8) -> bool
+    ensures { λ r. ⌜ r ≡ isTariff operation ⌝ }
+{
+    if operation < 30 {
+        return false;
+    }
+    operation <= 32
+}
+
+// The argument of operation 32, and the special arrangement among the results of operation 30.
+fn is_arranged(s: &[u8], at: usize, end: usize, operation: u8) -> bool
+    requires { ⌜ end ≤ length (now s) ⌝ }
+    ensures { λ r. ⌜ r ≡ eqb operation 32 || eqb operation 30 && tagged (now (s .entry)) at end 0x02 ⌝ }
+{
+    if operation == 32 {
+        return true;
+    }
+    if operation != 30 {
+        return false;
+    }
+    coding::is_tag(s, at, end, 0x02)
+}
+
+// The charge into the parts that are lent.
 pub fn charge_into(
     s: &[u8],
     at: usize,
@@ -481,20 +477,17 @@ pub fn charge_into(
     operation: u8,
     numbers: &mut [u32; 32],
     octets: &mut [u8; 192],
-) -> figures::FigureRead
+    figure: &mut [u8; 48],
+) -> coding::Empty
     requires { ⌜ end ≤ length (now s) ⌝ }
-    requires { ⌜ (operation ≡ 32 → ⊥) × (operation ≡ 33 → ⊥) × (operation ≡ 35 → ⊥) ⌝ }
-    requires { ⌜ Zero (now numbers) (now octets) ⌝ }
-    ensures { λ r. ⌜ whole r (now (numbers .exit)) (now (octets .exit)) ≡ shown noCharge ((available operation) .read (now (s .entry)) at end) ⌝ }
+    requires { ⌜ Blank (now figure) (now numbers) (now octets) ⌝ }
+    ensures { λ r. ⌜ whole r (now (figure .exit)) (now (numbers .exit)) (now (octets .exit)) ≡ shown noCharge ((available operation) .read (now (s .entry)) at end) ⌝ }
 {
-    if operation == 30 {
-        return result_at(s, at, end, numbers, octets);
+    if !is_tariff(operation) {
+        return figure_at(s, at, end, operation, numbers, octets, figure);
     }
-    if operation == 31 {
-        return rates_at(s, at, end, numbers, octets);
+    if is_arranged(s, at, end, operation) {
+        return figures::arrangement_at(s, at, end, figure);
     }
-    if operation == 34 {
-        return units_subtotals_at(s, at, end, numbers, octets);
-    }
-    units_finals_at(s, at, end, numbers, octets)
+    rates_at(s, at, end, numbers, octets, figure)
 }

@@ -41,9 +41,9 @@ passOf s place =
     (cond (eqb place (length s)) atEnd (amongStarts s place (startsOf (elementOf s))))
     (noComponent 15)
 
--- what is answered by value, and the list in two arrays
-abbrev pub wholeNext : Next → List ℕ → List ℕ → Passed
-wholeNext r numbers rows = record { ended = r .ended; after = r .after; answer = wholeAnswer (r .answer) numbers rows }
+-- what is answered by value, and the record in four parts
+abbrev pub wholeNext : Next → List ℕ → List ℕ → List ℕ → List ℕ → Passed
+wholeNext r front figure numbers rows = record { ended = r .ended; after = r .after; answer = wholeAnswer (r .answer) front figure numbers rows }
 
 -- Going through an element from a place on: the answers of the components in order, then the end.
 pub data Through (s : List ℕ) : ℕ → List Answer → Type 0 where

@@ -1,8 +1,7 @@
 // One pass over a Facility element: the next component's record or refusal with the place after it, or the end.
 ghost use mathlib.Core.Path.{_≡_};
 ghost use Prim.Native.Nat.{_≤_, _<_};
-ghost use lib.ListN.{length, take};
-ghost use Rattle.component.specs.Ways.{plainAnswer};
+ghost use lib.ListN.{length, take, replicate};
 ghost use Rattle.pass.specs.Pass.{passOf, componentUpTo, wholeNext};
 ghost use Rattle.pass.specs.Places.{afterIn, emptyAt};
 
@@ -12,7 +11,7 @@ ghost use Rattle.pass.specs.Places.{afterIn, emptyAt};
 pub struct Next {
     pub after: usize,
     pub ended: usize,
-    pub answer: component::MainAnswer,
+    pub answer: component::Refusal,
 }
 
 fn wide(x: u8) -> usize
@@ -40,27 +39,14 @@ fn after_of(starts: [u8; 127], count: usize, place: usize, end: usize) -> usize
     0
 }
 
-// No component: 15, 16, or the end.
+// No component: 15, 16, or the end. All four parts are zero beside it.
 fn without(ended: usize, number: u32) -> Next
-    ensures { λ r. ⌜ record { ended = r .ended; after = r .after; answer = plainAnswer (r .answer) } ≡ emptyAt ended number ⌝ }
+    ensures { λ r. ⌜ wholeNext r (replicate 8 0) (replicate 48 0) (replicate 32 0) (replicate 192 0) ≡ emptyAt ended number ⌝ }
 {
     Next {
         after: 0,
         ended,
-        answer: component::MainAnswer {
-            number,
-            offset: 0,
-            value: component::Main {
-                frame: 0,
-                unnamed: 0,
-                id: 0,
-                operation: 0,
-                error: 0,
-                problem: 0,
-                detail: 0,
-                figure: figures::NO_FIGURE,
-            },
-        },
+        answer: component::Refusal { number, offset: 0 },
     }
 }
 
@@ -100,18 +86,27 @@ fn find(octets: &[u8], place: usize) -> Found
     }
 }
 
-// What stands at a place of an element: the next component, its list in two arrays that are lent, whatever they hold, with the place after it; or the end.
-pub fn next_into(octets: &[u8], place: usize, numbers: &mut [u32; 32], rows: &mut [u8; 192]) -> Next
-    ensures { λ r. ⌜ wholeNext r (now (numbers .exit)) (now (rows .exit)) ≡ passOf (now (octets .entry)) place ⌝ }
+// What stands at a place of an element: the next component, its record in four parts that are lent, whatever they hold, with the place after it; or the end.
+pub fn next_into(
+    octets: &[u8],
+    place: usize,
+    front: &mut [u8; 8],
+    figure: &mut [u8; 48],
+    numbers: &mut [u32; 32],
+    rows: &mut [u8; 192],
+) -> Next
+    ensures { λ r. ⌜ wholeNext r (now (front .exit)) (now (figure .exit)) (now (numbers .exit)) (now (rows .exit)) ≡ passOf (now (octets .entry)) place ⌝ }
 {
     let f = find(octets, place);
     let after = f.after;
     if after == 0 {
+        *front = [0; 8];
+        *figure = [0; 48];
         *numbers = [0; 32];
         *rows = [0; 192];
         return without(f.ended, f.number);
     }
-    let answer = component::read_into(&octets[place..after], numbers, rows);
+    let answer = component::read_into(&octets[place..after], front, figure, numbers, rows);
     Next {
         after,
         ended: 0,

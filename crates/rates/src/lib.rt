@@ -5,6 +5,7 @@ ghost use lib.ListN.{length, take};
 ghost use lib.Seq.{sets};
 ghost use Rattle.coding.specs.Codec.{pad};
 ghost use Rattle.coding.specs.Shown.{shown, refusal};
+ghost use Rattle.types.specs.Charges.{noMoney, money};
 ghost use Rattle.types.specs.Rates.{noRate, duration, flatRate, volume, coded, plainRate, price, rate, rateNumbers, rateOctets};
 ghost use Rattle.rates.specs.Readers.{accepted, noStep, stepTime, ratedAs};
 
@@ -57,6 +58,37 @@ fn step_at(s: &[u8], at: usize, end: usize) -> StepRead
         place: 0,
         value: NO_STEP,
         next: at,
+    }
+}
+
+struct MoneyRead {
+    pub fault: u8,
+    pub place: usize,
+    pub value: types::Money,
+    pub next: usize,
+}
+
+// 81 currency, A2 amount, as a value of its own.
+fn money_at(s: &[u8], at: usize, end: usize) -> MoneyRead
+    requires { ⌜ end ≤ length (now s) ⌝ }
+    ensures { λ r. ⌜ (r .fault, r .place, r .value, r .next) ≡ shown noMoney (money .read (now (s .entry)) at end) ⌝ }
+{
+    let mut f: [u8; 48] = [0; 48];
+    let m = figures::money_at(s, at, end, &mut f);
+    if m.fault != 0 {
+        return MoneyRead {
+            fault: m.fault,
+            place: m.place,
+            value: types::NO_MONEY,
+            next: 0,
+        };
+    }
+    let value = types::money_of(&f);
+    MoneyRead {
+        fault: 0,
+        place: 0,
+        value,
+        next: m.next,
     }
 }
 
@@ -134,7 +166,7 @@ fn duration_at(s: &[u8], at: usize, end: usize) -> RateRead
     if e.fault != 0 {
         return no_rate(e.fault, e.place);
     }
-    let m = figures::money_at(s, e.value.start, e.value.stop);
+    let m = money_at(s, e.value.start, e.value.stop);
     if m.fault != 0 {
         return no_rate(m.fault, m.place);
     }
@@ -165,14 +197,14 @@ fn flat_at(s: &[u8], at: usize, end: usize) -> RateRead
     if e.fault != 0 {
         return no_rate(e.fault, e.place);
     }
-    let m = figures::money_at(s, e.value.start, e.value.stop);
+    let m = money_at(s, e.value.start, e.value.stop);
     if m.fault != 0 {
         return no_rate(m.fault, m.place);
     }
     if m.next != e.value.stop {
         return no_rate(41, m.next);
     }
-    rate_read(2, m.value, 0, figures::NO_SCALED, NO_STEP, e.next)
+    rate_read(2, m.value, 0, types::NO_SCALED, NO_STEP, e.next)
 }
 
 // A3: currency, amount, 83 unit.
@@ -184,7 +216,7 @@ fn volume_at(s: &[u8], at: usize, end: usize) -> RateRead
     if e.fault != 0 {
         return no_rate(e.fault, e.place);
     }
-    let m = figures::money_at(s, e.value.start, e.value.stop);
+    let m = money_at(s, e.value.start, e.value.stop);
     if m.fault != 0 {
         return no_rate(m.fault, m.place);
     }
@@ -195,14 +227,7 @@ fn volume_at(s: &[u8], at: usize, end: usize) -> RateRead
     if d.next != e.value.stop {
         return no_rate(41, d.next);
     }
-    rate_read(
-        3,
-        m.value,
-        d.value as u8,
-        figures::NO_SCALED,
-        NO_STEP,
-        e.next,
-    )
+    rate_read(3, m.value, d.value as u8, types::NO_SCALED, NO_STEP, e.next)
 }
 
 // 02: a code.
@@ -216,9 +241,9 @@ fn coded_at(s: &[u8], at: usize, end: usize) -> RateRead
     }
     rate_read(
         4,
-        figures::NO_MONEY,
+        types::NO_MONEY,
         n.value as u8,
-        figures::NO_SCALED,
+        types::NO_SCALED,
         NO_STEP,
         n.next,
     )
@@ -233,14 +258,7 @@ fn plain_rate_at(s: &[u8], at: usize, end: usize, tag: u8, kind: u8) -> RateRead
     if z.fault != 0 {
         return no_rate(z.fault, z.place);
     }
-    rate_read(
-        kind,
-        figures::NO_MONEY,
-        0,
-        figures::NO_SCALED,
-        NO_STEP,
-        z.next,
-    )
+    rate_read(kind, types::NO_MONEY, 0, types::NO_SCALED, NO_STEP, z.next)
 }
 
 // What an entry says of its item, by the next tag.

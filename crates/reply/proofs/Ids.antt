@@ -1,31 +1,63 @@
 -- An identifier from how it was read.
 -- Assumes nothing.
-use Prim.Native.Nat.{ℕ}
-use mathlib.Core.Path.{_≡_, refl, ap}
+use Prim.Native.Nat.{ℕ, _+_, _<_}
+use native.Mathlib.Omega.{arith}
+use mathlib.Core.Path.{_≡_, refl, ap, _∙_}
+use mathlib.Core.Bool.{true, false}
 use mathlib.Core.List.{List, [], _∷_}
 use lib.ListN.{length, getD}
-use Rattle.coding.specs.Reader.{Ans, after}
+use Rattle.coding.specs.Reader.{Ans, choice, lengthAt, opened, oneOf}
 use Rattle.coding.specs.Reader.Ans.{got, halt}
+use Rattle.coding.specs.Reader.Fault.{named}
+use Rattle.coding.specs.Codec.{prim}
+use Rattle.coding.specs.Leaves.{identifier}
 use Rattle.coding.specs.Shown.{shown}
-use Rattle.coding.proofs.Reading.{got-of}
-use native.Mathlib.Omega.{arith}
-use Rattle.reply.specs.Reply.{valueOr0}
+use Rattle.coding.specs.declared.Extent.{Extent}
+use Rattle.coding.proofs.Basic.{picked}
+use Rattle.coding.proofs.Header.{tagged-yes}
+use Rattle.coding.proofs.Frames.{any-lacks, any-strange, any-told, any-over, any-enters}
+use Rattle.types.specs.Frames.{outside}
+use Rattle.heads.specs.Heads.{outsideCode}
+use Rattle.heads.proofs.Codes.{outside-code}
+use Rattle.heads.proofs.Entered.{tags}
+use Rattle.reply.specs.Reply.{valueOr0, identifierOf}
 
-pub id-none : {A : Type 0} (x : Ans A) (f : A → ℕ → Ans ℕ) (z : A) {k p n : ℕ} {v : A} → (k, p, v, n) ≡ shown z x → (k ≡ 0 → ⊥) → 0 ≡ valueOr0 (after x f)
-unfolding shown after
-id-none (got v' n') f z e k0 = absurd (k0 (ap (λ q. q .0) e))
-id-none (halt w p') f z e k0 = refl
+pub no-first : (s : List ℕ) → length s ≡ 0 → 0 ≡ getD s 0 0
+no-first [] e = refl
+no-first (x ∷ xs) e = absurd (omega arith)
 
 value-shown : (y : Ans ℕ) {k p n v : ℕ} → (k, p, v, n) ≡ shown 0 y → v ≡ valueOr0 y
 unfolding shown
 value-shown (got i n') e = ap (λ q. q .2) e
 value-shown (halt w p') e = ap (λ q. q .2) e
 
-pub id-some : {A : Type 0} (x : Ans A) (f : A → ℕ → Ans ℕ) (z : A) {k p n : ℕ} {v : A} {j q m i : ℕ} → (k, p, v, n) ≡ shown z x → k ≡ 0 → (j, q, i, m) ≡ shown 0 (f v n)
-    → i ≡ valueOr0 (after x f)
-unfolding after
-id-some x f z e k0 r = rw (got-of x z e k0) (value-shown _ r)
+module _ (s : List ℕ) where
+  abbrev inside : Extent → ℕ → Ans ℕ
+  inside x next = (prim 0x02 identifier) .read s (x .start) (x .stop)
 
-pub no-first : (s : List ℕ) → length s ≡ 0 → 0 ≡ getD s 0 0
-no-first [] e = refl
-no-first (x ∷ xs) e = absurd (omega arith)
+  pub id-empty : length s ≡ 0 → 0 ≡ identifierOf s
+  unfolding identifierOf
+  id-empty e = value-shown _ (any-lacks tags outside (named 5) s 0 (length s) inside 0 (omega arith))
+
+  module _ (some : 0 < length s) where
+    pub id-strange : oneOf tags (getD s 0 0) ≡ false → 0 ≡ identifierOf s
+    unfolding identifierOf
+    id-strange t = value-shown _ (any-strange tags outside (named 5) s 0 (length s) inside 0 some t)
+
+    -- a component that begins with one of the tags is opened as that tag alone would be
+    opens : opened (getD s 0 0) s 0 (length s) ≡ lengthAt 0 s 1 (length s)
+    unfolding opened choice
+    opens = picked _ _ (tagged-yes s 0 (length s) (getD s 0 0) some refl)
+
+    module _ (t : oneOf tags (getD s 0 0) ≡ true) (z : Extent) {k p n : ℕ} {v : Extent} (e : (k, p, v, n) ≡ shown z (opened (getD s 0 0) s 0 (length s))) where
+      pub id-shut : (k ≡ 0 → ⊥) → 0 ≡ identifierOf s
+      unfolding identifierOf
+      id-shut h = value-shown _ (any-told tags outside (named 5) s 0 (length s) inside 0 outsideCode outside-code z some t (e ∙ ap (shown z) opens) h)
+
+      pub id-over : k ≡ 0 → (n ≡ length s → ⊥) → 0 ≡ identifierOf s
+      unfolding identifierOf
+      id-over h o = value-shown _ (any-over tags outside (named 5) s 0 (length s) inside 0 z some t (e ∙ ap (shown z) opens) h o)
+
+      pub id-found : k ≡ 0 → n ≡ length s → {j q i m : ℕ} → (j, q, i, m) ≡ shown 0 ((prim 0x02 identifier) .read s (v .start) (v .stop)) → i ≡ identifierOf s
+      unfolding identifierOf
+      id-found h o r = value-shown _ (any-enters tags outside (named 5) s 0 (length s) inside 0 z some t (e ∙ ap (shown z) opens) h o r)

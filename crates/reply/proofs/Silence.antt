@@ -13,11 +13,7 @@ use Rattle.writer.specs.declared.Written.{Written}
 use Rattle.writer.specs.Outcome.{done, writeOf, leftOf}
 use Rattle.reply.specs.Reply.{firstOf, identifierOf, isSilent, replyBy, replyTo, replyOf, replyLeft}
 
-module _ (s before : List ℕ) where
-  silent-both : isSilent s ≡ true → (done 0 ≡ replyOf s (length before)) × (before ≡ replyLeft s before)
-  unfolding replyOf replyLeft
-  silent-both q = (rw q, rw q)
-
+module _ (s : List ℕ) where
   is-accepted : readOf s .number ≡ 0 → isSilent s ≡ true
   unfolding isSilent
   is-accepted e = simp (eq-eqb _ _ e)
@@ -30,17 +26,22 @@ module _ (s before : List ℕ) where
   unfolding isSilent
   is-reject e = rw (eq-eqb _ _ e) (or-true (eqb (readOf s .number) 0))
 
-  pub silent-accepted : readOf s .number ≡ 0 → (done 0 ≡ replyOf s (length before)) × (before ≡ replyLeft s before)
-  silent-accepted e = silent-both (is-accepted e)
-
-  pub silent-reject : firstOf s ≡ 0xa4 → (done 0 ≡ replyOf s (length before)) × (before ≡ replyLeft s before)
-  silent-reject e = silent-both (is-reject e)
-
   pub spoken : (readOf s .number ≡ 0 → ⊥) → (firstOf s ≡ 0xa4 → ⊥) → isSilent s ≡ false
   unfolding isSilent
   spoken a b = simp (ne-eqb _ _ a, ne-eqb _ _ b)
 
-  pub replied : {w : Written} {after : List ℕ} (r : Record) → isSilent s ≡ false → r ≡ replyBy (readOf s .number) (firstOf s) (identifierOf s)
-      → w ≡ writeOf r (length before) → after ≡ leftOf r before → (w ≡ replyOf s (length before)) × (after ≡ replyLeft s before)
-  unfolding replyOf replyLeft replyTo
-  replied r q e a b = (rw (q, ← e) a, rw (q, ← e) b)
+  module _ (before : List ℕ) where
+    silent-both : isSilent s ≡ true → (done 0 ≡ replyOf s (length before)) × (before ≡ replyLeft s before)
+    unfolding replyOf replyLeft
+    silent-both q = (rw q, rw q)
+
+    pub silent-accepted : readOf s .number ≡ 0 → (done 0 ≡ replyOf s (length before)) × (before ≡ replyLeft s before)
+    silent-accepted e = silent-both (is-accepted e)
+
+    pub silent-reject : firstOf s ≡ 0xa4 → (done 0 ≡ replyOf s (length before)) × (before ≡ replyLeft s before)
+    silent-reject e = silent-both (is-reject e)
+
+    pub replied : {w : Written} {after : List ℕ} (r : Record) → isSilent s ≡ false → r ≡ replyBy (readOf s .number) (firstOf s) (identifierOf s)
+        → w ≡ writeOf r (length before) → after ≡ leftOf r before → (w ≡ replyOf s (length before)) × (after ≡ replyLeft s before)
+    unfolding replyOf replyLeft replyTo
+    replied r q e a b = (rw (q, ← e) a, rw (q, ← e) b)

@@ -15,46 +15,31 @@ fn first_of(octets: &[u8]) -> u8
 }
 
 // The identifier of a component whose contents can be entered; 0 where none can be read.
+// It opens the component by itself: `heads::enter` stays with one caller, and is compiled into it.
 fn identifier_of(octets: &[u8]) -> u16
     ensures { λ r. ⌜ r ≡ identifierOf (now (octets .entry)) ⌝ }
 {
-    let e = heads::enter(octets);
+    let n = octets.len();
+    if n == 0 {
+        return 0;
+    }
+    let tag = octets[0];
+    if tag < 0xa1 {
+        return 0;
+    }
+    if 0xa4 < tag {
+        return 0;
+    }
+    let e = coding::open_at(octets, 0, n, tag);
     if e.fault != 0 {
+        return 0;
+    }
+    if e.next != n {
         return 0;
     }
     let i = coding::identifier_at(octets, e.value.start, e.value.stop, 0x02);
     i.value as u16
 }
-
-const NO_CHARGE: types::Charge = types::Charge {
-    figure: types::Figure {
-        money: types::Money {
-            currency: types::Currency {
-                count: 0,
-                octets: [0; 10],
-            },
-            multiplier: 0,
-            number: 0,
-        },
-        association: types::Association {
-            id: 0,
-            count: 0,
-            kind: 0,
-            plan: 0,
-            digits: [0; 20],
-        },
-        kind: 0,
-        total: 0,
-        billed: 0,
-        billing: 0,
-        arrangement: 0,
-        count: 0,
-    },
-    entries: types::Entries {
-        numbers: [0; 32],
-        octets: [0; 192],
-    },
-};
 
 fn unnamed(problem: u8, detail: u8) -> types::Record
     ensures { λ r. ⌜ r ≡ rejects (inl tt) problem detail ⌝ }
@@ -67,7 +52,7 @@ fn unnamed(problem: u8, detail: u8) -> types::Record
         error: 0,
         problem,
         detail,
-        charge: NO_CHARGE,
+        charge: types::NO_CHARGE,
     }
 }
 
@@ -82,7 +67,7 @@ fn named(id: u16, problem: u8, detail: u8) -> types::Record
         error: 0,
         problem,
         detail,
-        charge: NO_CHARGE,
+        charge: types::NO_CHARGE,
     }
 }
 
@@ -119,9 +104,11 @@ pub fn reply(octets: &[u8], buf: &mut [u8]) -> writer::Written
     ensures { λ r. ⌜ r ≡ replyOf (now (octets .entry)) (length (now (buf .entry))) ⌝ }
     ensures left { λ r. ⌜ now (buf .exit) ≡ replyLeft (now (octets .entry)) (now (buf .entry)) ⌝ }
 {
+    let mut front: [u8; 8] = [0; 8];
+    let mut figure: [u8; 48] = [0; 48];
     let mut numbers: [u32; 32] = [0; 32];
     let mut rows: [u8; 192] = [0; 192];
-    let a = component::read_into(octets, &mut numbers, &mut rows);
+    let a = component::read_into(octets, &mut front, &mut figure, &mut numbers, &mut rows);
     let number = a.number;
     if number == 0 {
         return nothing();

@@ -7,3 +7,4 @@ pub mod Places
 pub mod Faults
 pub mod Theorems
 pub mod Tiles
+pub mod Stored

@@ -4,3 +4,4 @@ pub mod Rates
 pub mod Arguments
 pub mod Frames
 pub mod Cases
+pub mod Stored

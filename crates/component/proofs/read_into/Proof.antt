@@ -1,44 +1,45 @@
 -- `component::read_into` meets its contract: the head, then what is left.
 use borrow.Author.Needs.{needs}
-use mathlib.Core.Path.{_∙_, refl, sym, ap}
-use Rattle.types.specs.Frames.{answered, readOf}
-use Rattle.component.specs.Ways.{held}
-use Rattle.component.proofs.Tails.{held-read}
+use mathlib.Core.Path.{_∙_, refl, sym}
+use Rattle.component.proofs.Tails.{reads, none-stored, rest-refused, rest-whole, rest-request, rest-carried}
 use Rattle.component.proofs.read_into.Statement.{statement}
 use Rattle.component.proofs.read_into.Tie as tie
 
-head-of-requires : tie.Need-head-of-requires
-head-of-requires c κs = search needs
-
-may-list-requires : tie.Need-may-list-requires
-may-list-requires c κs = search needs
-
-listed-requires : tie.Need-listed-requires
-listed-requires c κs =
-    ((c .before .before .before .before .head-of .ensures .1, sym (c .before .before .before .may-list .ensures) ∙ c .before .before .if1 .taken), record { numbers-zero = refl; octets-zero = refl })
-
 returns : tie.Need-returns
-unfolding readOf
 returns c =
-    let head = c .before .before .before .before .before in
-    c .listed .ensures ∙ ap (λ x. held (answered x)) (head .head-of .ensures .0) ∙ held-read _
-
-main-of-requires : tie.Need-main-of-requires
-main-of-requires c κs =
-    (c .before .before .head-of .ensures .1, sym (c .before .may-list .ensures) ∙ c .if1 .left)
+    let bad = c .before in
+    none-stored _ refl ∙ c .refused .ensures ∙ reads _ (rest-refused _ _ (bad .if1 .taken)) (bad .before .before .head-of .ensures .0)
 
 returns-2 : tie.Need-returns-2
-unfolding readOf
 returns-2 c =
-    c .main-of .ensures ∙ ap (λ x. held (answered x)) (c .before .before .before .head-of .ensures .0) ∙ held-read _
+    let alone = c .before .before in
+    let some = alone .before .before in
+    c .keep-head .ensures ∙ reads _ (rest-whole _ _ (some .if1 .left) (alone .if2 .taken)) (some .before .before .head-of .ensures .0)
+
+asked-requires : tie.Need-asked-requires
+asked-requires c κs =
+    let test = c .before .before in
+    let some = test .before .before .before in
+    ((some .before .before .head-of .ensures .1, sym (test .is-request .ensures) ∙ c .before .if3 .taken), refl)
+
+returns-3 : tie.Need-returns-3
+returns-3 c =
+    let asks = c .before .before in
+    let more = asks .before .before in
+    let some = more .before .before in
+    c .asked .ensures
+    ∙ reads _ (rest-request _ _ (some .if1 .left) (more .if2 .left) (sym (asks .before .is-request .ensures) ∙ asks .if3 .taken)) (some .before .before .head-of .ensures .0)
+
+returns-4 : tie.Need-returns-4
+returns-4 c =
+    let lent = c .before .before .before in
+    let carries = lent .before .before in
+    let more = carries .before .before in
+    let some = more .before .before in
+    c .carried .ensures
+    ∙ reads _ (rest-carried _ _ (some .if1 .left) (more .if2 .left) (sym (carries .before .is-request .ensures) ∙ carries .if3 .left)) (some .before .before .head-of .ensures .0)
 
 pub read-into-spec : {M : Type 1} → statement M
 read-into-spec =
     tie.close
-    (tie.spec
-    head-of-requires
-    may-list-requires
-    listed-requires
-    returns
-    main-of-requires
-    returns-2)
+    (tie.spec (search needs) (search needs) returns (λ c κs. search needs) returns-2 (search needs) asked-requires returns-3 (λ c κs. search needs) returns-4)

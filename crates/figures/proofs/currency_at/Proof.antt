@@ -1,31 +1,27 @@
 -- `figures::currency_at` meets its contract: each return by the answers that led to it.
 use borrow.Author.Needs.{needs}
-use mathlib.Core.Path.{_∙_}
 use Rattle.coding.specs.Reader.{primitive}
 use Rattle.coding.specs.Codec.{prim}
-use Rattle.coding.proofs.Reading.{fails, passes, stay, step}
+use Rattle.coding.proofs.Reading.{reading}
 use Rattle.types.specs.Charges.{currency}
+use Rattle.figures.proofs.Answers.{storing}
+use Rattle.figures.proofs.Kept.{blank-currency}
 use Rattle.figures.proofs.currency_at.Statement.{statement}
 use Rattle.figures.proofs.currency_at.Tie as tie
 
 returns : tie.Need-returns
 unfolding currency prim primitive
-returns c =
-    c .no-currency .ensures ∙ stay _ _ _ _ (c .before .before .before .open-at .ensures .0) (c .before .if1 .taken)
+returns c = (search (storing, reading), search blank-currency)
 
 returns-2 : tie.Need-returns-2
 unfolding currency prim primitive
-returns-2 c =
-    c .no-currency2 .ensures ∙ step _ _ _ _ (c .before .before .before .before .before .before .open-at .ensures .0) (c .before .before .before .before .if1 .left)
-    (fails _ _ _ _ (c .before .before .before .currency-in .ensures) (c .before .if2 .taken))
+returns-2 c = (search (storing, reading), search)
 
 returns-3 : tie.Need-returns-3
 unfolding currency prim primitive
-returns-3 c =
-    step _ _ _ _ (c .before .before .before .before .before .before .open-at .ensures .0) (c .before .before .before .before .if1 .left)
-    (passes _ _ _ _ (c .before .before .before .currency-in .ensures) (c .before .if2 .left))
+returns-3 c = (search (storing, reading), search)
 
 pub currency-at-spec : {M : Type 1} → statement M
 currency-at-spec =
     tie.close
-    (tie.spec (search needs) (search needs) returns (search needs) (search needs) returns-2 returns-3)
+    (tie.spec (search needs) (search needs) returns (λ c κs. search needs) (search needs) returns-2 (search needs) returns-3)

@@ -8,15 +8,13 @@ use Rattle.figures.proofs.number_at.Tie as tie
 
 returns : tie.Need-returns
 unfolding sort
-returns c = picks _ _ _ _ _ _ _ (c .before .before .is-tag .ensures) (c .before .if1 .taken) (c .public-at .ensures)
+returns c = (search (picks, skips), search)
 
 returns-2 : tie.Need-returns-2
 unfolding sort
-returns-2 c =
-    skips _ _ _ _ _ _ _ (c .before .before .is-tag .ensures) (c .before .if1 .left)
-    (rw plain-steps (c .digits-at .ensures))
+returns-2 c = (search (picks, skips, plain-steps), search)
 
 pub number-at-spec : {M : Type 1} → statement M
 number-at-spec =
     tie.close
-    (tie.spec (search needs) (search needs) returns (search needs) returns-2)
+    (tie.spec (search needs) (λ c κs. search needs) returns (λ c κs. search needs) returns-2)

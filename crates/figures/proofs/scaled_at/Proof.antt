@@ -4,59 +4,35 @@ use native.Mathlib.Omega.{arith}
 use mathlib.Core.Path.{_∙_}
 use Rattle.coding.specs.Reader.{constructed}
 use Rattle.coding.specs.Codec.{cons, shape, over, pair}
-use Rattle.coding.proofs.Reading.{flat, remains, shut, stay, step}
+use Rattle.coding.proofs.Reading.{flat, reading, remains, shut, step}
 use Rattle.types.specs.Charges.{scaled}
 use Rattle.figures.proofs.scaled_at.Statement.{statement}
 use Rattle.figures.proofs.scaled_at.Tie as tie
 
 returns : tie.Need-returns
 unfolding scaled cons shape over pair constructed
-returns c = (
-  simp flat
-      (c .no-scaled .ensures .0 ∙ stay _ _ _ _ (c .before .before .before .open-at .ensures .0) (c .before .if1 .taken)),
-  omega arith,
-)
+returns c = (simp flat (c .no-scaled .ensures .0 ∙ (search reading depth 8)), omega arith)
 
 returns-2 : tie.Need-returns-2
 unfolding scaled cons shape over pair constructed
-returns-2 c = (
-  simp flat
-      (c .no-scaled2 .ensures .0 ∙ step _ _ _ _ (c .before .before .before .before .before .before .open-at .ensures .0) (c .before .before .before .before .if1 .left)
-      (stay _ _ _ _ (c .before .before .before .natural-at .ensures .0) (c .before .if2 .taken))),
-  omega arith,
-)
+returns-2 c = (simp flat (c .no-scaled2 .ensures .0 ∙ (search reading depth 8)), omega arith)
 
 returns-3 : tie.Need-returns-3
 unfolding scaled cons shape over pair constructed
-returns-3 c = (
-  simp flat
-      (c .no-scaled3 .ensures .0 ∙ step _ _ _ _ (c .before .before .before .before .before .before .before .before .before .open-at .ensures .0) (c .before .before .before .before .before .before .before .if1 .left)
-      (step _ _ _ _ (c .before .before .before .before .before .before .natural-at .ensures .0) (c .before .before .before .before .if2 .left)
-      (stay _ _ _ _ (c .before .before .before .natural-at2 .ensures .0) (c .before .if3 .taken)))),
-  omega arith,
-)
+returns-3 c = (simp flat (c .no-scaled3 .ensures .0 ∙ (search reading depth 8)), omega arith)
 
 returns-4 : tie.Need-returns-4
 unfolding scaled cons shape over pair constructed
-returns-4 c = (
-  simp flat
-      (c .no-scaled4 .ensures .0 ∙ step _ _ _ _ (c .before .before .before .before .before .before .before .before .before .before .before .before .open-at .ensures .0) (c .before .before .before .before .before .before .before .before .before .before .if1 .left)
-      (step _ _ _ _ (c .before .before .before .before .before .before .before .before .before .natural-at .ensures .0) (c .before .before .before .before .before .before .before .if2 .left)
-      (step _ _ _ _ (c .before .before .before .before .before .before .natural-at2 .ensures .0) (c .before .before .before .before .if3 .left)
-      (remains _ _ _ _ _ (c .before .if4 .taken))))),
-  omega arith,
-)
+returns-4 c =
+    let c3 = c .before .before .before in
+    let c6 = c3 .before .before .before in
+    let c9 = c6 .before .before .before in
+    let opened = c9 .before .before .before .open-at .ensures .0 in
+    (simp flat (c .no-scaled4 .ensures .0 ∙ (search (step, remains) depth 8)), omega arith)
 
 returns-5 : tie.Need-returns-5
 unfolding scaled cons shape over pair constructed
-returns-5 c = (
-  simp flat
-      (step _ _ _ _ (c .before .before .before .before .before .before .before .before .before .before .before .before .open-at .ensures .0) (c .before .before .before .before .before .before .before .before .before .before .if1 .left)
-      (step _ _ _ _ (c .before .before .before .before .before .before .before .before .before .natural-at .ensures .0) (c .before .before .before .before .before .before .before .if2 .left)
-      (step _ _ _ _ (c .before .before .before .before .before .before .natural-at2 .ensures .0) (c .before .before .before .before .if3 .left)
-      (shut _ _ _ _ _ (c .before .if4 .left))))),
-  omega arith,
-)
+returns-5 c = (simp flat (search (step, shut) depth 8), omega arith)
 
 pub scaled-at-spec : {M : Type 1} → statement M
 scaled-at-spec =

@@ -8,7 +8,10 @@ use Rattle.pass.proofs.next_into.Statement.{statement}
 use Rattle.pass.proofs.next_into.Tie as tie
 
 returns : tie.Need-returns
-returns c = c .without .ensures ∙ sym (c .before .before .before .before .find .ensures .0 (c .before .before .before .if1 .taken))
+returns c =
+    let zeroed = c .before .before .before in
+    let i = zeroed .before .before in
+    c .without .ensures ∙ sym (i .before .find .ensures .0 (i .if1 .taken))
 
 sub-read-into : tie.Need-sub-read-into
 sub-read-into c = omega (arith, (c .before .find .ensures .1 (c .if1 .left)) .0)
@@ -22,9 +25,10 @@ part-read-into-end c = omega (arith, (c .before .find .ensures .1 (c .if1 .left)
 returns-2 : tie.Need-returns-2
 unfolding part
 returns-2 c =
-    let d = c .before .before .before .before in
-    let f = d .before .find in
-    let there = f .ensures .1 (d .if1 .left) .2 in
+    let lent = c .before .before .before in
+    let i = lent .before .before .before in
+    let f = i .before .find in
+    let there = f .ensures .1 (i .if1 .left) .2 in
     ap (λ (a : Answer). record { ended = 0; after = f .result .after; answer = a }) (c .read-into .ensures) ∙ sym there
 
 pub next-into-spec : {M : Type 1} → statement M

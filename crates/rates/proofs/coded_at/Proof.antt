@@ -2,21 +2,18 @@
 use borrow.Author.Needs.{needs}
 use mathlib.Core.Path.{_∙_}
 use Rattle.coding.specs.Codec.{canonical, over}
-use Rattle.coding.proofs.Reading.{gives, stay, step}
+use Rattle.coding.proofs.Reading.{reading}
 use Rattle.types.specs.Rates.{coded}
 use Rattle.rates.proofs.coded_at.Statement.{statement}
 use Rattle.rates.proofs.coded_at.Tie as tie
 
 returns : tie.Need-returns
 unfolding coded canonical over
-returns c =
-    c .no-rate .ensures ∙ stay _ _ _ _ (c .before .before .before .natural-at .ensures .0) (c .before .if1 .taken)
+returns c = c .no-rate .ensures ∙ (search reading)
 
 returns-2 : tie.Need-returns-2
 unfolding coded canonical over
-returns-2 c =
-    c .rate-read .ensures ∙ step _ _ _ _ (c .before .before .before .before .natural-at .ensures .0) (c .before .before .if1 .left)
-    (gives _ _ _)
+returns-2 c = c .rate-read .ensures ∙ (search reading)
 
 pub coded-at-spec : {M : Type 1} → statement M
 coded-at-spec =

@@ -3,39 +3,26 @@ use borrow.Author.Needs.{needs}
 use mathlib.Core.Path.{_∙_}
 use Rattle.coding.specs.Reader.{constructed}
 use Rattle.coding.specs.Codec.{cons, canonical, over}
-use Rattle.coding.proofs.Reading.{flat, remains, shut, stay, step}
+use Rattle.coding.proofs.Reading.{flat, reading, remains, shut, step}
 use Rattle.types.specs.Rates.{flatRate}
 use Rattle.rates.proofs.flat_at.Statement.{statement}
 use Rattle.rates.proofs.flat_at.Tie as tie
 
 returns : tie.Need-returns
 unfolding flatRate cons canonical over constructed
-returns c =
-    simp flat
-    (c .no-rate .ensures ∙ stay _ _ _ _ (c .before .before .before .open-at .ensures .0) (c .before .if1 .taken))
+returns c = simp flat (c .no-rate .ensures ∙ (search reading))
 
 returns-2 : tie.Need-returns-2
 unfolding flatRate cons canonical over constructed
-returns-2 c =
-    simp flat
-    (c .no-rate2 .ensures ∙ step _ _ _ _ (c .before .before .before .before .before .before .open-at .ensures .0) (c .before .before .before .before .if1 .left)
-    (stay _ _ _ _ (c .before .before .before .money-at .ensures) (c .before .if2 .taken)))
+returns-2 c = simp flat (c .no-rate2 .ensures ∙ (search reading depth 8))
 
 returns-3 : tie.Need-returns-3
 unfolding flatRate cons canonical over constructed
-returns-3 c =
-    simp flat
-    (c .no-rate3 .ensures ∙ step _ _ _ _ (c .before .before .before .before .before .before .before .before .before .open-at .ensures .0) (c .before .before .before .before .before .before .before .if1 .left)
-    (step _ _ _ _ (c .before .before .before .before .before .before .money-at .ensures) (c .before .before .before .before .if2 .left)
-    (remains _ _ _ _ _ (c .before .if3 .taken))))
+returns-3 c = simp flat (c .no-rate3 .ensures ∙ (search (step, remains) depth 8))
 
 returns-4 : tie.Need-returns-4
 unfolding flatRate cons canonical over constructed
-returns-4 c =
-    simp flat
-    (c .rate-read .ensures ∙ step _ _ _ _ (c .before .before .before .before .before .before .before .before .before .open-at .ensures .0) (c .before .before .before .before .before .before .before .if1 .left)
-    (step _ _ _ _ (c .before .before .before .before .before .before .money-at .ensures) (c .before .before .before .before .if2 .left)
-    (shut _ _ _ _ _ (c .before .if3 .left))))
+returns-4 c = simp flat (c .rate-read .ensures ∙ (search (step, shut) depth 8))
 
 pub flat-at-spec : {M : Type 1} → statement M
 flat-at-spec =

@@ -2,21 +2,18 @@
 use borrow.Author.Needs.{needs}
 use mathlib.Core.Path.{_∙_}
 use Rattle.coding.specs.Codec.{canonical, over}
-use Rattle.coding.proofs.Reading.{gives, stay, step}
+use Rattle.coding.proofs.Reading.{reading}
 use Rattle.types.specs.Rates.{plainRate}
 use Rattle.rates.proofs.plain_rate_at.Statement.{statement}
 use Rattle.rates.proofs.plain_rate_at.Tie as tie
 
 returns : tie.Need-returns
 unfolding plainRate canonical over
-returns c =
-    c .no-rate .ensures ∙ stay _ _ _ _ (c .before .before .before .null-at .ensures) (c .before .if1 .taken)
+returns c = c .no-rate .ensures ∙ (search reading)
 
 returns-2 : tie.Need-returns-2
 unfolding plainRate canonical over
-returns-2 c =
-    c .rate-read .ensures ∙ step _ _ _ _ (c .before .before .before .null-at .ensures) (c .before .if1 .left)
-    (gives _ _ _)
+returns-2 c = c .rate-read .ensures ∙ (search reading)
 
 pub plain-rate-at-spec : {M : Type 1} → statement M
 plain-rate-at-spec =

@@ -7,22 +7,15 @@ use Rattle.rates.proofs.step_at.Tie as tie
 
 returns : tie.Need-returns
 unfolding stepTime
-returns c =
-    picks _ _ _ _ _ _ _ (c .before .before .before .before .is-tag .ensures) (c .before .before .before .if1 .taken)
-    (stay _ _ _ _ (c .before .before .scaled-at .ensures .0) (c .if2 .taken))
+returns c = search (picks, stay)
 
 returns-2 : tie.Need-returns-2
 unfolding stepTime
-returns-2 c =
-    picks _ _ _ _ _ _ _ (c .before .before .before .before .before .is-tag .ensures) (c .before .before .before .before .if1 .taken)
-    (step _ _ _ _ (c .before .before .before .scaled-at .ensures .0) (c .before .if2 .left)
-    (gives _ _ _))
+returns-2 c = search (picks, step, gives)
 
 returns-3 : tie.Need-returns-3
 unfolding stepTime
-returns-3 c =
-    skips _ _ _ _ _ _ _ (c .before .is-tag .ensures) (c .if1 .left)
-    (gives _ _ _)
+returns-3 c = search (skips, gives)
 
 pub step-at-spec : {M : Type 1} → statement M
 step-at-spec =

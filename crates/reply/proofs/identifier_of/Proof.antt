@@ -1,35 +1,42 @@
+-- `reply::identifier_of` meets its contract, at each test that stops it and where the identifier is read.
 use borrow.Author.Needs.{needs}
-use Rattle.reply.specs.Reply.{identifierOf}
-use Rattle.reply.proofs.Ids.{id-none, id-some}
+use native.Mathlib.Omega.{arith}
+use Rattle.heads.proofs.Entered.{tag-below, tag-above, tag-among}
+use Rattle.reply.proofs.Ids.{id-empty, id-strange, id-shut, id-over, id-found}
 use Rattle.reply.proofs.identifier_of.Statement.{statement}
 use Rattle.reply.proofs.identifier_of.Tie as tie
 
-enter-requires : tie.Need-enter-requires
-enter-requires c κs = search needs
-
 returns : tie.Need-returns
-unfolding identifierOf
-returns c =
-    id-none _ _ _ (c .before .before .enter .ensures .0) (c .if1 .taken)
-
-identifier-at-requires : tie.Need-identifier-at-requires
-identifier-at-requires c κs =
-    c .before .before .enter .ensures .1 .1
-
-cast-result : tie.Need-cast-result
-cast-result c = search needs
+returns c = id-empty _ (c .if1 .taken)
 
 returns-2 : tie.Need-returns-2
-unfolding identifierOf
-returns-2 c =
-    id-some _ _ _ (c .before .before .before .before .enter .ensures .0) (c .before .before .if1 .left) (c .before .identifier-at .ensures .0)
+returns-2 c = id-strange _ (omega arith) (tag-below _ (c .if2 .taken))
+
+returns-3 : tie.Need-returns-3
+returns-3 c = id-strange _ (omega arith) (tag-above _ (c .if3 .taken))
+
+returns-4 : tie.Need-returns-4
+returns-4 c =
+    let o = c .before .before in
+    let t = o .before in
+    id-shut _ (omega arith) (tag-among _ (t .before .if2 .left) (t .if3 .left)) _ (o .open-at .ensures .0) (c .if4 .taken)
+
+returns-5 : tie.Need-returns-5
+returns-5 c =
+    let f = c .before .before in
+    let o = f .before .before in
+    let t = o .before in
+    id-over _ (omega arith) (tag-among _ (t .before .if2 .left) (t .if3 .left)) _ (o .open-at .ensures .0) (f .if4 .left) (c .if5 .taken)
+
+returns-6 : tie.Need-returns-6
+returns-6 c =
+    let n = c .before .before in
+    let f = n .before .before in
+    let o = f .before .before in
+    let t = o .before in
+    id-found _ (omega arith) (tag-among _ (t .before .if2 .left) (t .if3 .left)) _ (o .open-at .ensures .0) (f .if4 .left) (n .if5 .left) (c .before .identifier-at .ensures .0)
 
 pub identifier-of-spec : {M : Type 1} → statement M
 identifier-of-spec =
     tie.close
-    (tie.spec
-    enter-requires
-    returns
-    identifier-at-requires
-    cast-result
-    returns-2)
+    (tie.spec returns (search needs) returns-2 returns-3 (search needs) returns-4 returns-5 (search needs) (search needs) returns-6)

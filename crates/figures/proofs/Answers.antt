@@ -1,0 +1,47 @@
+-- What the returns of a reader cite that stores what it reads and answers where it ended.
+-- Assumes nothing.
+use Prim.Native.Nat.{ℕ}
+use mathlib.Core.Path.{_≡_, ap, sym, _∙_}
+use mathlib.Core.Bool.{false}
+use lib.Dec.{eqb}
+use borrow.Author.Tests.{eq-eqb, ne-eqb}
+use Rattle.coding.specs.declared.Empty.{Empty}
+use Rattle.coding.specs.Reader.{Ans, Ruling, after, ruled}
+use Rattle.coding.specs.Shown.{shown, verdict}
+use Rattle.coding.proofs.Reading.{step, passes}
+use Rattle.types.specs.Stored.{stored}
+
+module _ {A : Type 0} (z w : A) where
+  pub is-stored : {k : ℕ} → k ≡ 0 → stored z k w ≡ w
+  unfolding stored
+  is-stored h = rw (eq-eqb _ _ h)
+
+  not-stored : {k : ℕ} → (k ≡ 0 → ⊥) → stored z k w ≡ z
+  unfolding stored
+  not-stored h = rw (ne-eqb _ _ h)
+
+  module _ {r : Empty} {t : ℕ × ℕ × A × ℕ} where
+    -- a fault, whatever is stored
+    pub refused : {k p : ℕ} → r ≡ record { fault = k; place = p; next = 0 } → (k ≡ 0 → ⊥) → (k, p, z, 0) ≡ t → (r .fault, r .place, stored z (r .fault) w, r .next) ≡ t
+    refused e k0 h = rw (e, not-stored k0) h
+
+    -- a fault that is named by its number
+    pub surplus : {k p : ℕ} → r ≡ record { fault = k; place = p; next = 0 } → eqb k 0 ≡ false → (k, p, z, 0) ≡ t → (r .fault, r .place, stored z (r .fault) w, r .next) ≡ t
+    unfolding stored
+    surplus e k0 h = rw (e, k0) h
+
+    -- what is stored
+    pub arrived : {n : ℕ} → r ≡ record { fault = 0; place = 0; next = n } → (0, 0, w, n) ≡ t → (r .fault, r .place, stored z (r .fault) w, r .next) ≡ t
+    unfolding stored
+    arrived e h = rw e h
+
+-- a good answer goes on with what it stored
+pub goes : {A B : Type 0} (x : Ans A) (f : A → ℕ → Ans B) (z w : A) (y : B) {k p n : ℕ} {t : ℕ × ℕ × B × ℕ} →
+    (k, p, stored z k w, n) ≡ shown z x → k ≡ 0 → t ≡ shown y (f w n) → t ≡ shown y (after x f)
+goes x f z w y {n = n} e k0 h = step x f z y e k0 (h ∙ ap (λ v. shown y (f v n)) (sym (is-stored z w k0)))
+
+-- good contents are what they stored
+pub keeps : {A : Type 0} (z w : A) (j : Ruling A) (at next : ℕ) {k : ℕ} → (k, stored z k w) ≡ verdict z j → k ≡ 0 → (0, 0, w, next) ≡ shown z (ruled j at next)
+keeps z w j at next e k0 = rw (is-stored z w k0) at (passes z j at next e k0)
+
+pub ruleset storing = (refused, surplus, arrived, goes, keeps)

@@ -1,0 +1,43 @@
+-- `types::association_of` meets its contract. The loop's invariant: the octets passed are copied.
+-- Assumes nothing.
+use Prim.Native.Nat.{_≤_, _-_}
+use mathlib.Core.Path.{_≡_, refl, _∙_}
+use native.Mathlib.Omega.{arith}
+use borrow.Author.Needs.{needs}
+use lib.ListN.{take, drop}
+use Rattle.coding.specs.Codec.{pad}
+use Rattle.coding.specs.Reader.{part}
+use Rattle.types.proofs.Stored.{copy-more, copy-done}
+use Rattle.types.proofs.association_of.Statement.{statement}
+use Rattle.types.proofs.association_of.Tie as tie
+
+abbrev Inv-loop : tie.InvT-loop
+Inv-loop f digits₀ i₀ digits i = (i ≤ 20) × (digits ≡ pad 20 0 (take i (drop 22 f)))
+
+abbrev μ-loop : tie.MeasureT-loop
+μ-loop f digits₀ i₀ digits i = 20 - i
+
+loop-holds : tie.Need-loop-holds Inv-loop μ-loop
+unfolding pad
+loop-holds c = (omega arith, refl)
+
+loop-again : tie.Need-loop-again Inv-loop μ-loop
+loop-again c =
+    let c2 = c .before .before in
+    let l = c2 .loop in
+    (omega arith, rw (l .inv .1) (copy-more 20 (c2 .before .before .args .f .now) 22 (omega arith) (l .i) (omega arith)))
+
+returns : tie.Need-returns Inv-loop μ-loop
+unfolding part
+returns c =
+    let c3 = c .before .before .before in
+    let c6 = c3 .before .before .before in
+    let c9 = c6 .before .before .before in
+    let l = c9 .loop in
+    simp (c .before .before .number162 .ensures, c3 .before .before .number16 .ensures, l .inv .1 ∙ copy-done 20 (c9 .before .before .args .f .now) 22 (omega arith) (l .i) (omega arith))
+
+pub association-of-spec : {M : Type 1} → statement M
+association-of-spec =
+    tie.close
+    (tie.spec Inv-loop μ-loop loop-holds (search needs) (search needs) (search needs) (search needs) (search needs) loop-again
+    (search needs) (search needs) (λ c κs. search needs) (search needs) (search needs) (λ c κs. search needs) (search needs) (search needs) returns)
