@@ -18,6 +18,13 @@ use Rattle.writer.specs.Outcome.{writeOf, leftOf, done}
 use Rattle.lines.specs.Text.{hexText, refusedText}
 use Rattle.lines.specs.Lines.{textFor}
 
+-- the writer has put the shortest form of what was read
+pub record Formed (s : List ℕ) (w : Written) (q : List ℕ) : Type 0 where
+  pub accepted : w .number ≡ 0
+  pub inside : w .count ≤ length q
+  pub few : w .count ≤ 254
+  pub text : hexText (take (w .count) q) ≡ textFor s
+
 module _ (s : List ℕ) (a : Answer) (e : a ≡ readOf s) where
   -- a refusal's number has two digits at most
   pub number-below : a .number < 100
@@ -61,20 +68,12 @@ module _ (s : List ℕ) (a : Answer) (e : a ≡ readOf s) where
         let l : length (component .write (a .value)) ≤ length p = omega (arith, form-fits .1) in
         g ∙ rw (form-fits .0, le-leb _ 254 (form-fits .1), le-leb _ (length p) l)
 
-    pub form-number : w .number ≡ 0
-    form-number = ap (λ (z : Written). z .number) form-written
-
     form-count : w .count ≡ length (component .write (a .value))
     form-count = ap (λ (z : Written). z .count) form-written
 
-    pub form-room : (w .count ≤ length q) × (w .count ≤ 254)
-    form-room =
+    pub formed : Formed s w q
+    formed =
         let x = component .write (a .value) in
         let l : length q ≡ length x + length (drop (length x) p) = ap length form-left ∙ length-append x (drop (length x) p) in
-        (omega (arith, form-count), omega (arith, form-count, form-fits .1))
-
-    pub form-text : hexText (take (w .count) q) ≡ textFor s
-    form-text =
-        let x = component .write (a .value) in
-        let l : take (w .count) q ≡ x = rw (form-count, form-left) (take-append-seam x (drop (length x) p)) in
-        ap hexText l ∙ reply-accepted h
+        let t : take (w .count) q ≡ x = rw (form-count, form-left) (take-append-seam x (drop (length x) p)) in
+        record { accepted = ap (λ (z : Written). z .number) form-written; inside = omega (arith, form-count); few = omega (arith, form-count, form-fits .1); text = ap hexText t ∙ reply-accepted h }

@@ -179,12 +179,20 @@ pub turns-all : (s : List ℕ) (at : ℕ) (q : State) {p : State} → length s �
 unfolding part
 turns-all s at q h e = ap (turns q) (sym (rw sub-zero (take-all at s h))) ∙ e
 
--- characters heard after those of a line that was left open
+-- characters heard of a line that was left open, or that ended
+pub heard-open : (s : List ℕ) (from : ℕ) (l : Line) (o : List ℕ) (w : Went) (p : List ℕ) → Heard s from l o w p → w .ended ≡ false
+    → (t : List ℕ) → turns (state l o t) (part s from (w .at)) ≡ state (w .line) p t
+heard-open s from l o w p h e t = h .heard t ∙ rw e
+
+pub heard-ended : (s : List ℕ) (from : ℕ) (l : Line) (o : List ℕ) (w : Went) (p : List ℕ) → Heard s from l o w p → w .ended ≡ true
+    → (t : List ℕ) → turns (state l o t) (part s from (w .at)) ≡ state newLine p (t ++ answerText (w .line) p)
+heard-ended s from l o w p h e t = h .heard t ∙ rw e
+
+-- and characters after those
 pub heard-on : (s : List ℕ) (from : ℕ) (l : Line) (o : List ℕ) (w : Went) (p : List ℕ) → Heard s from l o w p → w .ended ≡ false
     → (at : ℕ) (m : Line) (q : List ℕ) → w .at ≤ at → ((t : List ℕ) → turns (state (w .line) p t) (part s (w .at) at) ≡ state m q t)
     → (t : List ℕ) → turns (state l o t) (part s from at) ≡ state m q t
-heard-on s from l o w p h e at m q i f t =
-    turns-both s from (w .at) at (state l o t) (h .onward) i (h .heard t ∙ rw e) (f t)
+heard-on s from l o w p h e at m q i f t = turns-both s from (w .at) at (state l o t) (h .onward) i (heard-open s from l o w p h e t) (f t)
 
 -- three
 turns-three : (s : List ℕ) (at : ℕ) (q : State) → at + 3 ≤ length s → turns q (part s at (at + 3)) ≡ turn (turn (turn q (getD s at 0)) (getD s (at + 1) 0)) (getD s (at + 2) 0)
@@ -223,33 +231,38 @@ spaced-count l k = go (eqb k 0) refl
 pub taken-none : (s : List ℕ) (from : ℕ) (l : Line) (o : List ℕ) → Taken s from from 0 l o o
 taken-none s from l o t = turns-none s from (state l o t)
 
-module _ (s : List ℕ) (from at k : ℕ) (l : Line) (o p : List ℕ) (h : l .phase ≤ 1) (n : l .count + k < 254) (i : from ≤ at) (j : at + 3 ≤ length s)
-    (a : digitOf (getD s at 0) < 16) (b : digitOf (getD s (at + 1) 0) < 16) (e : Taken s from at k l o p) where
-  -- the two digits at a place, and the character after them
-  taken-octet : (t : List ℕ) → turns (state l o t) (part s from (at + 3))
-      ≡ turn (state (madeLine (l .count + k + 1) 3 0) (set p (l .count + k) (octetOf (digitOf (getD s at 0)) (digitOf (getD s (at + 1) 0)))) t) (getD s (at + 2) 0)
+-- two digits at a place, after those that are taken, and their values
+pub record Next (s : List ℕ) (from at k : ℕ) (l : Line) (o p : List ℕ) (x y : ℕ) : Type 0 where
+  pub ready : l .phase ≤ 1
+  pub few : l .count + k < 254
+  pub onward : from ≤ at
+  pub inside : at + 3 ≤ length s
+  pub high : (x ≡ digitOf (getD s at 0)) × (x < 16)
+  pub low : (y ≡ digitOf (getD s (at + 1) 0)) × (y < 16)
+  pub taken : Taken s from at k l o p
+
+module _ {s : List ℕ} {from at k : ℕ} {l : Line} {o p : List ℕ} {x y : ℕ} (n : Next s from at k l o p x y) {z : ℕ} (e : z ≡ octetOf x y) where
+  -- the octet, and the character after it
+  taken-octet : (t : List ℕ) → turns (state l o t) (part s from (at + 3)) ≡ turn (state (madeLine (l .count + k + 1) 3 0) (set p (l .count + k) z) t) (getD s (at + 2) 0)
   taken-octet t =
       let q = spacedLine l k in
       let c : q .count ≡ l .count + k = spaced-count l k in
-      let m : at ≤ at + 3 = omega arith in
-      turns-both s from at (at + 3) (state l o t) i m (e t)
-      (turns-three s at (state q p t) j
-      ∙ ap (λ x. turn x (getD s (at + 2) 0))
-      (turns-octet q p t (getD s at 0) (getD s (at + 1) 0) (spaced-phase l k h) (omega arith) a b ∙ rw c))
+      turns-both s from at (at + 3) (state l o t) (n .onward) (omega arith) (n .taken t)
+      (turns-three s at (state q p t) (n .inside)
+      ∙ ap (λ r. turn r (getD s (at + 2) 0))
+      (turns-octet q p t (getD s at 0) (getD s (at + 1) 0) (spaced-phase l k (n .ready)) (omega arith) (omega (arith, n .high)) (omega (arith, n .low))
+      ∙ rw (c, e, n .high .0, n .low .0)))
 
   -- with a space
-  pub taken-more : getD s (at + 2) 0 ≡ 32
-      → Taken s from (at + 3) (k + 1) l o (set p (l .count + k) (octetOf (digitOf (getD s at 0)) (digitOf (getD s (at + 1) 0))))
+  pub taken-more : getD s (at + 2) 0 ≡ 32 → Taken s from (at + 3) (k + 1) l o (set p (l .count + k) z)
   unfolding turn stepLine stepOctets
   taken-more c t =
-      let z : k + 1 ≡ 0 → ⊥ = λ f. omega arith in
+      let f : k + 1 ≡ 0 → ⊥ = λ f. omega arith in
       let m : l .count + k + 1 ≡ l .count + (k + 1) = omega arith in
-      taken-octet t ∙ rw (c, m, ne-eqb (k + 1) 0 z)
+      taken-octet t ∙ rw (c, m, ne-eqb (k + 1) 0 f)
 
   -- with the line's end
   pub taken-last : getD s (at + 2) 0 ≡ 10 → (t : List ℕ)
-      → turns (state l o t) (part s from (at + 3))
-      ≡ state newLine (set p (l .count + k) (octetOf (digitOf (getD s at 0)) (digitOf (getD s (at + 1) 0))))
-      (t ++ answerText (madeLine (l .count + k + 1) 3 0) (set p (l .count + k) (octetOf (digitOf (getD s at 0)) (digitOf (getD s (at + 1) 0)))))
+      → turns (state l o t) (part s from (at + 3)) ≡ state newLine (set p (l .count + k) z) (t ++ answerText (madeLine (l .count + k + 1) 3 0) (set p (l .count + k) z))
   unfolding turn
   taken-last c t = taken-octet t ∙ rw c

@@ -10,41 +10,8 @@ Inv-loop octets₀ buf₀ out₀ line₀ turns₀ octets buf out line turns = Un
 abbrev μ-loop : tie.MeasureT-loop
 μ-loop octets₀ buf₀ out₀ line₀ turns₀ octets buf out line turns = turns
 
-new-line-requires : tie.Need-new-line-requires Inv-loop μ-loop
-new-line-requires c κs = search needs
-
-loop-holds : tie.Need-loop-holds Inv-loop μ-loop
-loop-holds c = search needs
-
-once-requires : tie.Need-once-requires Inv-loop μ-loop
-once-requires c κs = search needs
-
-sub-turns : tie.Need-sub-turns Inv-loop μ-loop
-sub-turns c = search needs
-
-loop-less : tie.Need-loop-less Inv-loop μ-loop
-loop-less c = search needs
-
-loop-again : tie.Need-loop-again Inv-loop μ-loop
-loop-again c = search needs
-
-returns : tie.Need-returns Inv-loop μ-loop
-returns c = search needs
-
-returns-2 : tie.Need-returns-2 Inv-loop μ-loop
-returns-2 c = search needs
-
 pub all-spec : {M : Type 1} → statement M
 all-spec =
     tie.close
-    (tie.spec
-    Inv-loop
-    μ-loop
-    new-line-requires
-    loop-holds
-    once-requires
-    sub-turns
-    loop-less
-    loop-again
-    returns
-    returns-2)
+    (tie.spec Inv-loop μ-loop (λ c κs. search needs) (λ c. search needs) (λ c κs. search needs) (λ c. search needs) (λ c. search needs) (λ c. search needs)
+    (λ c. search needs) (λ c. search needs))

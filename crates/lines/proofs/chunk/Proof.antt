@@ -23,24 +23,15 @@ abbrev μ-loop : tie.MeasureT-loop
 loop-holds : tie.Need-loop-holds Inv-loop μ-loop
 loop-holds c = (omega arith, [], turns-none _ _ _)
 
-run-requires : tie.Need-run-requires Inv-loop μ-loop
-run-requires c κs = search needs
-
-put-requires : tie.Need-put-requires Inv-loop μ-loop
-put-requires c κs = search needs
-
 returns : tie.Need-returns Inv-loop μ-loop
 returns c = λ e. absurd (true≢false (sym e))
 
-loop-less : tie.Need-loop-less Inv-loop μ-loop
-loop-less c = search needs
-
 loop-again : tie.Need-loop-again Inv-loop μ-loop
-loop-again c = (
-  c .before .before .before .before .before .run .ensures .inside,
-  _,
-  turns-both _ _ _ _ _ (omega arith) (omega (arith, c .before .before .before .before .before .run .ensures .onward)) (c .before .before .before .before .before .before .before .before .before .loop .inv .2) (c .before .before .before .before .before .run .ensures .ran _),
-)
+loop-again c =
+    let p = c .before .before .before in
+    let r = p .before .before in
+    let t = r .before .before .before in
+    (r .run .ensures .inside, _, turns-both _ _ _ _ _ (omega arith) (omega (arith, r .run .ensures .onward)) (t .before .loop .inv .2) (r .run .ensures .ran _))
 
 returns-2 : tie.Need-returns-2 Inv-loop μ-loop
 returns-2 c = λ e. (_, turns-all _ _ _ (omega arith) (c .before .loop .inv .2))
@@ -48,13 +39,4 @@ returns-2 c = λ e. (_, turns-all _ _ _ (omega arith) (c .before .loop .inv .2))
 pub chunk-spec : {M : Type 1} → statement M
 chunk-spec =
     tie.close
-    (tie.spec
-    Inv-loop
-    μ-loop
-    loop-holds
-    run-requires
-    put-requires
-    returns
-    loop-less
-    loop-again
-    returns-2)
+    (tie.spec Inv-loop μ-loop loop-holds (λ c κs. search needs) (λ c κs. search needs) returns (λ c. search needs) loop-again returns-2)

@@ -12,7 +12,7 @@ use Rattle.coding.specs.Reader.{part}
 use Rattle.coding.specs.Written.{Wrote}
 use Rattle.coding.proofs.Writing.{wrote-none, wrote-both}
 use Rattle.lines.specs.Machine.{state, turns}
-use Rattle.lines.proofs.Steps.{turns-none, turns-both}
+use Rattle.lines.proofs.Steps.{turns-none, turns-both, heard-open, heard-ended}
 use Rattle.lines.proofs.run.Statement.{statement}
 use Rattle.lines.proofs.run.Tie as tie
 
@@ -28,64 +28,51 @@ abbrev μ-loop : tie.MeasureT-loop
 loop-holds : tie.Need-loop-holds Inv-loop μ-loop
 loop-holds c = (omega arith, omega arith, omega arith, omega arith, [], wrote-none _ _, λ t. turns-none _ _ _ ∙ rw append-nil)
 
-take-line-requires : tie.Need-take-line-requires Inv-loop μ-loop
-take-line-requires c κs = search needs
-
-answer-requires : tie.Need-answer-requires Inv-loop μ-loop
-answer-requires c κs = search needs
-
-new-line-requires : tie.Need-new-line-requires Inv-loop μ-loop
-new-line-requires c κs = search needs
-
-loop-less : tie.Need-loop-less Inv-loop μ-loop
-loop-less c = search needs
+-- the line that was taken, and the turn that it is taken in
+abbrev turn-of : tie.After-take-line Inv-loop μ-loop → tie.At-loop Inv-loop μ-loop
+turn-of c = let t = c .before .before in t .before .before
 
 loop-again : tie.Need-loop-again Inv-loop μ-loop
-loop-again c = (
-  c .before .before .before .before .before .before .before .take-line .ensures .0 .inside,
-  omega (arith, c .before .before .before .before .before .before .before .take-line .ensures .1),
-  omega (arith, leb-true, c .before .answer .ensures .1),
-  omega (arith, leb-true, c .before .answer .ensures .1, c .before .before .before .before .before .before .before .take-line .ensures .1),
-  _,
-  wrote-both (c .before .before .before .before .before .before .before .before .before .before .before .loop .inv .5) (c .before .answer .ensures .0),
-  λ t. turns-both _ _ _ _ _ (c .before .before .before .before .before .before .before .before .before .before .before .loop .inv .1) (c .before .before .before .before .before .before .before .take-line .ensures .0 .onward) (c .before .before .before .before .before .before .before .before .before .before .before .loop .inv .6 t)
-      (c .before .before .before .before .before .before .before .take-line .ensures .0 .heard _ ∙ rw (c .before .before .before .before .before .if2 .taken, c .new-line .ensures, append-assoc)),
-)
-
-loop-less-2 : tie.Need-loop-less-2 Inv-loop μ-loop
-loop-less-2 c = search needs
+loop-again c =
+    let q = c .before .before .before in
+    let e = q .before .before in
+    let w = e .before .before in
+    let v = turn-of w .loop in (
+      w .take-line .ensures .0 .inside,
+      omega (arith, w .take-line .ensures .1),
+      omega (arith, leb-true, c .before .answer .ensures .1),
+      omega (arith, leb-true, c .before .answer .ensures .1, w .take-line .ensures .1),
+      _,
+      wrote-both (v .inv .5) (c .before .answer .ensures .0),
+      λ t. turns-both _ _ _ _ _ (v .inv .1) (w .take-line .ensures .0 .onward) (v .inv .6 t)
+          (heard-ended _ _ _ _ _ _ (w .take-line .ensures .0) (e .if2 .taken) _ ∙ rw (c .new-line .ensures, append-assoc)),
+    )
 
 loop-again-2 : tie.Need-loop-again-2 Inv-loop μ-loop
-loop-again-2 c = (
-  c .before .before .take-line .ensures .0 .inside,
-  omega (arith, c .before .before .take-line .ensures .1),
-  omega arith,
-  omega (arith, c .before .before .take-line .ensures .1),
-  _,
-  c .before .before .before .before .before .before .loop .inv .5,
-  λ t. turns-both _ _ _ _ _ (c .before .before .before .before .before .before .loop .inv .1) (c .before .before .take-line .ensures .0 .onward) (c .before .before .before .before .before .before .loop .inv .6 t)
-      (c .before .before .take-line .ensures .0 .heard _ ∙ rw (c .if2 .left)),
-)
+loop-again-2 c =
+    let w = c .before .before in
+    let v = turn-of w .loop in (
+      w .take-line .ensures .0 .inside,
+      omega (arith, w .take-line .ensures .1),
+      omega arith,
+      omega (arith, w .take-line .ensures .1),
+      _,
+      v .inv .5,
+      λ t. turns-both _ _ _ _ _ (v .inv .1) (w .take-line .ensures .0 .onward) (v .inv .6 t) (heard-open _ _ _ _ _ _ (w .take-line .ensures .0) (c .if2 .left) _),
+    )
 
 returns : tie.Need-returns Inv-loop μ-loop
-returns c = record { onward = omega (arith, leb-false); inside = omega arith; room = omega arith; text = _; put = c .before .before .loop .inv .5; ran = c .before .before .loop .inv .6 }
+returns c =
+    let i = c .before .before .loop .inv in
+    record { onward = omega (arith, leb-false); inside = omega arith; room = omega arith; text = _; put = i .5; ran = i .6 }
 
 returns-2 : tie.Need-returns-2 Inv-loop μ-loop
-returns-2 c = record { onward = omega arith; inside = omega arith; room = omega arith; text = _; put = c .before .loop .inv .5; ran = c .before .loop .inv .6 }
+returns-2 c =
+    let i = c .before .loop .inv in
+    record { onward = omega arith; inside = omega arith; room = omega arith; text = _; put = i .5; ran = i .6 }
 
 pub run-spec : {M : Type 1} → statement M
 run-spec =
     tie.close
-    (tie.spec
-    Inv-loop
-    μ-loop
-    loop-holds
-    take-line-requires
-    answer-requires
-    new-line-requires
-    loop-less
-    loop-again
-    loop-less-2
-    loop-again-2
-    returns
-    returns-2)
+    (tie.spec Inv-loop μ-loop loop-holds (λ c κs. search needs) (λ c κs. search needs) (λ c κs. search needs) (λ c. search needs) loop-again (λ c. search needs)
+    loop-again-2 returns returns-2)

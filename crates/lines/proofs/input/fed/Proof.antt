@@ -15,68 +15,44 @@ returns c = (sym (step-bad _ _ (c .if1 .taken)), sym (held-other _ _ _ (λ e. om
 returns-2 : tie.Need-returns-2
 returns-2 c = (sym (step-space _ _ (c .before .if2 .taken) (c .if3 .taken)), sym (held-other _ _ _ (λ e. omega (arith, c .before .if2 .taken))))
 
-bad-line-requires : tie.Need-bad-line-requires
-bad-line-requires c κs = search needs
-
 returns-3 : tie.Need-returns-3
 returns-3 c = (
   c .bad-line .ensures ∙ sym (step-gap _ _ (c .before .before .if2 .taken) (c .before .if3 .left)),
   sym (held-other _ _ _ (λ e. omega (arith, c .before .before .if2 .taken))),
 )
 
-digit-requires : tie.Need-digit-requires
-digit-requires c κs = search needs
-
-bad-line-requires-2 : tie.Need-bad-line-requires-2
-bad-line-requires-2 c κs = search needs
-
 returns-4 : tie.Need-returns-4
 returns-4 c =
-    let d : 16 ≤ digitOf (c .before .before .before .before .before .args .b) = omega (arith, c .before .before .digit .ensures, c .before .if4 .taken) in
-    (c .bad-line2 .ensures ∙ sym (step-none _ _ (c .before .before .before .before .if1 .left) (c .before .before .before .if2 .left) d), sym (held-none _ _ _ d))
+    let g = c .before .before in
+    let d : 16 ≤ digitOf (g .before .before .before .args .b) = omega (arith, g .digit .ensures, c .before .if4 .taken) in
+    (c .bad-line2 .ensures ∙ sym (step-none _ _ (g .before .before .if1 .left) (g .before .if2 .left) d), sym (held-none _ _ _ d))
 
-octet-requires : tie.Need-octet-requires
-octet-requires c κs = search needs
-
-element-write-octets : tie.Need-element-write-octets
-element-write-octets c = search needs
-
-add-t13 : tie.Need-add-t13
-add-t13 c = search needs
+a-digit : (c : tie.Else4) → let e = c .before .before .before in digitOf (e .before .args .b) < 16
+a-digit c = omega (arith, c .before .digit .ensures, c .if4 .left)
 
 returns-5 : tie.Need-returns-5
 returns-5 c =
-    let d : digitOf (c .before .before .before .before .before .before .before .args .b) < 16 = omega (arith, c .before .before .before .before .digit .ensures, c .before .before .before .if4 .left) in (
-      sym (step-second _ _ (c .before .before .if5 .taken) (c .before .if6 .taken) d),
-      rw (c .octet .ensures, c .before .before .before .before .digit .ensures) (sym (held-second _ _ _ (c .before .before .if5 .taken) (c .before .if6 .taken) d)),
+    let s = c .before .before in
+    let d = a-digit (s .before) in (
+      sym (step-second _ _ (s .if5 .taken) (c .before .if6 .taken) d),
+      rw (c .octet .ensures, s .before .before .digit .ensures) (sym (held-second _ _ _ (s .if5 .taken) (c .before .if6 .taken) d)),
     )
 
 returns-6 : tie.Need-returns-6
 returns-6 c =
-    let d : digitOf (c .before .before .before .before .before .before .args .b) < 16 = omega (arith, c .before .before .before .digit .ensures, c .before .before .if4 .left) in
-    (sym (step-full _ _ (c .before .if5 .taken) (c .if6 .left) d), sym (held-full _ _ _ (c .before .if5 .taken) (c .if6 .left)))
+    let p = c .before .if5 .taken in
+    (sym (step-full _ _ p (c .if6 .left) (a-digit (c .before .before))), sym (held-full _ _ _ p (c .if6 .left)))
 
 returns-7 : tie.Need-returns-7
 returns-7 c =
-    let d : digitOf (c .before .before .before .before .before .args .b) < 16 = omega (arith, c .before .before .digit .ensures, c .before .if4 .left) in (
-      rw (c .before .before .digit .ensures) (sym (step-first _ _ (c .before .before .before .before .if1 .left) (c .before .before .before .if2 .left) (c .if5 .left) d)),
+    let g = c .before .before in
+    let e = g .before in (
+      rw (g .digit .ensures) (sym (step-first _ _ (e .before .if1 .left) (e .if2 .left) (c .if5 .left) (a-digit (c .before)))),
       sym (held-other _ _ _ (c .if5 .left)),
     )
 
 pub fed-spec : {M : Type 1} → statement M
 fed-spec =
     tie.close
-    (tie.spec
-    returns
-    returns-2
-    bad-line-requires
-    returns-3
-    digit-requires
-    bad-line-requires-2
-    returns-4
-    octet-requires
-    element-write-octets
-    add-t13
-    returns-5
-    returns-6
-    returns-7)
+    (tie.spec returns returns-2 (λ c κs. search needs) returns-3 (λ c κs. search needs) (λ c κs. search needs) returns-4 (λ c κs. search needs)
+    (λ c. search needs) (λ c. search needs) returns-5 returns-6 returns-7)

@@ -8,11 +8,8 @@ use Rattle.lines.proofs.input.spaced.Tie as tie
 returns : tie.Need-returns
 returns c = rw (c .if1 .taken)
 
-add-t4 : tie.Need-add-t4
-add-t4 c = search needs
-
 returns-2 : tie.Need-returns-2
 returns-2 c = rw (ne-eqb _ 0 (c .before .if1 .left))
 
 pub spaced-spec : {M : Type 1} → statement M
-spaced-spec = tie.close (tie.spec returns add-t4 returns-2)
+spaced-spec = tie.close (tie.spec returns (λ c. search needs) returns-2)

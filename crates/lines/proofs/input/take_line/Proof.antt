@@ -19,65 +19,42 @@ Inv-loop s from octets₀ at₀ line₀ octets at line =
 abbrev μ-loop : tie.MeasureT-loop
 μ-loop s from octets₀ at₀ line₀ octets at line = length s - at
 
-take-ready-requires : tie.Need-take-ready-requires Inv-loop μ-loop
-take-ready-requires c κs = search needs
-
 returns : tie.Need-returns Inv-loop μ-loop
 returns c = (c .before .take-ready .ensures .0, c .before .take-ready .ensures .1 (c .if1 .taken))
 
 loop-holds : tie.Need-loop-holds Inv-loop μ-loop
 loop-holds c = (c .before .before .take-ready .ensures .0 .inside, omega arith, λ t. turns-none _ _ _)
 
-shared-slice-read-b : tie.Need-shared-slice-read-b Inv-loop μ-loop
-shared-slice-read-b c = search needs
-
-add-at : tie.Need-add-at Inv-loop μ-loop
-add-at c = search needs
+-- what was heard, with the line's whole octets first
+heard-by : (c : tie.At-loop Inv-loop μ-loop) → let r = c .before .before .before in let a = r .before .before .before .args in
+    (a .from ≤ c .loop .at) × ((t : List ℕ) → turns (state (a .l) (a .octets .now) t) (part (a .s .now) (a .from) (c .loop .at)) ≡ state (c .loop .line) (c .loop .octets) t)
+heard-by c =
+    let e = c .before .before in
+    let h = e .before .take-ready .ensures .0 in
+    (omega (arith, h .onward), heard-on _ _ _ _ _ _ h (e .if1 .left) _ _ _ (c .loop .inv .1) (c .loop .inv .2))
 
 returns-2 : tie.Need-returns-2 Inv-loop μ-loop
 unfolding turn
-returns-2 c = (
-  record {
-    onward = omega (arith, c .before .before .before .before .before .before .take-ready .ensures .0 .onward);
-    inside = omega arith;
-    heard = λ t. turns-more _ _ _ _ (omega (arith, c .before .before .before .before .before .before .take-ready .ensures .0 .onward)) (omega arith) (heard-on _ _ _ _ _ _ (c .before .before .before .before .before .before .take-ready .ensures .0) (c .before .before .before .before .before .if1 .left) _ _ _ (c .before .before .before .loop .inv .1) (c .before .before .before .loop .inv .2) t) ∙ rw (c .if2 .taken);
-  },
-  omega (arith, c .before .before .before .before .before .before .take-ready .ensures .0 .onward),
-)
-
-fed-requires : tie.Need-fed-requires Inv-loop μ-loop
-fed-requires c κs = search needs
-
-loop-less : tie.Need-loop-less Inv-loop μ-loop
-loop-less c = search needs
+returns-2 c =
+    let h = heard-by (c .before .before .before) in
+    (record { onward = omega arith; inside = omega arith; heard = λ t. turns-more _ _ _ _ (h .0) (omega arith) (h .1 t) ∙ rw (c .if2 .taken) }, omega arith)
 
 loop-again : tie.Need-loop-again Inv-loop μ-loop
-loop-again c = (
-  omega arith,
-  omega arith,
-  λ t. turns-more _ _ _ _ (omega arith) (omega arith) (c .before .before .before .before .before .loop .inv .2 t) ∙ turn-open _ _ t _ (c .before .before .if2 .left)
-      ∙ rw (c .fed .ensures .0, c .fed .ensures .1),
-)
+loop-again c =
+    let e = c .before .before in
+    let l = e .before .before .before in (
+      omega arith,
+      omega arith,
+      λ t. turns-more _ _ _ _ (omega arith) (omega arith) (l .loop .inv .2 t) ∙ turn-open _ _ t _ (e .if2 .left) ∙ rw (c .fed .ensures .0, c .fed .ensures .1),
+    )
 
 returns-3 : tie.Need-returns-3 Inv-loop μ-loop
-returns-3 c = (
-  record { onward = omega (arith, c .before .before .before .before .take-ready .ensures .0 .onward); inside = omega arith; heard = λ t. heard-on _ _ _ _ _ _ (c .before .before .before .before .take-ready .ensures .0) (c .before .before .before .if1 .left) _ _ _ (c .before .loop .inv .1) (c .before .loop .inv .2) t },
-  omega arith,
-)
+returns-3 c =
+    let h = heard-by (c .before) in
+    (record { onward = h .0; inside = omega arith; heard = h .1 }, omega arith)
 
 pub take-line-spec : {M : Type 1} → statement M
 take-line-spec =
     tie.close
-    (tie.spec
-    Inv-loop
-    μ-loop
-    take-ready-requires
-    returns
-    loop-holds
-    shared-slice-read-b
-    add-at
-    returns-2
-    fed-requires
-    loop-less
-    loop-again
-    returns-3)
+    (tie.spec Inv-loop μ-loop (λ c κs. search needs) returns loop-holds (λ c. search needs) (λ c. search needs) returns-2 (λ c κs. search needs)
+    (λ c. search needs) loop-again returns-3)

@@ -5,11 +5,8 @@ use mathlib.Core.Path.{refl}
 use Rattle.lines.proofs.output.glyph_of.Statement.{statement}
 use Rattle.lines.proofs.output.glyph_of.Tie as tie
 
-array-read-result : tie.Need-array-read-result
-array-read-result c = search needs
-
 returns : tie.Need-returns
 returns c = refl
 
 pub glyph-of-spec : {M : Type 1} → statement M
-glyph-of-spec = tie.close (tie.spec array-read-result returns)
+glyph-of-spec = tie.close (tie.spec (λ c. search needs) returns)
