@@ -1,6 +1,7 @@
 -- How what is left to read goes with what was read so far.
 -- Assumes nothing.
-use Prim.Native.Nat.{ℕ}
+use Prim.Native.Nat.{ℕ, _≤_}
+use native.Mathlib.Omega.{arith}
 use mathlib.Core.Path.{_≡_, refl, ap, _∙_}
 use mathlib.Core.Bool.{Bool, true, false, cond}
 use mathlib.Core.List.{List}
@@ -14,7 +15,7 @@ use Rattle.coding.specs.Shown.{shown}
 use Rattle.coding.proofs.Reading.{got-of}
 use Rattle.types.specs.declared.Record.{Record}
 use Rattle.types.specs.Frames.{inArgument}
-use Rattle.heads.specs.Heads.{argumentCode, faultBy, tailOf}
+use Rattle.heads.specs.Heads.{argumentCode, faultBy, tailOf, restOf}
 use Rattle.heads.specs.declared.Head.{Head}
 use Rattle.heads.proofs.Codes.{argument-code, told-by}
 
@@ -79,6 +80,13 @@ pub tail-one : (f : Run Record) (h : Head) (s : List ℕ) (n : ℕ) → h .stop 
     → tailOf f h s ≡ after (f .read s (h .at) n) (λ v last. closed v last n (length s))
 unfolding tailOf
 tail-one f h s n p q r = rw (p, q, r) (λ i. after (f .read s (h .at) n) (λ v last. one-end v last n (length s) i))
+
+-- reading stopped at a place
+pub stopped : (s : List ℕ) {h : Head} {k p : ℕ} {x : Ans Record}
+    → h ≡ record { fault = k; frame = 0; unnamed = 0; id = 0; operation = 0; error = 0; problem = 0; detail = 0; at = p; stop = 0; next = 0; end = 0 }
+    → halt (faultBy k) p ≡ x → (restOf h s ≡ x) × (h .stop ≤ length s)
+unfolding restOf
+stopped s e r = (rw e r, rw e (omega arith))
 
 -- what the returns of a head cite
 pub ruleset heading = (goes, refuses, ends, leaves)

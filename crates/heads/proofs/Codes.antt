@@ -2,13 +2,13 @@
 -- Assumes nothing.
 use Prim.Native.Nat.{ℕ, zero, suc, _+_, _-_, _≤_, _<_, min}
 use native.Mathlib.Omega.{arith}
-use mathlib.Core.Path.{_≡_, refl, ap, sym}
-use mathlib.Core.Bool.{Bool, true, false, _||_, true≢false, cond}
+use mathlib.Core.Path.{_≡_, refl, ap, sym, _∙_}
+use mathlib.Core.Bool.{Bool, true, false, not, _||_, true≢false, cond}
 use mathlib.Core.List.{List, [], _∷_}
 use lib.ListN.{length}
-use lib.Dec.{ltb, eqb}
-use borrow.Author.Tests.{lt-ltb, le-ltb, lt-leb, le-leb, ltb-true, ltb-false, eqb-true, ne-eqb}
-use Rattle.coding.specs.Reader.{Fault, code}
+use lib.Dec.{ltb, leb, eqb}
+use borrow.Author.Tests.{lt-ltb, le-ltb, lt-leb, le-leb, ltb-true, eqb-true, ne-eqb, not-true, not-false}
+use Rattle.coding.specs.Reader.{Fault, code, part}
 use Rattle.coding.specs.Reader.Fault.{missing, unexpected, cut, form, shortest, contents, limit, named}
 use Rattle.coding.specs.Contents.{negative, numberFrom}
 use Rattle.coding.specs.Contents as Contents
@@ -16,8 +16,9 @@ use Rattle.coding.specs.Codec.{oneOf, all}
 use Rattle.coding.specs.Leaves.{listing}
 use Rattle.coding.specs.Shown.{verdict}
 use Rattle.coding.proofs.Basic.{and-left, and-right}
+use Rattle.coding.proofs.Parts.{part-length}
 use Rattle.types.specs.Frames.{outside, inArgument, numberOf, operations, errors}
-use Rattle.heads.specs.Heads.{outsideCode, argumentCode, faultBy, knownIn}
+use Rattle.heads.specs.Heads.{outsideCode, argumentCode, faultBy, knownIn, unknownIn}
 
 pub outside-code : (w : Fault) → outsideCode (code w) ≡ code (outside w)
 outside-code missing = refl
@@ -66,99 +67,92 @@ number-low k l n = rw (lt-leb 100 k l, ne-eqb k 2 n) (go (eqb k 40) (eqb k 41) (
 
 -- ---- values of a list
 
-module _ (u : ℕ) (ks xs : List ℕ) where
-  pub list-form : Contents.shortest xs ≡ false → (43, 0) ≡ verdict 0 (listing u ks xs)
-  unfolding listing verdict
-  list-form h = rw h
-
-  module _ (s : Contents.shortest xs ≡ true) where
-    pub list-long : 4 < length xs → (44, 0) ≡ verdict 0 (listing u ks xs)
-    unfolding listing verdict
-    list-long l = rw (s, lt-ltb _ _ l)
-
-    module _ (l : length xs ≤ 4) where
-      pub list-negative : negative xs ≡ true → (100 + u, 0) ≡ verdict 0 (listing u ks xs)
-      unfolding listing verdict
-      list-negative n = rw (s, le-ltb _ _ l, n)
-
-      pub list-known : {k : ℕ} → negative xs ≡ false → k ≡ numberFrom 0 xs → oneOf ks k ≡ true → (0, k) ≡ verdict 0 (listing u ks xs)
-      unfolding listing verdict
-      list-known n e h = rw (s, le-ltb _ _ l, n, ← e, h)
-
-      pub list-unknown : negative xs ≡ false → oneOf ks (numberFrom 0 xs) ≡ false → (100 + u, 0) ≡ verdict 0 (listing u ks xs)
-      unfolding listing verdict
-      list-unknown n h = rw (s, le-ltb _ _ l, n, h)
-
-pub has-below : (most : ℕ) (ks : List ℕ) (n : ℕ) → all (λ k. ltb k most) ks ≡ true → oneOf ks n ≡ true → n < most
+-- what holds of every value in a list holds of one that is in it
+in-all : (P : ℕ → Bool) (ks : List ℕ) (n : ℕ) → all P ks ≡ true → oneOf ks n ≡ true → P n ≡ true
 unfolding oneOf
-has-below most [] n a h = absurd (true≢false (sym h))
-has-below most (k ∷ ks) n a h = go (eqb n k) refl h (has-below most ks n (and-right (ltb k most) _ a))
+in-all P [] n a h = absurd (true≢false (sym h))
+in-all P (k ∷ ks) n a h = go (eqb n k) refl h (in-all P ks n (and-right (P k) _ a))
   where
-    go : (b : Bool) → eqb n k ≡ b → b || oneOf ks n ≡ true → (oneOf ks n ≡ true → n < most) → n < most
-    go true q r f = omega (arith, eqb-true n k q, ltb-true k most (and-left (ltb k most) _ a))
+    go : (b : Bool) → eqb n k ≡ b → b || oneOf ks n ≡ true → (oneOf ks n ≡ true → P n ≡ true) → P n ≡ true
+    go true q r f = rw (eqb-true n k q) (and-left (P k) _ a)
     go false q r f = f r
 
-has-above : (most : ℕ) (ks : List ℕ) (n : ℕ) → all (λ k. ltb k most) ks ≡ true → most ≤ n → oneOf ks n ≡ false
-has-above most ks n a h = go (oneOf ks n) refl
+pub none-of : (P : ℕ → Bool) (ks : List ℕ) (n : ℕ) → all P ks ≡ true → P n ≡ false → oneOf ks n ≡ false
+none-of P ks n a f = go (oneOf ks n) refl
   where
     go : (b : Bool) → oneOf ks n ≡ b → b ≡ false
-    go true q = absurd (omega (arith, has-below most ks n a q))
+    go true q = absurd (true≢false (sym (in-all P ks n a q) ∙ f))
     go false q = refl
 
+pub has-below : (most : ℕ) (ks : List ℕ) (n : ℕ) → all (λ k. ltb k most) ks ≡ true → oneOf ks n ≡ true → n < most
+has-below most ks n a h = ltb-true n most (in-all (λ k. ltb k most) ks n a h)
+
 -- no known value is over 36
-known-all : (most k : ℕ) → 36 < most → all (λ v. ltb v most) (knownIn k) ≡ true
-known-all most k l = go (eqb k 1) (eqb k 2)
+known-low : (k n : ℕ) → oneOf (knownIn k) n ≡ true → n < 37
+known-low k n h = has-below 37 (knownIn k) n (go (eqb k 1) (eqb k 2)) h
   where
-    lt : (v : ℕ) → v ≤ 36 → ltb v most ≡ true
-    lt v e = let z : v < most = omega (arith, l) in lt-ltb v most z
+    go : (b d : Bool) → all (λ v. ltb v 37) (cond b operations (cond d (30 ∷ []) errors)) ≡ true
+    go true d = refl
+    go false true = refl
+    go false false = refl
 
-    go : (b d : Bool) → all (λ v. ltb v most) (cond b operations (cond d (30 ∷ []) errors)) ≡ true
-    go true d =
-        simp (lt 30 (omega arith), lt 31 (omega arith), lt 32 (omega arith), lt 33 (omega arith), lt 34 (omega arith), lt 35 (omega arith), lt 36 (omega arith))
-    go false true = simp (lt 30 (omega arith))
-    go false false = simp (lt 0 (omega arith), lt 3 (omega arith), lt 4 (omega arith), lt 7 (omega arith), lt 26 (omega arith))
-
-pub known-low : (u n : ℕ) → oneOf (knownIn u) n ≡ true → n < 256
-known-low u n h = has-below 256 (knownIn u) n (known-all 256 u (omega arith)) h
-
--- a number held at 2^24 is known where the number is
-pub known-held : (u n m : ℕ) → n ≡ min m 16777216 → oneOf (knownIn u) n ≡ true → n ≡ m
-known-held u n m e h = omega (arith, known-low u n h)
-
-pub unknown-held : (u n m : ℕ) → n ≡ min m 16777216 → oneOf (knownIn u) n ≡ false → oneOf (knownIn u) m ≡ false
-unknown-held u n m e h = go (ltb m 16777216) refl
+-- so that a number held at 2^24 is known where the number is
+unknown-held : (k n m : ℕ) → n ≡ min m 16777216 → oneOf (knownIn k) n ≡ false → oneOf (knownIn k) m ≡ false
+unknown-held k n m e h = go (oneOf (knownIn k) m) refl
   where
-    go : (b : Bool) → ltb m 16777216 ≡ b → oneOf (knownIn u) m ≡ false
-    go true q = let z : n ≡ m = omega (arith, ltb-true m 16777216 q) in rw (← z) h
-    go false q = has-above 16777216 (knownIn u) m (known-all 16777216 u (omega arith)) (ltb-false m 16777216 q)
+    go : (b : Bool) → oneOf (knownIn k) m ≡ b → b ≡ false
+    go true q = let z : m ≡ n = omega (arith, known-low k m q) in sym q ∙ rw z h
+    go false q = refl
+
+pub list-known : (u : ℕ) (ks xs : List ℕ) {n : ℕ} → Contents.shortest xs ≡ true → length xs ≤ 4 → negative xs ≡ false → n ≡ numberFrom 0 xs → oneOf ks n ≡ true
+    → (0, n) ≡ verdict 0 (listing u ks xs)
+unfolding listing verdict
+list-known u ks xs s l p e h = rw (s, le-ltb _ _ l, p, ← e, h)
+
+-- as it is tested: whether the octets are shortest, their count, the sign, whether it is known
+module _ (s : List ℕ) (start stop k : ℕ) (l : stop ≤ length s) {b : Bool} (e : b ≡ Contents.shortest (part s start stop)) where
+  abbrev meant : ℕ × ℕ
+  meant = verdict 0 (listing (unknownIn k) (knownIn k) (part s start stop))
+
+  pub value-padded : not b ≡ true → (43, 0) ≡ meant
+  unfolding listing verdict
+  value-padded t = rw (sym e ∙ not-true b t)
+
+  module _ (t : not b ≡ false) where
+    pub value-long : 4 < stop - start → (44, 0) ≡ meant
+    unfolding listing verdict
+    value-long h =
+        let i : 4 < length (part s start stop) = omega (arith, part-length s start stop l) in
+        rw (sym e ∙ not-false b t, lt-ltb _ _ i)
+
+    module _ (f : stop - start ≤ 4) {n : Bool} (g : n ≡ negative (part s start stop)) where
+      few : length (part s start stop) ≤ 4
+      few = omega (arith, part-length s start stop l)
+
+      pub value-negative : {w : ℕ} → w ≡ 100 + unknownIn k → n ≡ true → (w, 0) ≡ meant
+      unfolding listing verdict
+      value-negative r h = rw (r, sym e ∙ not-false b t, le-ltb _ _ few, sym g ∙ h)
+
+      module _ (z : n ≡ false) {v : ℕ} {r : Bool} (p : v ≡ min (numberFrom 0 (part s start stop)) 16777216) (q : r ≡ oneOf (knownIn k) v) where
+        pub value-known : r ≡ true → (0, v) ≡ meant
+        value-known h = list-known _ _ _ (sym e ∙ not-false b t) few (sym g ∙ z) (omega (arith, known-low k v (sym q ∙ h))) (sym q ∙ h)
+
+        pub value-unknown : {w : ℕ} → w ≡ 100 + unknownIn k → r ≡ false → (w, 0) ≡ meant
+        unfolding listing verdict
+        value-unknown x h = rw (x, sym e ∙ not-false b t, le-ltb _ _ few, sym g ∙ z, unknown-held k v _ p (sym q ∙ h))
+
+pub value-low : (k v : ℕ) {r : Bool} → r ≡ oneOf (knownIn k) v → r ≡ true → v < 256
+value-low k v q h = omega (arith, known-low k v (sym q ∙ h))
+
+pub ruleset valuing = (value-padded, value-long, value-negative, value-known, value-unknown)
 
 -- ---- the operations are those from 30 to 36
 
 pub operation-below : (n : ℕ) → n < 30 → false ≡ oneOf operations n
-unfolding oneOf
-operation-below n l =
-    simp (
-      ne-eqb n 30 (λ e. omega arith),
-      ne-eqb n 31 (λ e. omega arith),
-      ne-eqb n 32 (λ e. omega arith),
-      ne-eqb n 33 (λ e. omega arith),
-      ne-eqb n 34 (λ e. omega arith),
-      ne-eqb n 35 (λ e. omega arith),
-      ne-eqb n 36 (λ e. omega arith),
-    )
+operation-below n l = sym (none-of (leb 30) operations n refl (lt-leb 30 n l))
 
 pub operation-above : (n : ℕ) → 36 < n → false ≡ oneOf operations n
-unfolding oneOf
-operation-above n l =
-    simp (
-      ne-eqb n 30 (λ e. omega arith),
-      ne-eqb n 31 (λ e. omega arith),
-      ne-eqb n 32 (λ e. omega arith),
-      ne-eqb n 33 (λ e. omega arith),
-      ne-eqb n 34 (λ e. omega arith),
-      ne-eqb n 35 (λ e. omega arith),
-      ne-eqb n 36 (λ e. omega arith),
-    )
+operation-above n l = sym (none-of (λ k. leb k 36) operations n refl (lt-leb n 36 l))
 
 pub operation-known : (n : ℕ) → 30 ≤ n → n ≤ 36 → true ≡ oneOf operations n
 unfolding oneOf

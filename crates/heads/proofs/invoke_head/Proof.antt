@@ -5,17 +5,17 @@ use Rattle.coding.specs.Codec.{leads}
 use Rattle.coding.proofs.Reading.{flat}
 use Rattle.types.specs.Frames.{invoke}
 use Rattle.heads.specs.Heads.{contentsOf, restOf}
-use Rattle.heads.proofs.Answers.{heading, tail-one}
+use Rattle.heads.proofs.Answers.{stopped, heading, tail-one}
 use Rattle.heads.proofs.invoke_head.Statement.{statement}
 use Rattle.heads.proofs.invoke_head.Tie as tie
 
 returns : tie.Need-returns
-unfolding restOf contentsOf invoke leads
-returns c = (rw (c .no-head .ensures) (simp flat (search heading)), rw (c .no-head .ensures) (omega arith))
+unfolding contentsOf invoke leads
+returns c = stopped _ (c .no-head .ensures) (simp flat (search heading))
 
 returns-2 : tie.Need-returns-2
-unfolding restOf contentsOf invoke leads
-returns-2 c = (rw (c .no-head2 .ensures) (simp flat (search heading)), rw (c .no-head2 .ensures) (omega arith))
+unfolding contentsOf invoke leads
+returns-2 c = stopped _ (c .no-head2 .ensures) (simp flat (search heading))
 
 returns-3 : tie.Need-returns-3
 unfolding restOf contentsOf invoke leads

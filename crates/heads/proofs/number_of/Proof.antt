@@ -1,5 +1,4 @@
 -- `heads::number_of` meets its contract.
-use borrow.Author.Needs.{needs}
 use borrow.Author.Tests.{eq-eqb, le-leb, lt-leb}
 use Rattle.heads.proofs.Codes.{number-low}
 use Rattle.heads.proofs.number_of.Statement.{statement}

@@ -3,31 +3,29 @@ use borrow.Author.Needs.{needs}
 use native.Mathlib.Omega.{arith}
 use mathlib.Core.Path.{sym}
 use Rattle.heads.specs.Heads.{restOf}
-use Rattle.heads.proofs.Answers.{heading, goes, ends-with}
+use Rattle.heads.proofs.Answers.{stopped, heading, goes, ends-with}
 use Rattle.heads.proofs.Rejects.{reject-by}
 use Rattle.heads.proofs.reject_head.Statement.{statement}
 use Rattle.heads.proofs.reject_head.Tie as tie
 
 returns : tie.Need-returns
-unfolding restOf
-returns c = (rw (c .no-head .ensures, reject-by _ _ _) (search heading), rw (c .no-head .ensures) (omega arith))
+returns c = stopped _ (c .no-head .ensures) (rw (reject-by _ _ _) (search heading))
 
 returns-2 : tie.Need-returns-2
-unfolding restOf
-returns-2 c = (rw (c .no-head2 .ensures, reject-by _ _ _) (search heading), rw (c .no-head2 .ensures) (omega arith))
+returns-2 c = stopped _ (c .no-head2 .ensures) (rw (reject-by _ _ _) (search heading))
 
 returns-3 : tie.Need-returns-3
-unfolding restOf
-returns-3 c = (rw (c .no-head3 .ensures, reject-by _ _ _) (search heading), rw (c .no-head3 .ensures) (omega arith))
+returns-3 c = stopped _ (c .no-head3 .ensures) (rw (reject-by _ _ _) (search heading))
 
 returns-4 : tie.Need-returns-4
 unfolding restOf
 returns-4 c =
-    let problem = c .before .before .before .before in
+    let read = c .before .before in
+    let problem = read .before .before in
     let answered = problem .before .before .before in (
       rw (reject-by _ _ _)
           (goes _ _ _ (answered .caller-at .ensures .0) (problem .before .if1 .left)
-          (goes _ _ _ (problem .problems-at .ensures) (c .before .before .if2 .left)
+          (goes _ _ _ (problem .problems-at .ensures) (read .if2 .left)
           (ends-with _ _ _ _ _ (sym (answered .caller-at .ensures .1 _ _)) (c .if3 .left)))),
       omega arith,
     )

@@ -1,12 +1,6 @@
-use borrow.Author.Tests.{eq-eqb, ne-eqb}
+use Rattle.coding.proofs.Tests.{tests}
 use Rattle.heads.proofs.unknown.Statement.{statement}
 use Rattle.heads.proofs.unknown.Tie as tie
 
-returns : tie.Need-returns
-returns c = simp (eq-eqb _ _ (c .if1 .taken))
-
-returns-2 : tie.Need-returns-2
-returns-2 c = simp (ne-eqb _ _ (c .if1 .left))
-
 pub unknown-spec : {M : Type 1} → statement M
-unknown-spec = tie.close (tie.spec returns returns-2)
+unknown-spec = tie.close (tie.spec (λ c. search tests) (λ c. search tests))
