@@ -2,14 +2,13 @@
 -- Assumes nothing.
 use Prim.Native.Nat.{ℕ, zero, suc, _+_, _-_, _≤_, _<_}
 use native.Mathlib.Omega.{arith}
-use native.Mathlib.Nat.{add-zero}
 use mathlib.Core.Path.{_≡_, refl, sym, ap, _∙_, subst}
 use mathlib.Core.Bool.{Bool, true, false, cond}
 use mathlib.Core.List.{List, [], _∷_, _++_, append-assoc, append-nil}
 use lib.ListN.{length, getD, take, drop, length-append, take-append-drop, List·getD-append}
 use lib.Seq.{drop-length, take-append-seam, drop-drop, getD-take, getD-drop, getD-append-add}
 use lib.Dec.{ltb, eqb}
-use borrow.Author.Tests.{ltb-true, eqb-true, eqb-false, eq-eqb, ne-eqb, lt-ltb}
+use borrow.Author.Tests.{ltb-true, eqb-true, eq-eqb, ne-eqb, lt-ltb}
 use Rattle.coding.specs.declared.Extent.{Extent}
 use Rattle.coding.specs.Reader.{Ans, after, part, lengthAt}
 use Rattle.coding.specs.Reader.Ans.{got, halt}
@@ -42,11 +41,7 @@ part-tile s i {v} {n} e =
     λ k j q l h. let z : k ≡ i + j = omega arith in ap (λ (r : ℕ). getD s r 0) z ∙ part-at s i n j (omega arith) in (
       omega (arith, g .0, g .1, g .2),
       o .1,
-      (
-        v .start - i,
-        v .stop - i,
-        element-moved s (part s i n) 0 i 0 (v .start - i) (v .stop - i) (length (part s i n)) (omega arith) (omega (arith, g .0)) (omega (arith, g .0, g .1)) (omega (arith, g .0, g .1, g .2, size)) same (o .0),
-      ),
+      (v .start - i, v .stop - i, element-moved s (part s i n) 0 i 0 _ _ (length (part s i n)) (omega arith) (omega (arith, g)) (omega (arith, g)) (omega (arith, g, size)) same (o .0)),
     )
 
 -- what is cut from a place on
@@ -158,4 +153,4 @@ found ps h t =
     let n : ℕ = length (joined ps) in
     let head : List ℕ = 0x1c ∷ (1 + n) ∷ 0x91 ∷ [] in
     let m = tiles-long ps t in
-    rw (led-so (joined ps) (omega arith), laid (length (head ++ joined ps)) head ps (omega arith) t) (ap (λ (k : ℕ). record { number = 0; count = k; starts = pad 127 0 (placesOf 3 ps) }) (places-count 3 ps))
+    rw (led-so (joined ps) (omega arith), laid (length (head ++ joined ps)) head ps (omega arith) t, places-count 3 ps)

@@ -17,5 +17,4 @@ returns-2 c =
     (rw (← c .before .before .is-led .ensures .0, c .before .if1 .left) (c .refused .ensures), rw (c .refused .ensures) (omega arith))
 
 pub element-spec : {M : Type 1} → statement M
-element-spec =
-    tie.close (tie.spec (search needs) starts-from-requires returns (search needs) returns-2)
+element-spec = tie.close (tie.spec (search needs) starts-from-requires returns (search needs) returns-2)

@@ -11,6 +11,4 @@ returns c =
     (rw (e, d, s), (λ h. omega (arith, s, d), λ h. omega (arith, s, d, e), λ h. omega (arith, d, e)))
 
 pub three-identifiers-spec : {M : Type 1} → statement M
-three-identifiers-spec =
-    tie.close
-    (tie.spec (search needs) (search needs) (search needs) returns)
+three-identifiers-spec = tie.close (tie.spec (search needs) (search needs) (search needs) returns)

@@ -5,18 +5,16 @@ use Rattle.values.proofs.Services.with.Statement.{statement}
 use Rattle.values.proofs.Services.with.Tie as tie
 
 returns : tie.Need-returns
-returns c = grown (c .before .before .args .self) _ (c .before .before .args .service) (rw (c .before .if1 .taken) (c .with-s .ensures))
+returns c = grown _ _ _ (rw (c .before .if1 .taken) (c .with-s .ensures))
 
 returns-2 : tie.Need-returns-2
-returns-2 c = grown (c .before .before .before .args .self) _ (c .before .before .before .args .service) (rw (c .before .if2 .taken) (c .with-d .ensures))
+returns-2 c = grown _ _ _ (rw (c .before .if2 .taken) (c .with-d .ensures))
 
 returns-3 : tie.Need-returns-3
-returns-3 c = grown (c .before .before .before .before .args .self) _ (c .before .before .before .before .args .service) (rw (c .before .if3 .taken) (c .with-e .ensures))
+returns-3 c = grown _ _ _ (rw (c .before .if3 .taken) (c .with-e .ensures))
 
 returns-4 : tie.Need-returns-4
-returns-4 c = grown (c .before .before .before .args .self) _ (c .before .before .before .args .service) (simp (ne-eqb _ _ (c .before .before .if1 .left), ne-eqb _ _ (c .before .if2 .left), ne-eqb _ _ (c .if3 .left)))
+returns-4 c = grown _ _ _ (simp (ne-eqb _ _ (c .before .before .if1 .left), ne-eqb _ _ (c .before .if2 .left), ne-eqb _ _ (c .if3 .left)))
 
 pub with-spec : {M : Type 1} → statement M
-with-spec =
-    tie.close
-    (tie.spec (search needs) returns (search needs) returns-2 (search needs) returns-3 returns-4)
+with-spec = tie.close (tie.spec (search needs) returns (search needs) returns-2 (search needs) returns-3 returns-4)
