@@ -1,6 +1,6 @@
 -- Which faults a component's reading can have, and where: the argument's lie after the eighth octet.
 -- Assumes nothing.
-use Prim.Native.Nat.{ℕ, _+_, _-_, _≤_, _<_}
+use Prim.Native.Nat.{ℕ, _+_, _-_, _≤_}
 use mathlib.Core.Path.{_≡_, refl, ap, sym, _∙_, subst}
 use mathlib.Core.List.{List, [], _∷_}
 use mathlib.Core.Bool.{Bool, true, false, cond}
@@ -10,13 +10,13 @@ use borrow.Author.Tests.{ltb-true, ltb-false}
 use lib.ListN.{length, getD, take, drop}
 use lib.Dec.{ltb, leb, eqb}
 use Rattle.coding.specs.declared.Extent.{Extent}
-use Rattle.coding.specs.Reader.{Ans, Fault, after, choice, tagged, opened, lengthAt, blamed, closed, enteredAny, ruled, Ruling, part, primitive}
+use Rattle.coding.specs.Reader.{Ans, Fault, after, choice, tagged, opened, lengthAt, blamed, enteredAny, ruled, Ruling, part, primitive}
 use Rattle.coding.specs.Reader.Ans.{got, halt}
 use Rattle.coding.specs.Reader.Ruling.{good, bad}
 use Rattle.coding.specs.Reader.Fault.{missing, unexpected, cut, form, shortest, contents, limit, named}
-use Rattle.coding.specs.Codec.{Leaf, Run, oneOf, prim, cons, leads, barring, marked, frames, pickRun}
+use Rattle.coding.specs.Codec.{Leaf, Run, oneOf, prim, barring, marked, frames}
 use Rattle.coding.specs.Contents as Contents
-use Rattle.coding.specs.Leaves.{number, given, integer, identifier, listed, listing}
+use Rattle.coding.specs.Leaves.{given, integer, identifier, listed, listing}
 use Rattle.coding.proofs.Basic.{never, chain, either-way}
 use Rattle.coding.proofs.Header.{opened-sound, spans-range, read-element}
 use Rattle.coding.proofs.Frames.{any-got}
@@ -25,8 +25,10 @@ use Rattle.types.specs.Charges.{scaled, currencyLeaf, currency, money, d
 use Rattle.types.specs.Entries.{unit}
 use Rattle.types.specs.Rates.{duration, flatRate, volume, coded, plainRate, price, rate}
 use Rattle.types.specs.Arguments.{sign, inMoney, inUnits, during, subtotals, ending, settled, finals, rates, arrangement, available, chargeOf}
-use Rattle.types.specs.Frames.{numberOf, outside, inArgument, value, operations, errors, carrying, request, argument, invoke, returnResult, failed, returnError, caller, problem, problems, reject, frame, component, readWhole}
-use Rattle.types.proofs.Places.{Plain, Ends, Blames, Placed, pick, nearer, farther, weaker, before-end, follows, length-ends, closed-ends, Lengths, prim-placed, cons-placed, sort-placed, either-placed, barring-placed, maybe-placed, some-placed, nothing-placed, pair-placed, alt-placed, over-placed, shape-placed, canonical-placed, leads-placed, number-blames, string-blames, null-blames, identifier-blames, listed-blames, only-blames, leaf-over-blames}
+use Rattle.types.specs.Frames.{numberOf, outside, inArgument, value, operations, carrying, request, argument, invoke, returnResult}
+use Rattle.types.specs.Frames.{failed, returnError, caller, problem, problems, reject, frame, component, readWhole}
+use Rattle.types.proofs.Places.{Plain, Ends, Placed, pick, nearer, farther, weaker, before-end, follows, length-ends, closed-ends, Lengths}
+use Rattle.types.proofs.Places.{placing, either-placed, leads-placed, cons-placed}
 
 -- ---- charges: no fault of theirs has a number yet
 
@@ -36,7 +38,7 @@ Unnamed w p = Plain w
 unnamed : (w : Fault) (p : ℕ) → Plain w → Unnamed w p
 unnamed w p h = h
 
-ruleset placed = (unnamed, number-blames, string-blames, null-blames, identifier-blames, only-blames, leaf-over-blames, prim-placed, cons-placed, sort-placed, maybe-placed, some-placed, nothing-placed, pair-placed, alt-placed, over-placed, shape-placed, canonical-placed)
+ruleset placed = (unnamed, placing)
 
 module _ (k : ℕ) where
   scaled-placed : (tag : ℕ) → Placed Unnamed k (scaled tag)
@@ -90,13 +92,7 @@ module _ (k : ℕ) where
   charge-placed : (o : ℕ) → Placed Unnamed k (chargeOf o)
   unfolding chargeOf available
   charge-placed o =
-      sort-placed Unnamed unnamed k _ _ _ _ (sign-placed _ _)
-      (either-placed Unnamed unnamed k (eqb o 30) _ _ (sort-placed Unnamed unnamed k _ _ _ _ arrangement-placed rates-placed)
-      (either-placed Unnamed unnamed k (eqb o 31) _ _ rates-placed
-      (either-placed Unnamed unnamed k (eqb o 32) _ _ arrangement-placed
-      (either-placed Unnamed unnamed k (eqb o 33) _ _ (subtotals-placed _ money-in-placed)
-      (either-placed Unnamed unnamed k (eqb o 34) _ _ (subtotals-placed _ units-in-placed)
-      (either-placed Unnamed unnamed k (eqb o 35) _ _ (finals-placed _ money-in-placed) (finals-placed _ units-in-placed)))))))
+      search (placed, either-placed, sign-placed, arrangement-placed, rates-placed, subtotals-placed, finals-placed, money-in-placed, units-in-placed) depth 24
 
 -- ---- frames: a number is 1 to 8; or 40 to 45, after the eighth octet
 
@@ -120,9 +116,6 @@ plainly contents p h = tt
 plainly limit p h = tt
 plainly (named n) p h = absurd h
 
-low : {n : ℕ} (p : ℕ) → 1 ≤ n → n ≤ 8 → Told (named n) p
-low p a b = inl (a, b)
-
 -- none of the numbers that only the component's own element has, or its octets in all
 abbrev pub Whole : ℕ → Type 0
 Whole n = (n ≡ 1 → ⊥) × (n ≡ 3 → ⊥) × (n ≡ 5 → ⊥)
@@ -131,54 +124,44 @@ Whole n = (n ≡ 1 → ⊥) × (n ≡ 3 → ⊥) × (n ≡ 5 → ⊥)
 abbrev pub Inside : Fault → ℕ → Type 0
 Inside w p = Told w p × Whole (numberOf w)
 
-whole : {n : ℕ} → (n ≡ 1 → ⊥) → (n ≡ 3 → ⊥) → (n ≡ 5 → ⊥) → Whole n
-whole a b c = (a, b, c)
-
 pub plain-whole : (w : Fault) → Plain w → Whole (numberOf w)
-plain-whole missing h = whole (λ e. omega (arith, e)) (λ e. omega (arith, e)) (λ e. omega (arith, e))
-plain-whole unexpected h = whole (λ e. omega (arith, e)) (λ e. omega (arith, e)) (λ e. omega (arith, e))
-plain-whole cut h = whole (λ e. omega (arith, e)) (λ e. omega (arith, e)) (λ e. omega (arith, e))
-plain-whole form h = whole (λ e. omega (arith, e)) (λ e. omega (arith, e)) (λ e. omega (arith, e))
-plain-whole shortest h = whole (λ e. omega (arith, e)) (λ e. omega (arith, e)) (λ e. omega (arith, e))
-plain-whole contents h = whole (λ e. omega (arith, e)) (λ e. omega (arith, e)) (λ e. omega (arith, e))
-plain-whole limit h = whole (λ e. omega (arith, e)) (λ e. omega (arith, e)) (λ e. omega (arith, e))
+plain-whole missing h = omega arith
+plain-whole unexpected h = omega arith
+plain-whole cut h = omega arith
+plain-whole form h = omega arith
+plain-whole shortest h = omega arith
+plain-whole contents h = omega arith
+plain-whole limit h = omega arith
 plain-whole (named n) h = absurd h
 
 inside : (w : Fault) (p : ℕ) → Plain w → Inside w p
 inside w p h = (plainly w p h, plain-whole w h)
 
--- 2, 7 or 8
-own : (n p : ℕ) → 1 ≤ n → n ≤ 8 → Whole n → Inside (named n) p
-own n p a b h = (low p a b, h)
-
 seven : (p : ℕ) → Inside (named 7) p
-seven p = own 7 p (omega arith) (omega arith) (whole (λ e. omega (arith, e)) (λ e. omega (arith, e)) (λ e. omega (arith, e)))
+seven p = (inl (omega arith), omega arith)
 
 eight : (p : ℕ) → Inside (named 8) p
-eight p = own 8 p (omega arith) (omega arith) (whole (λ e. omega (arith, e)) (λ e. omega (arith, e)) (λ e. omega (arith, e)))
+eight p = (inl (omega arith), omega arith)
 
 outside-told : (w : Fault) (p : ℕ) → Plain w → Told (outside w) p
-outside-told missing p h = low p (omega arith) (omega arith)
-outside-told unexpected p h = low p (omega arith) (omega arith)
-outside-told cut p h = low p (omega arith) (omega arith)
-outside-told form p h = low p (omega arith) (omega arith)
-outside-told shortest p h = low p (omega arith) (omega arith)
-outside-told contents p h = low p (omega arith) (omega arith)
-outside-told limit p h = low p (omega arith) (omega arith)
+outside-told missing p h = inl (omega arith)
+outside-told unexpected p h = inl (omega arith)
+outside-told cut p h = inl (omega arith)
+outside-told form p h = inl (omega arith)
+outside-told shortest p h = inl (omega arith)
+outside-told contents p h = inl (omega arith)
+outside-told limit p h = inl (omega arith)
 outside-told (named n) p h = absurd h
 
 -- 40 to 45, after the eighth octet, or 2
-argument-number : (n p : ℕ) → 40 ≤ n → n ≤ 45 → 8 ≤ p → Inside (named n) p
-argument-number n p a b l = (inr (a, b, l), whole (λ e. omega (arith, e)) (λ e. omega (arith, e)) (λ e. omega (arith, e)))
-
 argument-told : (w : Fault) (p : ℕ) → Plain w → 8 ≤ p → Inside (inArgument w) p
-argument-told missing p h l = argument-number 40 p (omega arith) (omega arith) l
-argument-told unexpected p h l = argument-number 41 p (omega arith) (omega arith) l
-argument-told cut p h l = argument-number 42 p (omega arith) (omega arith) l
-argument-told form p h l = own 2 p (omega arith) (omega arith) (whole (λ e. omega (arith, e)) (λ e. omega (arith, e)) (λ e. omega (arith, e)))
-argument-told shortest p h l = argument-number 43 p (omega arith) (omega arith) l
-argument-told contents p h l = argument-number 44 p (omega arith) (omega arith) l
-argument-told limit p h l = argument-number 45 p (omega arith) (omega arith) l
+argument-told missing p h l = (inr (omega arith), omega arith)
+argument-told unexpected p h l = (inr (omega arith), omega arith)
+argument-told cut p h l = (inr (omega arith), omega arith)
+argument-told form p h l = (inl (omega arith), omega arith)
+argument-told shortest p h l = (inr (omega arith), omega arith)
+argument-told contents p h l = (inr (omega arith), omega arith)
+argument-told limit p h l = (inr (omega arith), omega arith)
 argument-told (named n) p h l = absurd h
 
 marked-placed : {A : Type 0} (f : Run A) → Placed Unnamed 8 f → Placed Inside 8 (marked inArgument f)
@@ -232,13 +215,16 @@ id-some : (x : ℕ) → identifier .judge [] ≡ good x → ⊥
 unfolding identifier integer Contents.shortest
 id-some x q = bad-good q
 
+-- what places the faults of a frame
+ruleset framed = (inside, placing)
+
 module _ (k : ℕ) where
   id-placed : Placed Inside k (prim 0x02 identifier)
-  id-placed = prim-placed Inside inside k 0x02 identifier (identifier-blames Inside inside)
+  id-placed = search framed depth 12
 
   value-placed : (u : ℕ) (ks : List ℕ) → ((p : ℕ) → Inside (named u) p) → Placed Inside k (value u ks)
   unfolding value
-  value-placed u ks h = barring-placed Inside inside k _ _ _ h (prim-placed Inside inside k _ _ (listed-blames Inside inside u ks h))
+  value-placed u ks h = search framed depth 12
 
 value-some : (u : ℕ) (ks : List ℕ) (x : ℕ) → (listed u ks) .judge [] ≡ good x → ⊥
 unfolding listed listing Contents.shortest
@@ -255,16 +241,15 @@ value-takes u ks s a e n x h q =
 -- an argument or result
 request-placed : (i : ℕ) → Placed Inside 8 (request i)
 unfolding request
-request-placed i =
-    canonical-placed Inside inside 8 _ _ _ _ (marked-placed _ (prim-placed Unnamed unnamed 8 _ _ (number-blames Unnamed unnamed _ _)))
+request-placed i = search (framed, marked-placed, unnamed) depth 12
 
 carrying-placed : (k i o : ℕ) → Placed Inside 8 (carrying k i o)
 unfolding carrying
-carrying-placed k i o = canonical-placed Inside inside 8 _ _ _ _ (marked-placed _ (charge-placed 8 o))
+carrying-placed k i o = search (framed, marked-placed, charge-placed) depth 12
 
 argument-placed : (i o : ℕ) → Placed Inside 8 (argument i o)
 unfolding argument
-argument-placed i o = either-placed Inside inside 8 (eqb o 30) _ _ (request-placed i) (carrying-placed 1 i o)
+argument-placed i o = search (framed, either-placed, request-placed, carrying-placed) depth 12
 
 invoke-placed : Placed Inside 2 invoke
 unfolding invoke
@@ -281,38 +266,27 @@ result-placed =
 
 error-placed : Placed Inside 2 returnError
 unfolding returnError failed
-error-placed =
-    leads-placed Inside inside 2 3 _ _ _ (id-placed 2) (prim-takes _ _ id-some) (λ i.
-    canonical-placed Inside inside 5 _ _ _ _ (value-placed 5 8 errors eight))
+error-placed = leads-placed Inside inside 2 3 _ _ _ (id-placed 2) (prim-takes _ _ id-some) (λ i. search (framed, value-placed, eight) depth 12)
 
 problem-placed : (tag most : ℕ) (c : Unit {0} ⊎ ℕ) → Placed Inside 2 (problem tag most c)
 unfolding problem
-problem-placed tag most c = canonical-placed Inside inside 2 _ _ _ _ (prim-placed Inside inside 2 _ _ (number-blames Inside inside _ _))
+problem-placed tag most c = search framed depth 12
 
 reject-placed : Placed Inside 2 reject
 unfolding reject caller problems
-reject-placed =
-    leads-placed Inside inside 2 0 _ _ _
-    (alt-placed Inside inside 2 _ _ _ (prim-placed Inside inside 2 _ _ (null-blames Inside inside)) (id-placed 2))
-    (λ s a e n x h q. omega (arith, h)) (λ c.
-    sort-placed Inside inside 2 _ _ _ _ (problem-placed 0x80 2 c)
-    (sort-placed Inside inside 2 _ _ _ _ (problem-placed 0x81 7 c)
-    (sort-placed Inside inside 2 _ _ _ _ (problem-placed 0x82 2 c) (problem-placed 0x83 4 c))))
+reject-placed = leads-placed Inside inside 2 0 _ _ _ (search framed depth 12) (λ s a e n x h q. omega (arith, h)) (λ c. search (framed, problem-placed) depth 12)
 
 pub frame-placed : (tag : ℕ) → Placed Inside 2 (frame tag)
 unfolding frame
-frame-placed tag =
-    either-placed Inside inside 2 (eqb tag 0xa1) _ _ invoke-placed
-    (either-placed Inside inside 2 (eqb tag 0xa2) _ _ result-placed
-    (either-placed Inside inside 2 (eqb tag 0xa3) _ _ error-placed reject-placed))
+frame-placed tag = search (framed, either-placed, invoke-placed, result-placed, error-placed, reject-placed) depth 12
 
 -- ---- a component
 
 entered-told : (s : List ℕ) → Ends Told 0 (length s) (enteredAny (0xa1 ∷ 0xa2 ∷ 0xa3 ∷ 0xa4 ∷ []) outside (named 5) s 0 (length s))
 unfolding enteredAny after blamed
 entered-told s =
-    pick (Ends Told 0 e) (leb e 0) _ _ (λ q. (low e (omega arith) (omega arith), omega arith, omega arith)) (λ q.
-    pick (Ends Told 0 e) (oneOf _ (getD s 0 0)) _ _ (λ q. go (lengthAt 0 s 1 e) refl (length-ends 0 s 1 e)) (λ q. (low 0 (omega arith) (omega arith), omega arith, omega arith)))
+    pick (Ends Told 0 e) (leb e 0) _ _ (λ q. (inl (omega arith), omega arith, omega arith)) (λ q.
+    pick (Ends Told 0 e) (oneOf _ (getD s 0 0)) _ _ (λ q. go (lengthAt 0 s 1 e) refl (length-ends 0 s 1 e)) (λ q. (inl (omega arith), omega arith, omega arith)))
   where
     e : ℕ
     e = length s
@@ -321,7 +295,7 @@ entered-told s =
         → Ends Told 0 e (after (blamed outside x) (λ v next. cond (eqb next e) (got v next) (halt (named 5) next)))
     go (got v n) q h =
         let r = read-element s 0 e v n q in
-        pick (Ends Told 0 e) (eqb n e) _ _ (λ z. (omega arith, r .1)) (λ z. (low n (omega arith) (omega arith), omega arith, r .1))
+        pick (Ends Told 0 e) (eqb n e) _ _ (λ z. (omega arith, r .1)) (λ z. (inl (omega arith), omega arith, r .1))
     go (halt w p) q h = (outside-told w p (h .0), omega arith, omega (arith, h .1))
 
 component-told : (s : List ℕ) → Ends Told 0 (length s) (component .read s 0 (length s))
@@ -342,4 +316,4 @@ component-told s =
 pub whole-told : (s : List ℕ) → Ends Told 0 (length s) (readWhole s)
 unfolding readWhole
 whole-told s =
-    pick (Ends Told 0 (length s)) (ltb 254 (length s)) _ _ (λ q. (low 0 (omega arith) (omega arith), omega arith, omega arith)) (λ q. component-told s)
+    pick (Ends Told 0 (length s)) (ltb 254 (length s)) _ _ (λ q. (inl (omega arith), omega arith, omega arith)) (λ q. component-told s)

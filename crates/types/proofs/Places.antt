@@ -1,21 +1,19 @@
 -- Where a reading ends, and by which faults: between its place and the end of the enclosing element.
 -- Assumes nothing.
-use Prim.Native.Nat.{ℕ, zero, suc, _+_, _-_, _≤_, _<_}
-use mathlib.Core.Path.{_≡_, refl, ap, sym, _∙_, subst}
+use Prim.Native.Nat.{ℕ, zero, suc, _+_, _-_, _≤_}
+use mathlib.Core.Path.{_≡_, refl, subst}
 use mathlib.Core.List.{List, [], _∷_}
 use mathlib.Core.Bool.{Bool, true, false, cond}
-use mathlib.Core.Option.{Option, none, some}
-use mathlib.Core.Logic.{_⊎_, inl, inr}
 use native.Mathlib.Omega.{arith}
-use lib.ListN.{length, getD, take, drop}
+use lib.ListN.{length, getD}
 use lib.Dec.{ltb, leb, eqb}
-use borrow.Author.Tests.{ltb-true, ltb-false, leb-true, leb-false, eqb-true}
 use Rattle.coding.specs.declared.Extent.{Extent}
-use Rattle.coding.specs.Reader.{Ans, Fault, Ruling, after, choice, tagged, neither, extent, numberedAt, endless, marker, turn, searched, findEnd, spanned, lengthAt, opened, blamed, closed, constructed, enteredAny, part, mapped, narrowed, ruled, primitive, optional, entries, listOf}
+use Rattle.coding.specs.Reader.{Ans, Fault, Ruling, after, choice, tagged, neither, extent, numberedAt, endless, marker, turn, searched, findEnd, spanned}
+use Rattle.coding.specs.Reader.{lengthAt, opened, closed, constructed, part, mapped, narrowed, ruled, primitive, optional, entries, listOf}
 use Rattle.coding.specs.Reader.Ans.{got, halt}
 use Rattle.coding.specs.Reader.Ruling.{good, bad}
 use Rattle.coding.specs.Reader.Fault.{missing, unexpected, cut, form, shortest, contents, limit, named}
-use Rattle.coding.specs.Codec.{Leaf, Run, oneOf, prim, cons, nothing, pair, alt, over, shape, canonical, maybe, some·more, leafOver, leads, barring, marked, sort, pickRun}
+use Rattle.coding.specs.Codec.{Leaf, Run, oneOf, prim, cons, nothing, pair, alt, over, shape, canonical, maybe, some·more, leafOver, leads, barring, sort, pickRun}
 use Rattle.coding.specs.Contents.{natural, valueOf, negative, numberFrom, text, every, null}
 use Rattle.coding.specs.Contents as Contents
 use Rattle.coding.specs.Leaves.{number, string, nullLeaf, inOctets, integer, identifier, listing, listed, only}
@@ -326,3 +324,8 @@ module _ (P : Fault → ℕ → Type 0) (plain : (w : Fault) (p : ℕ) → Plain
         go : (x : Ruling A) → Blames P x → Blames P (mapped to x)
         go (good v) h = tt
         go (bad w) h = h
+
+-- what places the faults of a type, and blames its contents
+pub ruleset blaming = (number-blames, string-blames, null-blames, identifier-blames, listed-blames, only-blames, leaf-over-blames)
+
+pub ruleset placing = (blaming, prim-placed, cons-placed, sort-placed, barring-placed, maybe-placed, some-placed, nothing-placed, pair-placed, alt-placed, over-placed, shape-placed, canonical-placed)

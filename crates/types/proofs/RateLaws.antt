@@ -27,7 +27,8 @@ use Rattle.types.specs.declared.Money.{Money}
 use Rattle.types.specs.declared.Scaled.{Scaled}
 use Rattle.types.specs.declared.Rate.{Rate}
 use Rattle.types.specs.Charges.{flag, zeroOctet, currencyLeaf, currency, scaled, money}
-use Rattle.types.specs.Rates.{scaledOr0, noRate, moneyOf, timeOf, stepOf, sameRate, isRate, duration, flatRate, volume, coded, plainRate, price, itemised, rate, rateNumbers, rateOctets, rateAt, rateRows, rateList}
+use Rattle.types.specs.Rates.{scaledOr0, noRate, moneyOf, timeOf, stepOf, sameRate, isRate, duration, flatRate, volume, coded}
+use Rattle.types.specs.Rates.{plainRate, price, itemised, rate, rateNumbers, rateOctets, rateAt, rateRows, rateList}
 use Rattle.types.proofs.PartLaws.{numberAt, pair-left, pair-right, scaledLaws, moneyLaws}
 
 pub rateEqual : Equal sameRate
