@@ -10,13 +10,18 @@ P <service> <charge>     price            <number> <free> <count> <currency> <bi
 A <event>;<event>;...    account          outcome,service,phase,rate,running,closing,its service,marks,pending,identifiers;...
 D <event>;~<event>;...   the same of a list from which the events with ~ are left out: here the whole list is judged, and the answers
                          of the events that remain are given; the library is given those events alone
+Z <account> <event> <hex> an account of any 1,488 octets, and one event: its ten octets, and those beside it. First the account that it
+                         leaves, then what is read off that, marks and pending as their octets:
+                         outcome,service,first 16 octets,rate,running,final of D,final of E,phase,rate,running,closing,its service,marks,pending
 Y <rows> <hex>           why no price     <number> <reason> <event>
 
 Events: S <id>,<id>,<id> Setup, C Connect, X Clear, L Released, P Suspend, U Resume, M<hex> Component.
 
 A row's six numbers are four hex digits each. Hex is small and without spaces. An empty last field leaves the space before it.
+A figure is - where all of it is zero, else a checksum of its octets; after `python3 answer.py octets` it is the octets themselves.
 """
 
+import struct
 import sys
 import zlib
 
@@ -25,6 +30,8 @@ import price
 import why
 
 NO_RECORD = "00" * 376
+NO_FIGURE = bytes(368)
+whole_figures = False
 
 
 def answer_read(rest):
@@ -81,8 +88,14 @@ def do(account, event):
     return account.component(bytes.fromhex(event[1:]))
 
 
+def shown(octets):
+    if octets == NO_FIGURE:
+        return "-"
+    return octets.hex() if whole_figures else f"{zlib.crc32(octets):08x}"
+
+
 def figure(charge):
-    return "-" if charge is None else f"{zlib.crc32(aoc.pack_charge(charge)):08x}"
+    return "-" if charge is None else shown(aoc.pack_charge(charge))
 
 
 def bits(services):
@@ -103,6 +116,18 @@ def answer_account(rest):
     return ";".join(answers)
 
 
+def answer_held(rest):
+    held, event, octets = map(bytes.fromhex, rest.split(" "))
+    account = aoc.Account(aoc.start_of(held))
+    outcome = account.event_of(event, octets)
+    left, (asked, ids) = account.octets, zip(*account.requests)
+    return ",".join((
+        str(outcome), str(account.service),
+        left[:16].hex(), *(shown(left[at:at + 368]) for at in range(16, 1488, 368)),
+        str(account.phase), figure(account.rate), figure(account.running), figure(account.closing), str(account.closing_service),
+        bytes(account.unavailable_marks + account.conflict_marks).hex(), struct.pack("<3B x 3H", *asked, *ids).hex()))
+
+
 def answer_why(rest):
     rows, octets = rest.split(" ")
     numbers = [int(rows[i:i + 4], 16) for i in range(0, len(rows), 4)]
@@ -111,7 +136,7 @@ def answer_why(rest):
 
 ANSWERS = {"R": answer_read, "W": answer_write, "E": answer_element, "J": answer_reply,
            "T": answer_thousandths, "N": answer_next, "A": answer_account, "D": answer_account, "Y": answer_why,
-           "P": answer_price}
+           "P": answer_price, "Z": answer_held}
 
 
 def answer(line):
@@ -119,6 +144,8 @@ def answer(line):
 
 
 def main():
+    global whole_figures
+    whole_figures = sys.argv[1:] == ["octets"]
     for line in sys.stdin:
         sys.stdout.write(answer(line.rstrip("\n")) + "\n")
 

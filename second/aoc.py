@@ -112,8 +112,18 @@ def _charge_values(charge):
             *charge.list.numbers, bytes(charge.list.octets))
 
 
+def _charge_of(v):
+    money = Money(Currency(v[0], list(v[1])), v[2], v[3])
+    association = Association(v[4], v[5], v[6], v[7], list(v[8]))
+    return Charge(Figure(money, association, *v[9:15]), List(list(v[15:47]), list(v[47])))
+
+
 def pack_charge(charge):
     return _charge_layout.pack(*_charge_values(charge))
+
+
+def unpack_charge(octets):
+    return _charge_of(_charge_layout.unpack(octets))
 
 
 def pack(record):
@@ -124,10 +134,7 @@ def pack(record):
 
 def unpack(octets):
     v = _record_layout.unpack(octets)
-    money = Money(Currency(v[7], list(v[8])), v[9], v[10])
-    association = Association(v[11], v[12], v[13], v[14], list(v[15]))
-    figure = Figure(money, association, *v[16:22])
-    return Record(*v[:7], Charge(figure, List(list(v[22:54]), list(v[54]))))
+    return Record(*v[:7], _charge_of(v[7:]))
 
 
 # ---------------------------------------------------------------- reading
@@ -886,6 +893,44 @@ ALLOWED = {
     RESUME: (SUSPENDED,),
 }
 AFTER = {SETUP: ESTABLISHMENT, CONNECT: ACTIVE, CLEAR: CLEARING, RELEASED: ENDED, SUSPEND: SUSPENDED, RESUME: ACTIVE}
+KIND = {1: SETUP, 2: CONNECT, 3: CLEAR, 4: RELEASED, 5: COMPONENT, 6: SUSPEND, 7: RESUME}
+NO_REQUEST = (0, 0)  # a mark and an identifier
+
+# Phase; S, D and E: marks of the requests, their identifiers, marks of "not available" and of conflict; then the figures.
+_account_layout = struct.Struct("<B 3B 3H 3B 3B 368s 368s 368s 368s")
+_event_layout = struct.Struct("<B 3B 3H")
+assert _account_layout.size == 1488 and _event_layout.size == 10
+
+
+@dataclass(slots=True)
+class Start:
+    """What an account's octets say, whatever they hold. Any mark but 0 is one; a figure of kind NOTHING is none."""
+
+    phase: int
+    requests: list      # of S, D, E: (mark, identifier)
+    unavailable: tuple  # marks of S, D, E
+    conflict: tuple
+    rate: Charge
+    running: Charge
+    finals: dict        # of D and E
+
+
+def start_of(octets):
+    v = _account_layout.unpack(octets)
+    rate, running, d, e = map(unpack_charge, v[13:])
+    return Start(v[0], list(zip(v[1:4], v[4:7])), v[7:10], v[10:13], rate, running, {D: d, E: e})
+
+
+FRESH = start_of(bytes(1488))
+
+
+def holder(requests, record):
+    """The service whose pending request has the record's identifier: the first, where memory holds one identifier twice."""
+    if not record.unnamed:
+        for service, (mark, i) in enumerate(requests):
+            if mark and i == record.id:
+                return service
+    return None
 
 
 def same_currency(a, b):
@@ -915,10 +960,13 @@ def same_final(a, b):
 
 
 class Account:
-    """A reading over the list of events: nothing is kept but (event, outcome, record)."""
+    """A reading over the list of events: nothing is kept but (event, outcome, record), and what stood at the start.
 
-    def __init__(self):
-        self.events = []
+    What the list says nothing of yet is as the start has it.
+    """
+
+    def __init__(self, start=FRESH):
+        self.start, self.events = start, []
 
     # The events; each gives its outcome.
 
@@ -958,8 +1006,22 @@ class Account:
                 outcome = self._outcome(record)
         return self._keep((COMPONENT, octets), outcome, record)
 
+    def event(self, kind, ids, octets):
+        """An event by its number, which may be none's, with a Setup's identifiers and a component's octets."""
+        name = KIND.get(kind)
+        if name == SETUP:
+            return self.setup(*ids)
+        if name == COMPONENT:
+            return self.component(octets)
+        return self._phase_event(name)
+
+    def event_of(self, packed, octets):
+        """The same of an event's ten octets; any mark but 0 asks for a service."""
+        kind, *rest = _event_layout.unpack(packed)
+        return self.event(kind, [i if mark else None for mark, i in zip(rest[:3], rest[3:])], octets)
+
     def _phase_event(self, event):
-        return self._keep((event,), 0 if self.phase in ALLOWED[event] else WRONG_PHASE)
+        return self._keep((event,), 0 if self.phase in ALLOWED.get(event, ()) else WRONG_PHASE)
 
     def _keep(self, event, outcome, record=None):
         self.events.append((event, outcome, record))
@@ -972,8 +1034,8 @@ class Account:
             return 27
         if record.frame == INVOKE:
             return self._invoke(record)
-        service = self._asked_by(record)
-        if service is None or service not in self.pending:
+        service = holder(self.requests, record)
+        if service is None:
             return 30
         if record.frame == RESULT:
             given = record.charge.figure.kind != NOTHING
@@ -1000,58 +1062,56 @@ class Account:
                 return 27
         elif phase != CLEARING:
             return 27
-        first = self._final(service)
-        if first is None:
+        first = self.final(service)
+        if first.figure.kind == NOTHING:
             return 22
         return 28 if same_final(first, record.charge) else 29
 
-    # What the list says.
+    # What the list says, or else the start.
 
-    def _asked_by(self, record):
-        """The service that the accepted Setup asked for with the record's identifier."""
-        if not record.unnamed:
-            for event, outcome, _ in self.events:
-                if event[0] == SETUP and outcome == 0:
-                    return {i: service for service, i in enumerate(event[1:])}.get(record.id)
-        return None
+    def _requests_after(self, events):
+        """Of S, D and E: as the accepted Setup named it, and none after its 24 or 25."""
+        found = list(self.start.requests)
+        for event, outcome, record in events:
+            if event[0] == SETUP and outcome == 0:
+                found = [NO_REQUEST if i is None else (1, i) for i in event[1:]]
+            elif outcome in (24, 25):
+                found[holder(found, record)] = NO_REQUEST
+        return found
 
-    def _earlier(self, number):
-        """The records of the components with that outcome."""
-        return [record for _, outcome, record in self.events if outcome == number]
+    def _marks(self, number, before):
+        """Of S, D and E: 1 where a component of the service had that outcome."""
+        services = {SERVICE[record.operation] for _, outcome, record in self.events if outcome == number}
+        return [1 if service in services else mark for service, mark in enumerate(before)]
 
-    def _services(self, number):
-        return {SERVICE[record.operation] for record in self._earlier(number)}
-
-    def _final(self, service):
-        for record in self._earlier(22):
-            if SERVICE[record.operation] == service:
+    def _last(self, fits, before):
+        """The figure of the last component whose outcome and record fit."""
+        for _, outcome, record in reversed(self.events):
+            if fits(outcome, record):
                 return record.charge
-        return None
+        return before
 
     @property
     def phase(self):
         for event, outcome, _ in reversed(self.events):
             if outcome == 0:
                 return AFTER[event[0]]
-        return IDLE
+        return self.start.phase
+
+    @property
+    def requests(self):
+        """Of S, D and E: (mark, identifier)."""
+        return self._requests_after(self.events)
 
     @property
     def pending(self):
         """The services whose request has had no 24 or 25."""
-        for event, outcome, _ in self.events:
-            if event[0] == SETUP and outcome == 0:
-                over = {record.id for record in self._earlier(24) + self._earlier(25)}
-                return {service for service, i in enumerate(event[1:])
-                        if i is not None and i not in over}
-        return set()
+        return {service for service, (mark, _) in enumerate(self.requests) if mark}
 
     @property
     def pending_identifiers(self):
-        """Of S, D and E; 0 where no request is pending."""
-        for event, outcome, _ in self.events:
-            if event[0] == SETUP and outcome == 0:
-                return [i if service in self.pending else 0 for service, i in enumerate(event[1:])]
-        return [0, 0, 0]
+        """Of S, D and E; 0 where the list named no request, or ended it."""
+        return [i for _, i in self.requests]
 
     @property
     def service(self):
@@ -1062,42 +1122,62 @@ class Account:
         if record.frame == INVOKE:
             return 0 if record.operation == 30 else 1 + SERVICE[record.operation]
         # A result, an error or a reject has its request's service, but in Suspended no request is looked for.
-        return 0 if outcome == 27 else 1 + self._asked_by(record)
+        return 0 if outcome == 27 else 1 + holder(self._requests_after(self.events[:-1]), record)
+
+    @property
+    def unavailable_marks(self):
+        return self._marks(23, self.start.unavailable)
+
+    @property
+    def conflict_marks(self):
+        return self._marks(29, self.start.conflict)
 
     @property
     def unavailable(self):
-        return self._services(23)
+        return {service for service, mark in enumerate(self.unavailable_marks) if mark}
 
     @property
     def conflict(self):
-        return self._services(29)
+        return {service for service, mark in enumerate(self.conflict_marks) if mark}
+
+    # Figures; where there is none, one of kind NOTHING.
 
     @property
     def rate(self):
-        for _, outcome, record in reversed(self.events):
-            if outcome == 20 or outcome == 24 and self._asked_by(record) == S:
-                return record.charge
-        return None
+        # A 24 that has a charge is S's: only there does it fit.
+        return self._last(lambda outcome, record: outcome == 20 or outcome == 24 and record.charge.figure.kind != NOTHING,
+                          self.start.rate)
 
     @property
     def running(self):
-        for _, outcome, record in reversed(self.events):
-            if outcome == 21:
-                return record.charge
-        return None
+        return self._last(lambda outcome, record: outcome == 21, self.start.running)
 
-    @property
-    def closing(self):
-        if self.phase != ENDED:
-            return None
-        return self._final(E) or self._final(D)
+    def final(self, service):
+        """The first of D or E. Where the start has one, the list has no 22 of the service."""
+        for _, outcome, record in self.events:
+            if outcome == 22 and SERVICE[record.operation] == service:
+                return record.charge
+        return self.start.finals[service]
 
     @property
     def closing_service(self):
         """3 E, 2 D; 0 where there is no closing figure."""
-        if self.closing is None:
-            return 0
-        return 1 + (D if self._final(E) is None else E)
+        if self.phase == ENDED:
+            for service in (E, D):
+                if self.final(service).figure.kind != NOTHING:
+                    return 1 + service
+        return 0
+
+    @property
+    def closing(self):
+        return self.final(self.closing_service - 1) if self.closing_service else None
+
+    @property
+    def octets(self):
+        """All of it, as the library keeps it."""
+        marks, ids = zip(*self.requests)
+        return _account_layout.pack(self.phase, *marks, *ids, *self.unavailable_marks, *self.conflict_marks, *map(
+            pack_charge, (self.rate, self.running, self.final(D), self.final(E))))
 
 
 # ---------------------------------------------------------------- the line program

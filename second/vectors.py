@@ -279,7 +279,7 @@ def lists():
     check("closing 12", made.closing, charge2)
 
     made, outcomes = account(REQUEST_D, CONNECT, C1)
-    check("pending", (outcomes, made.pending, made.running), ([0, 26], {D}, None))
+    check("pending", (outcomes, made.pending, made.running), ([0, 26], {D}, aoc.Charge()))
     check("C4", (made.component(C4), made.pending), (24, set()))
     check("C1 after C4", (made.component(C1), made.running), (21, charge1))
 
@@ -401,7 +401,7 @@ PARKED = (
     ("setup - - -; connect; suspend; resume; D-sub; clear; released", "0 0 0 0 21D 0 0", {"running": "D-sub", "phase": aoc.ENDED}),
     ("setup - - -; connect; D-sub; suspend; D-sub2; resume; clear; released", "0 0 21D 0 27D 0 0 0", {"running": "D-sub"}),
     ("setup - - -; connect; suspend; S-10; D-free; D-na; E-12; ask-D; rej-NULL; res-5", "0 0 0 27S 27D 27D 27E 27 27 27",
-     {"rate": None, "unavailable": set()}),
+     {"rate": aoc.Charge(), "unavailable": set()}),
     ("setup - 5 -; connect; suspend; res-5; err-5; resume; D-sub; res-5; D-sub", "0 0 0 27 27 0 26D 24D 21D", {"running": "D-sub"}),
     ("setup - 5 -; connect; suspend; D-sub", "0 0 0 27D", {"pending": {D}}),
     ("setup - - -; connect; suspend; bad; empty", "0 0 0 BAD 1", {"phase": aoc.SUSPENDED}),
@@ -487,6 +487,77 @@ def dropped():
                 check("a remaining event", answer.do(part, event), outcome)
         for what in ("phase", "pending", "pending_identifiers", "unavailable", "conflict", "rate", "running", "closing"):
             check(f"{what} without noise", getattr(part, what), getattr(whole, what))
+
+
+def held():
+    """A list cut in two, its second part with the account's octets as the start, says what the whole list says."""
+    check("a fresh account", aoc.Account().octets, bytes(1488))
+    rng = random.Random(13)
+    for _ in range(300):
+        events = inputs.account_input(rng, 12)[2:].split(";")
+        whole, cut = aoc.Account(), rng.randrange(len(events))
+        for number, event in enumerate(events):
+            if number == cut:
+                part = aoc.Account(aoc.start_of(whole.octets))
+            outcome = answer.do(whole, event)
+            if number >= cut:
+                check("gone on with", (answer.do(part, event), part.service, part.octets, part.closing),
+                      (outcome, whole.service, whole.octets, whole.closing))
+
+
+# An account that no call has: what is written over a fresh one from which place, an event's octets or a component, then the
+# outcome with its service, and what is written over that account afterwards.
+NONSENSE = (
+    # no event is allowed in a phase that is none, and no kind but 1 to 7 is an event's
+    (((0, "06"),), "01 000000 0000 0000 0000", "14", ()),
+    (((0, "FF"),), C1, "14", ()),
+    ((), "00 000000 0000 0000 0000", "14", ()),
+    (((0, "02"),), "08 000000 0000 0000 0000", "14", ()),
+    (((0, "02"),), "85 000000 0000 0000 0000", "14", ()),
+    # any mark but 0 asks, and is kept as 1; what else the account holds stays
+    (((1, "FF FF FF 07 00"), (10, "80"), (16, "55")), "01 800002 0500 0500 FFFF", "0", ((0, "01 01 00 01 05 00 00 00 FF FF"),)),
+    (((16, "55"),), "01 80FF00 0500 0500 0000", "13", ()),
+    # any mark but 0 is a pending request; an identifier without one is none's
+    (((0, "02 00 80 00 00 00 05 00"),), C1, "26D", ()),
+    (((0, "02 00 80 00 00 00 05 00"),), C4, "24D", ((2, "00"), (6, "00"))),
+    (((0, "02 00 00 00 00 00 05 00"),), C4, "30", ()),
+    # one identifier twice: the first request's
+    (((0, "02 01 02 03 05 00 05 00 05 00"),), C5, "25S", ((1, "00"), (4, "00"))),
+    (((0, "02 00 02 03 05 00 05 00 05 00"),), C4, "24D", ((2, "00"), (6, "00"))),
+    (((0, "02 01 02 03 05 00 05 00 05 00"),), C4, "31S", ()),
+    # a mark that is set is 1, whatever it was
+    (((0, "02"), (10, "80 80 80")), octets("A1 08 02 01 03 02 01 21 05 00"), "23D", ((11, "01"),)),
+    (((0, "03"), (13, "80 80 80"), (1162, "09")), C2, "29E", ((15, "01"),)),
+    # a figure of kind 0 is none, whatever else it holds
+    (((0, "03"), (1120, "55" * 42), (1163, "55" * 325)), C7, "22E", ((1120, "00" * 368), (1162, "01"))),
+    (((0, "03"), (1120, "55" * 42 + "01" + "55" * 325)), C7, "28E", ()),
+    # a currency's count past its places, and a multiplier past 6
+    (((0, "03"), (752, "FF 20 20 20 20 20 20 20 20 20 20 07 FF FF FF FF"), (794, "02")),
+     octets("A1 1A 02 01 01 02 01 21 30 12 A1 0D 81 03 20 20 20 A2 06 81 01 00 82 01 06 82 01 01"), "28D", ()),
+    (((0, "03"), (752, "FF 45 55 52 20 20 20 20 20 20 20 06 00 00 00 00"), (794, "02")),
+     octets("A1 1A 02 01 01 02 01 21 30 12 A1 0D 81 03 45 55 52 A2 06 81 01 00 82 01 00 82 01 01"), "28D", ()),
+    (((0, "03"), (752, "FF 45 55 52 20 20 20 20 20 20 53 06 00 00 00 00"), (794, "02")),
+     octets("A1 1A 02 01 01 02 01 21 30 12 A1 0D 81 03 45 55 52 A2 06 81 01 00 82 01 00 82 01 01"), "29D", ((14, "01"),)),
+    # a list of units longer than any
+    (((0, "03"), (1162, "03 00 00 00 00 FF")), C2, "29E", ((15, "01"),)),
+)
+
+
+def written_over(account, places):
+    account = bytearray(account)
+    for place, text in places:
+        account[place:place + len(octets(text))] = octets(text)
+    return bytes(account)
+
+
+def nonsense():
+    for number, (before, event, wanted, after) in enumerate(NONSENSE, 1):
+        account = written_over(bytes(1488), before)
+        made = aoc.Account(aoc.start_of(account))
+        check("read and laid out", made.octets, account)
+        outcome = made.component(event) if isinstance(event, bytes) else made.event_of(octets(event), b"")
+        check(f"nonsense {number}", f"{outcome}{'-SDE'[made.service]}".rstrip("-"), wanted)
+        check(f"nonsense {number}: the account", made.octets.hex(), written_over(account, after).hex())
 
 
 def closing(charge, service, **fields):
@@ -588,6 +659,8 @@ def main():
     reasons()
     parked()
     dropped()
+    held()
+    nonsense()
     passes()
     prices()
     line_program()

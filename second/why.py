@@ -25,20 +25,8 @@ def split(rows, octets):
 
 def judged(events):
     """(outcome, record) of each event, and the account after them."""
-    account, seen = aoc.Account(), []
-    plain = {2: "connect", 3: "clear", 4: "released", 6: "suspend", 7: "resume"}
-    for kind, ids, octets in events:
-        record = None
-        if kind == 1:
-            outcome = account.setup(*ids)
-        elif kind == 5:
-            outcome = account.component(octets)
-            record = account.events[-1][2]
-        elif kind in plain:
-            outcome = getattr(account, plain[kind])()
-        else:
-            outcome = aoc.WRONG_PHASE
-        seen.append((outcome, record))
+    account = aoc.Account()
+    seen = [(account.event(*event), account.events[-1][2]) for event in events]
     return account, seen
 
 

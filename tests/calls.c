@@ -1,9 +1,6 @@
-/* The C library's account of a call: the lists of events of the specification, every event in every phase, refusals that
- * leave the account as it was, and accounts with nonsense in them. */
+/* The C library's account of a call: the lists of events of the specification, every event in every phase, and refusals that
+ * leave the account as it was. Accounts with nonsense in them are compared with the second program (tests/compare.sh). */
 #include "check.h"
-#include "components.h"
-
-enum { VALID = sizeof valid / sizeof *valid };
 
 static const char *const C1 = "A1 1A 02 01 01 02 01 21 30 12 A1 0D 81 03 45 55 52 A2 06 81 01 32 82 01 01 82 01 00";
 static const char *const C2 = "A1 11 02 01 02 02 01 24 30 09 30 07 A1 05 30 03 02 01 0C";
@@ -17,8 +14,6 @@ static const char *const C8 = "A1 09 02 01 06 02 01 20 02 01 0A";
 static const char *const TOTAL = "A1 1A 02 01 01 02 01 21 30 12 A1 0D 81 03 45 55 52 A2 06 81 01 32 82 01 01 82 01 01";
 static const char *const SAME_TOTAL =
     "A1 1E 02 01 01 02 01 21 30 16 A1 0E 81 03 45 55 52 A2 07 81 02 01 F4 82 01 00 82 01 01 83 01 01";
-static const char *const PADDED_TOTAL =
-    "A1 1D 02 01 01 02 01 21 30 15 A1 10 81 05 45 55 52 20 20 A2 07 81 02 01 F4 82 01 00 82 01 01";
 static const char *const D_ABSENT = "A1 08 02 01 03 02 01 21 05 00";
 static const char *const S_RESULT = "A2 0B 02 01 05 30 06 02 01 1E 02 01 01";
 static const char *const REJECT_5 = "A4 06 02 01 05 81 01 01";
@@ -345,231 +340,6 @@ static void test_refusals(void)
     }
 }
 
-/* ------------------------------------------------------------------ accounts with nonsense in them */
-
-static uint8_t mark_of(const aoc_services *set, int service)
-{
-    return service == AOC_SERVICE_S ? set->s : service == AOC_SERVICE_D ? set->d : service == AOC_SERVICE_E ? set->e : 0;
-}
-
-static uint64_t value_of(const aoc_money *m)
-{
-    uint64_t value = m->number;
-    if (m->multiplier > 6)
-        return 0;
-    for (int i = 0; i < m->multiplier; i++)
-        value *= 10;
-    return value;
-}
-
-/* How many octets a currency has before its trailing spaces; a count past its places counts them all. */
-static size_t text_of(const aoc_currency *c)
-{
-    size_t n = c->count < sizeof c->octets ? c->count : sizeof c->octets;
-    while (n && c->octets[n - 1] == 0x20)
-        n--;
-    return n;
-}
-
-/* Whether a final is the same as the first, which may be nonsense. */
-static int same(const aoc_charge *first, const aoc_charge *c)
-{
-    if (first->kind != c->kind)
-        return 0;
-    if (c->kind == AOC_CHARGE_MONEY)
-        return text_of(&first->money.currency) == text_of(&c->money.currency) && value_of(&first->money) == value_of(&c->money) &&
-               !memcmp(first->money.currency.octets, c->money.currency.octets, text_of(&c->money.currency));
-    if (c->kind == AOC_CHARGE_UNITS)
-        return first->count == c->count && !memcmp(first->numbers, c->numbers, 4 * c->count) &&
-               !memcmp(first->octets, c->octets, 2 * c->count);
-    return 1;
-}
-
-/* The rules of the specification over an account, whatever it holds: the outcome, and the account after it. */
-static aoc_outcome by_the_rules(aoc_account *a, aoc_event e, const uint8_t *octets, size_t n)
-{
-    static const aoc_outcome wrong_phase = {AOC_REFUSED_WRONG_PHASE, 0}, bad_setup = {AOC_REFUSED_BAD_SETUP, 0}, none = {0, 0};
-    int parked = a->phase == AOC_PHASE_SUSPENDED;
-    int heard = (a->phase >= AOC_PHASE_ESTABLISHMENT && a->phase <= AOC_PHASE_CLEARING) || parked;
-    switch (e.kind) {
-    case AOC_EVENT_SETUP:
-        if (a->phase != AOC_PHASE_IDLE)
-            return wrong_phase;
-        if ((e.asked.s && e.asked.d && e.s == e.d) || (e.asked.s && e.asked.e && e.s == e.e) ||
-            (e.asked.d && e.asked.e && e.d == e.e))
-            return bad_setup;
-        a->phase = AOC_PHASE_ESTABLISHMENT;
-        a->asked.s = e.asked.s != 0;
-        a->asked.d = e.asked.d != 0;
-        a->asked.e = e.asked.e != 0;
-        a->s = e.asked.s ? e.s : 0;
-        a->d = e.asked.d ? e.d : 0;
-        a->e = e.asked.e ? e.e : 0;
-        return none;
-    case AOC_EVENT_CONNECT:
-        if (a->phase != AOC_PHASE_ESTABLISHMENT)
-            return wrong_phase;
-        a->phase = AOC_PHASE_ACTIVE;
-        return none;
-    case AOC_EVENT_CLEAR:
-        if (a->phase != AOC_PHASE_ESTABLISHMENT && a->phase != AOC_PHASE_ACTIVE && !parked)
-            return wrong_phase;
-        a->phase = AOC_PHASE_CLEARING;
-        return none;
-    case AOC_EVENT_RELEASED:
-        if (a->phase != AOC_PHASE_CLEARING)
-            return wrong_phase;
-        a->phase = AOC_PHASE_ENDED;
-        return none;
-    case AOC_EVENT_SUSPEND:
-        if (a->phase != AOC_PHASE_ACTIVE)
-            return wrong_phase;
-        a->phase = AOC_PHASE_SUSPENDED;
-        return none;
-    case AOC_EVENT_RESUME:
-        if (!parked)
-            return wrong_phase;
-        a->phase = AOC_PHASE_ACTIVE;
-        return none;
-    case AOC_EVENT_COMPONENT:
-        if (!heard)
-            return wrong_phase;
-        break;
-    default:
-        return wrong_phase;
-    }
-
-    aoc_answer answer = read_octets(octets, n);
-    const aoc_record *r = &answer.record;
-    const aoc_charge *c = &r->charge;
-    aoc_outcome o = {(uint8_t)answer.refusal, 0};
-    if (answer.refusal)
-        return o;
-    if (parked && r->frame != AOC_FRAME_INVOKE) {
-        o.number = AOC_OUTCOME_OUT_OF_PHASE;
-        return o;
-    }
-    if (r->frame == AOC_FRAME_INVOKE) {
-        o.number = parked ? AOC_OUTCOME_OUT_OF_PHASE : AOC_OUTCOME_NOT_OURS;
-        if (r->operation == AOC_OPERATION_CHARGING_REQUEST)
-            return o;
-        o.service = r->operation <= 32 ? AOC_SERVICE_S : r->operation <= 34 ? AOC_SERVICE_D : AOC_SERVICE_E;
-        int is_free = c->kind == AOC_CHARGE_FREE, d = o.service == AOC_SERVICE_D;
-        aoc_charge *first = d ? &a->d_final : &a->e_final;
-        if (parked) {
-            o.number = AOC_OUTCOME_OUT_OF_PHASE;
-        } else if (mark_of(&a->asked, o.service)) {
-            o.number = AOC_OUTCOME_IGNORED;
-        } else if (c->kind == AOC_CHARGE_NONE) {
-            o.number = AOC_OUTCOME_NOT_AVAILABLE;
-            a->absent = aoc_with_service(a->absent, o.service);
-        } else if (o.service == AOC_SERVICE_S) {
-            o.number = AOC_OUTCOME_NEW_RATE;
-            a->rate = *c;
-        } else if (d && (is_free ? a->phase != AOC_PHASE_CLEARING : !c->total && a->phase == AOC_PHASE_ACTIVE)) {
-            o.number = AOC_OUTCOME_NEW_RUNNING;
-            a->running = *c;
-        } else if (a->phase != AOC_PHASE_CLEARING || (d && !is_free && !c->total)) {
-            o.number = AOC_OUTCOME_OUT_OF_PHASE;
-        } else if (first->kind == AOC_CHARGE_NONE) {
-            o.number = AOC_OUTCOME_FINAL;
-            *first = *c;
-        } else if (same(first, c)) {
-            o.number = AOC_OUTCOME_REPEATED;
-        } else {
-            o.number = AOC_OUTCOME_CONFLICT;
-            a->conflict = aoc_with_service(a->conflict, o.service);
-        }
-        return o;
-    }
-    o.number = AOC_OUTCOME_NO_REQUEST;
-    int holder = a->asked.s && a->s == r->id ? AOC_SERVICE_S : a->asked.d && a->d == r->id ? AOC_SERVICE_D : a->asked.e && a->e == r->id ? AOC_SERVICE_E : 0;
-    if (r->unnamed || !holder)
-        return o;
-    o.service = (uint8_t)holder;
-    o.number = AOC_OUTCOME_FAILED;
-    if (r->frame == AOC_FRAME_RESULT) {
-        o.number = AOC_OUTCOME_MISFIT;
-        if ((holder == AOC_SERVICE_S) != (c->kind != AOC_CHARGE_NONE))
-            return o;
-        o.number = AOC_OUTCOME_GRANTED;
-        if (holder == AOC_SERVICE_S)
-            a->rate = *c;
-    }
-    if (holder == AOC_SERVICE_S)
-        a->asked.s = 0, a->s = 0;
-    else if (holder == AOC_SERVICE_D)
-        a->asked.d = 0, a->d = 0;
-    else
-        a->asked.e = 0, a->e = 0;
-    return o;
-}
-
-/* Reading off gives what stands in the account. */
-static void check_read_off(void)
-{
-    const aoc_account *a = &call.account;
-    aoc_account before = *a;
-    aoc_charge rate = aoc_rate_of(a), run = aoc_running_of(a);
-    aoc_closing closing = aoc_closing_of(a);
-    aoc_marks marks = aoc_marks_of(a);
-    aoc_pending pending = aoc_pending_of(a);
-    CHECK(!memcmp(&rate, &a->rate, sizeof rate) && !memcmp(&run, &a->running, sizeof run), "read off");
-    CHECK(!memcmp(&marks.absent, &a->absent, 3) && !memcmp(&marks.conflict, &a->conflict, 3), "read off");
-    CHECK(!memcmp(&pending.asked, &a->asked, 3) && pending.unused == 0, "read off");
-    CHECK(pending.s == a->s && pending.d == a->d && pending.e == a->e && aoc_phase_of(a) == a->phase, "read off");
-    const aoc_charge *closes = a->phase != AOC_PHASE_ENDED ? NULL : a->e_final.kind ? &a->e_final : a->d_final.kind ? &a->d_final : NULL;
-    uint32_t service = !closes ? AOC_SERVICE_NONE : closes == &a->e_final ? AOC_SERVICE_E : AOC_SERVICE_D;
-    CHECK(closing.service == service, "read off");
-    CHECK(closes ? !memcmp(&closing.charge, closes, sizeof *closes) : all(&closing.charge, sizeof closing.charge, 0), "read off");
-    CHECK(!memcmp(&before, a, sizeof before), "read off");
-}
-
-static void test_nonsense(void)
-{
-    static const char *const finals[] = {C2, C2_13, C6, C7, TOTAL, SAME_TOTAL, PADDED_TOTAL, C4, C5, S_RESULT, REJECT_5};
-    enum { FINALS = sizeof finals / sizeof *finals };
-    for (long turn = 0; turn < 100000; turn++) {
-        uint8_t octets[300], *a = (uint8_t *)&call.account;
-        size_t n = unhex(chance() & 1 ? finals[chance() % FINALS] : valid[chance() % VALID].hex, octets);
-        start();
-        if (turn % 4 == 0) {
-            /* all of it nonsense */
-            for (size_t i = 0; i < sizeof call.account; i++)
-                a[i] = (uint8_t)(chance() >> 40);
-        } else {
-            /* a final of the component's own, and some octets changed */
-            call.account.phase = AOC_PHASE_CLEARING;
-            call.account.d_final = call.account.e_final = read_octets(octets, n).record.charge;
-            if (chance() & 1)
-                n = unhex(finals[chance() % FINALS], octets);
-            for (int k = (int)(chance() % 4); k > 0; k--)
-                a[chance() % sizeof call.account] = (uint8_t)(chance() >> 40);
-            if (chance() & 1)
-                a[offsetof(aoc_account, d_final) + chance() % 48] ^= (uint8_t)(1 << chance() % 8);
-            if (chance() & 1)
-                a[offsetof(aoc_account, e_final) + chance() % 48] ^= (uint8_t)(1 << chance() % 8);
-        }
-        if (chance() & 1)
-            call.account.phase = (uint8_t)(chance() % 7);
-        if (chance() % 4 == 0)
-            call.account.d = 5;
-        check_read_off();
-        aoc_event event = {AOC_EVENT_COMPONENT, {0, 0, 0}, 0, 0, 0};
-        if (chance() % 4 == 0) {
-            uint64_t x = chance();
-            aoc_event other = {(uint8_t)(x % 9), {(uint8_t)(x >> 8 & 2), (uint8_t)(x >> 16 & 255), (uint8_t)(x >> 24 & 1)},
-                               (uint16_t)(x >> 32 & 3), (uint16_t)(x >> 40 & 3), (uint16_t)(x >> 48)};
-            event = other;
-        }
-        aoc_account expected = call.account;
-        aoc_outcome by_rules = by_the_rules(&expected, event, octets, n);
-        aoc_outcome o = aoc_step(&call.account, event, lend(octets, n), n);
-        CHECK(is(o, by_rules.number, by_rules.service), "an account with nonsense in it");
-        CHECK(!memcmp(&expected, &call.account, sizeof expected), "an account with nonsense in it");
-    }
-}
-
 int main(void)
 {
     make_edges();
@@ -579,6 +349,5 @@ int main(void)
     test_padded();
     test_parked();
     test_refusals();
-    test_nonsense();
     return report("calls");
 }

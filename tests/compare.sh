@@ -1,6 +1,6 @@
 #!/bin/sh
 # Compares the proved library and the line program with the second program: sh tests/compare.sh [SEED [COUNT]]
-# A differing answer is printed with its input and both answers, and fails.
+# A differing answer is printed with its input and both answers, of an account with the octets that differ, and fails.
 cd "$(dirname "$0")/.." || exit 2
 seed=${1:-1} count=${2:-200000}
 work=$(mktemp -d) || exit 2
@@ -11,25 +11,13 @@ python3 second/inputs.py "$seed" "$count" | tee "$work/inputs" | python3 second/
 [ "$(wc -l <"$work/second")" -eq "$count" ] || { echo "compare: the second program did not answer"; exit 1; }
 sh tools/exec "$work/driver" <"$work/inputs" >"$work/library" || exit 1
 
-# differences NAME INPUTS SECOND OURS: prints the first of them
+# differences NAME INPUTS SECOND OURS [DRIVER]: prints the first of them
 differences() {
     cmp -s "$3" "$4" && return 0
-    python3 - "$@" <<'END'
-import itertools, sys
-name, *files = sys.argv[1:]
-shown = 0
-for given, second, ours in itertools.zip_longest(*(open(f, "rb").read().split(b"\n") for f in files)):
-    if second != ours:
-        print(f"compare: {name} differs")
-        for what, line in (("input", given), ("second", second), ("ours", ours)):
-            print(f"  {what:7}{'(no line)' if line is None else line.decode('latin-1')}")
-        shown += 1
-        if shown == 10:
-            break
-END
+    python3 tests/differences.py "$@"
     return 1
 }
-differences "the library" "$work/inputs" "$work/second" "$work/library" || exit 1
+differences "the library" "$work/inputs" "$work/second" "$work/library" "$work/driver" || exit 1
 
 sh tools/prove lines || exit 1
 python3 tests/line_inputs.py "$seed" "$work/inputs" "$work/text" "$work/second" || exit 1

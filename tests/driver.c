@@ -1,6 +1,6 @@
-/* Answers the lines of second/answer.py through the C library, one for one and in its words. What no answer shows is
- * tested here too: that no octet past those written is touched, and that what is unused is zero. A fault of that kind is
- * added to the answer, so that it differs. */
+/* Answers the lines of second/answer.py through the C library, one for one and in its words, and like it with the argument
+ * `octets` figures by their octets. What no answer shows is tested here too: that no octet past those written is touched, and
+ * that what is unused is zero. A fault of that kind is added to the answer, so that it differs. */
 #define _GNU_SOURCE
 #include "aoc.h"
 #include <stdio.h>
@@ -11,6 +11,7 @@ enum { WIDEST = 1 << 20, GUARD = 16, MARK = 0xA5 };
 
 static char line[WIDEST];
 static uint8_t octets[WIDEST / 2], buffer[WIDEST];
+static bool whole_figures;
 
 static int digit(char c)
 {
@@ -161,10 +162,13 @@ static uint32_t crc(const void *from, size_t n)
 
 static void put_figure(const aoc_charge *c)
 {
-    if (c->kind == AOC_CHARGE_NONE)
-        fputs(all(c, sizeof *c, 0) ? ",-" : ",not zero", stdout);
+    putchar(',');
+    if (all(c, sizeof *c, 0))
+        putchar('-');
+    else if (whole_figures)
+        put_hex(c, sizeof *c);
     else
-        printf(",%08x", (unsigned)crc(c, sizeof *c));
+        printf("%08x", (unsigned)crc(c, sizeof *c));
 }
 
 static unsigned bits(aoc_services set)
@@ -242,6 +246,58 @@ static void answer_account(const char *rest)
     }
 }
 
+/* An account that holds anything and lies between two guards, and one event. */
+static void answer_held(const char *rest)
+{
+    struct {
+        uint8_t before[GUARD];
+        aoc_account account;
+        uint8_t after[GUARD];
+    } lent;
+    aoc_account *a = &lent.account, left;
+    aoc_event event;
+    memset(&lent, MARK, sizeof lent);
+    size_t n = unhex(rest, octets);
+    const char *next = rest + 2 * n + 1;
+    if (n != sizeof *a) {
+        fputs("not an account", stdout);
+        return;
+    }
+    memcpy(a, octets, n);
+    n = unhex(next, octets);
+    next += 2 * n + 1;
+    if (n != sizeof event) {
+        fputs("not an event", stdout);
+        return;
+    }
+    memcpy(&event, octets, n);
+    aoc_outcome outcome = aoc_step(a, event, octets, unhex(next, octets));
+    left = *a;
+
+    aoc_charge rate = aoc_rate_of(a), running = aoc_running_of(a);
+    aoc_closing closing = aoc_closing_of(a);
+    aoc_marks marks = aoc_marks_of(a);
+    aoc_pending pending = aoc_pending_of(a);
+    printf("%u,%u,", outcome.number, outcome.service);
+    put_hex(&left, offsetof(aoc_account, rate));
+    put_figure(&left.rate);
+    put_figure(&left.running);
+    put_figure(&left.d_final);
+    put_figure(&left.e_final);
+    printf(",%u", aoc_phase_of(a));
+    put_figure(&rate);
+    put_figure(&running);
+    put_figure(&closing.charge);
+    printf(",%u,", closing.service);
+    put_hex(&marks, sizeof marks);
+    putchar(',');
+    put_hex(&pending, sizeof pending);
+    if (!all(lent.before, GUARD, MARK) || !all(lent.after, GUARD, MARK))
+        fputs(" touched", stdout);
+    if (memcmp(&left, a, sizeof left))
+        fputs(" changed by reading", stdout);
+}
+
 static void answer_why(const char *rest)
 {
     static uint16_t rows[WIDEST / 4];
@@ -252,8 +308,9 @@ static void answer_why(const char *rest)
     printf("%u %u %llu", (unsigned)why.refusal, (unsigned)why.reason, (unsigned long long)why.event);
 }
 
-int main(void)
+int main(int count, char **arguments)
 {
+    whole_figures = count > 1 && !strcmp(arguments[1], "octets");
     while (fgets(line, sizeof line, stdin)) {
         size_t n = strlen(line);
         if (n < 3 || line[n - 1] != '\n') {
@@ -283,6 +340,9 @@ int main(void)
         case 'A':
         case 'D':
             answer_account(line + 2);
+            break;
+        case 'Z':
+            answer_held(line + 2);
             break;
         case 'Y':
             answer_why(line + 2);
