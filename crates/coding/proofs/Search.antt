@@ -35,19 +35,10 @@ unfolding marker
 marker-yes s at end h t u =
     and-both (leb (at + 2) end) _ (le-leb (at + 2) end h) (and-both (eqb (getD s at 0) 0) _ (eq-eqb (getD s at 0) 0 t) (eq-eqb (getD s (at + 1) 0) 0 u))
 
--- inside, where the first octet is 00, the second decides
-pub marker-some : (s : List ℕ) (at end : ℕ) → at + 2 ≤ end → getD s at 0 ≡ 0 → eqb (getD s (at + 1) 0) 0 ≡ marker s at end
-unfolding marker
-marker-some s at end h t = simp (le-leb (at + 2) end h, eq-eqb (getD s at 0) 0 t)
-
--- no marker: not inside, another tag, another length octet
+-- no marker: not inside, not both octets, another length octet
 pub marker-out : (s : List ℕ) (at end : ℕ) → end < at + 2 → marker s at end ≡ false
 unfolding marker
 marker-out s at end h = and-not (leb (at + 2) end) _ (lt-leb (at + 2) end h)
-
-pub marker-tag : (s : List ℕ) (at end : ℕ) → (getD s at 0 ≡ 0 → ⊥) → marker s at end ≡ false
-unfolding marker
-marker-tag s at end h = and-no (leb (at + 2) end) _ (and-not (eqb (getD s at 0) 0) _ (ne-eqb (getD s at 0) 0 h))
 
 pub marker-not : (s : List ℕ) (at end : ℕ) → (getD s at 0 ≡ 0 → getD s (at + 1) 0 ≡ 0 → ⊥) → marker s at end ≡ false
 marker-not s at end h = go (marker s at end) refl

@@ -12,12 +12,11 @@ use Rattle.coding.specs.declared.Extent.{Extent}
 use Rattle.coding.specs.Reader.{got, opened, part, ruled, Ruling, primitive}
 use Rattle.coding.specs.Contents.{natural, shortest, negative, numberFrom, null}
 use Rattle.coding.specs.Codec.{short, Leaf, prim}
-use Rattle.coding.specs.Leaves.{number, nullLeaf, identifier}
+use Rattle.coding.specs.Leaves.{number, nullLeaf, integer, identifier}
 use Rattle.coding.specs.Shown.{shown}
 use Rattle.coding.specs.Shortcut.{Tiny, Short, tinyAt, shortAt, bareAt}
 use Rattle.coding.proofs.Basic.{picked, unpicked, followed, and-both, and-no}
 use Rattle.coding.proofs.Header.{opened-complete}
-use Rattle.coding.proofs.Signed.{one-low, one-high}
 use Rattle.coding.proofs.Parts.{part-none, part-cons}
 
 module _ (s : List ℕ) (at end tag : ℕ) where
@@ -153,13 +152,10 @@ module _ (s : List ℕ) (at end tag : ℕ) where
       let e : 0 * 256 + x ≡ x = omega arith in
       tiny-shown 0 (number low high) es t (rw e (unpicked _ _ (lt-leb 0x80 x h) ∙ picked _ _ (le-leb low x a) ∙ picked _ _ (le-leb x high b)))
 
-  pub tiny-identifier : {x : ℕ} → end ≤ length s → Tiny s at end tag x → x < 128 → (0, 0, x, at + 3) ≡ shown 0 ((prim tag identifier) .read s at end)
+  pub tiny-identifier : {x v : ℕ} → end ≤ length s → Tiny s at end tag x → integer 2 (x ∷ []) ≡ Ruling.good v
+      → (0, 0, v, at + 3) ≡ shown 0 ((prim tag identifier) .read s at end)
   unfolding identifier
-  tiny-identifier {x} es t h = tiny-shown 0 identifier es t (one-low x h)
-
-  pub tiny-negative : {x : ℕ} → end ≤ length s → Tiny s at end tag x → 128 ≤ x → x < 256 → (0, 0, 0xff00 + x, at + 3) ≡ shown 0 ((prim tag identifier) .read s at end)
-  unfolding identifier
-  tiny-negative {x} es t h l = tiny-shown 0 identifier es t (one-high x h l)
+  tiny-identifier es t g = tiny-shown 0 identifier es t g
 
   pub bare-null : Short s at end tag 0 → (0, 0, tt {0}, at + 2) ≡ shown (tt {0}) ((prim tag nullLeaf) .read s at end)
   unfolding shown ruled nullLeaf null

@@ -8,9 +8,10 @@ ghost use Prim.Native.Nat.{ℕ, _+_, _*_, _≤_, _<_, min};
 ghost use mathlib.Core.Path.{_≡_};
 ghost use mathlib.Core.Bool.{true, false};
 ghost use mathlib.Core.List.{[], _∷_, _++_};
-ghost use lib.ListN.{length, take};
+ghost use lib.ListN.{length, getD, take};
 ghost use lib.Dec.{ltb};
 ghost use Rattle.coding.specs.Reader.{tagged, extent, numberedAt, endless, marker, findEnd, spanned, lengthAt, opened, part};
+ghost use Rattle.coding.specs.Reader.Ruling.{good};
 ghost use Rattle.coding.specs.Contents.{natural, shortest, negative, numberFrom, every};
 ghost use Rattle.coding.specs.Codec.{prim, lengthOctets};
 ghost use Rattle.coding.specs.Leaves.{number, nullLeaf, given, integer, identifier, width, digits};
@@ -93,6 +94,32 @@ fn within(tag: usize, start: usize, n: usize, end: usize) -> Opened
     }
 }
 
+// The number in the one octet after 81.
+fn one_more(s: &[u8], tag: usize, at: usize, end: usize) -> Opened
+    requires { ⌜ (at < end) × (end ≤ length (now s)) × (getD (now s) at 0 ≡ 0x81) ⌝ }
+    ensures { λ r. ⌜ (r .fault, r .place, r .value, r .next) ≡ shown (record { start = 0; stop = 0 }) (numberedAt tag (now (s .entry)) at end) ⌝ }
+    ensures inside { λ r. ⌜ (r .value .start ≤ r .value .stop) × (r .value .stop ≤ end) ⌝ }
+{
+    if end < at + 2 {
+        return halted(42, tag);
+    }
+    let n = wide(s[at + 1]);
+    within(tag, at + 2, n, end)
+}
+
+// The number in the two octets after 82.
+fn two_more(s: &[u8], tag: usize, at: usize, end: usize) -> Opened
+    requires { ⌜ (at < end) × (end ≤ length (now s)) × (getD (now s) at 0 ≡ 0x82) ⌝ }
+    ensures { λ r. ⌜ (r .fault, r .place, r .value, r .next) ≡ shown (record { start = 0; stop = 0 }) (numberedAt tag (now (s .entry)) at end) ⌝ }
+    ensures inside { λ r. ⌜ (r .value .start ≤ r .value .stop) × (r .value .stop ≤ end) ⌝ }
+{
+    if end < at + 3 {
+        return halted(42, tag);
+    }
+    let n = wide(s[at + 1]) * 256 + wide(s[at + 2]);
+    within(tag, at + 3, n, end)
+}
+
 // Length octets with a number at a place, of the element whose tag is at tag.
 fn numbered_at(s: &[u8], tag: usize, at: usize, end: usize) -> Opened
     requires { ⌜ end ≤ length (now s) ⌝ }
@@ -107,18 +134,10 @@ fn numbered_at(s: &[u8], tag: usize, at: usize, end: usize) -> Opened
         return within(tag, at + 1, first, end);
     }
     if first == 0x81 {
-        if end < at + 2 {
-            return halted(42, tag);
-        }
-        let n = wide(s[at + 1]);
-        return within(tag, at + 2, n, end);
+        return one_more(s, tag, at, end);
     }
     if first == 0x82 {
-        if end < at + 3 {
-            return halted(42, tag);
-        }
-        let n = wide(s[at + 1]) * 256 + wide(s[at + 2]);
-        return within(tag, at + 3, n, end);
+        return two_more(s, tag, at, end);
     }
     halted(2, tag)
 }
@@ -142,16 +161,7 @@ fn is_marker(s: &[u8], at: usize, end: usize) -> bool
     requires { ⌜ end ≤ length (now s) ⌝ }
     ensures { λ r. ⌜ r ≡ marker (now (s .entry)) at end ⌝ }
 {
-    if end <= at {
-        return false;
-    }
-    if end - at < 2 {
-        return false;
-    }
-    if s[at] != 0 {
-        return false;
-    }
-    s[at + 1] == 0
+    bare(s, at, end, 0)
 }
 
 // An end marker that is searched: its place, and the place after it.
@@ -626,35 +636,36 @@ fn null_long(s: &[u8], at: usize, end: usize, tag: u8) -> Empty
 
 // ---- Identifiers.
 
+// An identifier's pattern where its contents are one octet.
+fn pattern(x: u8) -> u32
+    ensures { λ r. ⌜ integer 2 (x ∷ []) ≡ good r ⌝ }
+    ensures bounded { λ r. ⌜ r < 65536 ⌝ }
+{
+    let n = wide32(x);
+    if n < 0x80 {
+        return n;
+    }
+    0xff00 + n
+}
+
 // An identifier's contents: -32,768 to 32,767, as its pattern of 16 bits.
 fn identifier_in(s: &[u8], start: usize, stop: usize) -> Verdict
     requires { ⌜ (start ≤ stop) × (stop ≤ length (now s)) ⌝ }
     ensures { λ r. ⌜ (r .fault, r .value) ≡ verdict 0 (integer 2 (part (now (s .entry)) start stop)) ⌝ }
     ensures bounded { λ r. ⌜ r .value < 65536 ⌝ }
 {
-    if stop <= start {
-        return Verdict {
-            fault: 43,
-            value: 0,
-        };
-    }
-    let x = wide32(s[start]);
-    if stop == start + 1 {
-        if x < 0x80 {
-            return Verdict { fault: 0, value: x };
-        }
-        return Verdict {
-            fault: 0,
-            value: 0xff00 + x,
-        };
-    }
     if !is_shortest(s, start, stop) {
         return Verdict {
             fault: 43,
             value: 0,
         };
     }
+    if stop == start + 1 {
+        let value = pattern(s[start]);
+        return Verdict { fault: 0, value };
+    }
     if stop == start + 2 {
+        let x = wide32(s[start]);
         let y = wide32(s[start + 1]);
         return Verdict {
             fault: 0,
@@ -673,20 +684,13 @@ pub fn identifier_at(s: &[u8], at: usize, end: usize, tag: u8) -> NumberRead
     ensures { λ r. ⌜ (r .fault, r .place, r .value, r .next) ≡ shown 0 ((prim tag identifier) .read (now (s .entry)) at end) ⌝ }
     ensures bounded { λ r. ⌜ r .value < 65536 ⌝ }
 {
-    let x = tiny(s, at, end, tag) as u32;
-    if x < 128 {
-        return NumberRead {
-            fault: 0,
-            place: 0,
-            value: x,
-            next: at + 3,
-        };
-    }
+    let x = tiny(s, at, end, tag);
     if x < 256 {
+        let value = pattern(x as u8);
         return NumberRead {
             fault: 0,
             place: 0,
-            value: 0xff00 + x,
+            value,
             next: at + 3,
         };
     }

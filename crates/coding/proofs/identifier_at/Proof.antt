@@ -2,26 +2,22 @@
 -- Assumes nothing.
 use borrow.Author.Needs.{needs}
 use native.Mathlib.Omega.{arith}
-use Rattle.coding.proofs.Shortcut.{tiny-identifier, tiny-negative}
+use Rattle.coding.proofs.Shortcut.{tiny-identifier}
 use Rattle.coding.proofs.identifier_at.Statement.{statement}
 use Rattle.coding.proofs.identifier_at.Tie as tie
 
-add-t8 : tie.Need-add-t8
-add-t8 c = omega (arith, c .before .tiny .ensures .1 .1 (omega arith) .inside)
+add-t9 : tie.Need-add-t9
+add-t9 c = let t = c .before in omega (arith, t .before .tiny .ensures .1 .1 (t .if1 .taken) .inside)
 
 returns : tie.Need-returns
-returns c = (tiny-identifier _ _ _ _ (omega arith) (c .before .tiny .ensures .1 .1 (omega arith)) (omega arith), omega arith)
-
-add-t10 : tie.Need-add-t10
-add-t10 c = omega (arith, c .before .before .tiny .ensures .1 .1 (omega arith) .inside)
+returns c =
+    let t = c .before in
+    (tiny-identifier _ _ _ _ (omega arith) (t .before .tiny .ensures .1 .1 (t .if1 .taken)) (c .pattern .ensures .0), omega (arith, c .pattern .ensures .1))
 
 returns-2 : tie.Need-returns-2
-returns-2 c = (tiny-negative _ _ _ _ (omega arith) (c .before .before .tiny .ensures .1 .1 (omega arith)) (omega arith) (omega arith), omega arith)
-
-returns-3 : tie.Need-returns-3
-returns-3 c = search needs
+returns-2 c = search needs
 
 pub identifier-at-spec : {M : Type 1} → statement M
 identifier-at-spec =
     tie.close
-    (tie.spec (search needs) (search needs) add-t8 returns (search needs) add-t10 returns-2 (search needs) returns-3)
+    (tie.spec (search needs) (search needs) (search needs) add-t9 returns (search needs) returns-2)
