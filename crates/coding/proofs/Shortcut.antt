@@ -1,20 +1,20 @@
 -- What the short forms of an element mean: the code that finds one answers as the long way would.
 -- Assumes nothing.
 use Prim.Native.Nat.{ℕ, _+_, _-_, _*_, _≤_, _<_}
-use mathlib.Core.Path.{_≡_, sym, ap, _∙_}
+use mathlib.Core.Path.{_≡_, refl, sym, ap, _∙_, subst}
 use mathlib.Core.List.{List, [], _∷_}
-use mathlib.Core.Bool.{Bool, true, false, _&&_, true≢false}
+use mathlib.Core.Bool.{Bool, true, false, _&&_, true≢false, cond}
 use native.Mathlib.Omega.{arith}
 use lib.ListN.{length, getD}
 use lib.Dec.{ltb, leb, eqb}
-use borrow.Author.Tests.{eqb-true, lt-ltb, le-ltb, le-leb, lt-leb, eq-eqb, ne-eqb}
+use borrow.Author.Tests.{leb-true, lt-ltb, le-ltb, le-leb, lt-leb, eq-eqb, ne-eqb}
 use Rattle.coding.specs.declared.Extent.{Extent}
-use Rattle.coding.specs.Reader.{got, opened, part, ruled, Ruling, primitive}
+use Rattle.coding.specs.Reader.{got, marker, opened, part, ruled, Ruling, primitive}
 use Rattle.coding.specs.Contents.{natural, shortest, negative, numberFrom, null}
 use Rattle.coding.specs.Codec.{short, Leaf, prim}
 use Rattle.coding.specs.Leaves.{number, nullLeaf, integer, identifier}
 use Rattle.coding.specs.Shown.{shown}
-use Rattle.coding.specs.Shortcut.{Tiny, Short, tinyAt, shortAt, bareAt}
+use Rattle.coding.specs.Shortcut.{Tiny, Short, tinyAt, shortAt}
 use Rattle.coding.proofs.Basic.{picked, unpicked, followed, and-both, and-no}
 use Rattle.coding.proofs.Header.{opened-complete}
 use Rattle.coding.proofs.Parts.{part-none, part-cons}
@@ -81,29 +81,6 @@ module _ (s : List ℕ) (at end tag : ℕ) where
       (and-both (eqb (getD s at 0) tag) _ (eq-eqb _ _ t) (and-both (ltb (getD s (at + 1) 0) 128) _ (lt-ltb _ _ l') (le-leb _ _ i'))) in
       (e ∙ sym (picked _ _ b), (omega arith, λ k. record { inside = i; named = t; small = l; octet = sym e }))
 
-  -- ---- no contents
-
-  abbrev BareIs : Bool → Type 0
-  BareIs r = (r ≡ bareAt s at end tag) × (r ≡ true → Short s at end tag 0)
-
-  not-bare : bareAt s at end tag ≡ false → BareIs false
-  not-bare h = (sym h, λ l. absurd (true≢false (sym l)))
-
-  pub bare-none : end < at + 2 → BareIs false
-  unfolding bareAt
-  bare-none h = not-bare (ap (λ b. b && (eqb (getD s at 0) tag && eqb (getD s (at + 1) 0) 0)) (lt-leb (at + 2) end h))
-
-  pub bare-other : (getD s at 0 ≡ tag → ⊥) → BareIs false
-  unfolding bareAt
-  bare-other h = not-bare (and-no (leb (at + 2) end) _ (ap (λ b. b && eqb (getD s (at + 1) 0) 0) (ne-eqb _ _ h)))
-
-  pub bare-some : at + 2 ≤ end → getD s at 0 ≡ tag → BareIs (eqb (getD s (at + 1) 0) 0)
-  unfolding bareAt
-  bare-some i n = (
-    sym (ap (λ b. b && (eqb (getD s at 0) tag && eqb (getD s (at + 1) 0) 0)) (le-leb _ _ i) ∙ ap (λ b. b && eqb (getD s (at + 1) 0) 0) (eq-eqb _ _ n)),
-    λ l. record { inside = omega arith; named = n; small = omega arith; octet = eqb-true _ _ l },
-  )
-
   -- ---- what they mean
 
   pub short-opens : {n : ℕ} → Short s at end tag n → opened tag s at end ≡ got (record { start = at + 2; stop = at + 2 + n }) (at + 2 + n)
@@ -157,6 +134,24 @@ module _ (s : List ℕ) (at end tag : ℕ) where
   unfolding identifier
   tiny-identifier es t g = tiny-shown 0 identifier es t g
 
-  pub bare-null : Short s at end tag 0 → (0, 0, tt {0}, at + 2) ≡ shown (tt {0}) ((prim tag nullLeaf) .read s at end)
+  pub bare-null : (n : ℕ) → Short s at end tag n → n ≡ 0 → (0, 0, tt {0}, at + 2) ≡ shown (tt {0}) ((prim tag nullLeaf) .read s at end)
   unfolding shown ruled nullLeaf null
-  bare-null t = sym (ap (shown (tt {0})) (bare-read nullLeaf t))
+  bare-null n t e = sym (ap (shown (tt {0})) (bare-read nullLeaf (subst (Short s at end tag) e t)))
+
+-- 00 00 is the one element without contents whose tag is 00
+same-zero : (t : Bool) (n : ℕ) → (n ≡ 0 → t ≡ true) → eqb (cond t n 256) 0 ≡ eqb n 0
+same-zero true n h = refl
+same-zero false n h = sym (ne-eqb n 0 (λ e. true≢false (sym (h e))))
+
+pub short-marker : (s : List ℕ) (at end : ℕ) → eqb (shortAt s at end 0) 0 ≡ marker s at end
+unfolding shortAt marker
+short-marker s at end = go (leb (at + 2) end) refl (eqb (getD s at 0) 0)
+  where
+    go : (t : Bool) → leb (at + 2) end ≡ t → (u : Bool)
+        → eqb (cond (t && (u && (ltb (getD s (at + 1) 0) 128 && leb (at + 2 + getD s (at + 1) 0) end))) (getD s (at + 1) 0) 256) 0 ≡ t && (u && eqb (getD s (at + 1) 0) 0)
+    go false q u = refl
+    go true q false = refl
+    go true q true =
+        let n : ℕ = getD s (at + 1) 0 in
+        same-zero (ltb n 128 && leb (at + 2 + n) end) n
+        (λ e. and-both (ltb n 128) _ (lt-ltb n 128 (omega (arith, e))) (le-leb (at + 2 + n) end (omega (arith, e, leb-true (at + 2) end q))))

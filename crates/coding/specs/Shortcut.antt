@@ -2,7 +2,7 @@
 use Prim.Native.Nat.{ℕ, _+_, _≤_, _<_}
 use mathlib.Core.Path.{_≡_}
 use mathlib.Core.List.{List}
-use mathlib.Core.Bool.{Bool, _&&_, cond}
+use mathlib.Core.Bool.{_&&_, cond}
 use lib.ListN.{getD}
 use lib.Dec.{ltb, leb, eqb}
 
@@ -29,7 +29,3 @@ tinyAt s at end tag =
 unfoldable pub shortAt : List ℕ → ℕ → ℕ → ℕ → ℕ
 shortAt s at end tag =
     cond (leb (at + 2) end && (eqb (getD s at 0) tag && (ltb (getD s (at + 1) 0) 128 && leb (at + 2 + getD s (at + 1) 0) end))) (getD s (at + 1) 0) 256
-
--- tag 00
-unfoldable pub bareAt : List ℕ → ℕ → ℕ → ℕ → Bool
-bareAt s at end tag = leb (at + 2) end && (eqb (getD s at 0) tag && eqb (getD s (at + 1) 0) 0)

@@ -16,7 +16,7 @@ ghost use Rattle.coding.specs.Contents.{natural, shortest, negative, num
 ghost use Rattle.coding.specs.Codec.{prim, lengthOctets};
 ghost use Rattle.coding.specs.Leaves.{number, nullLeaf, given, integer, identifier, width, digits};
 ghost use Rattle.coding.specs.Shown.{shown, verdict};
-ghost use Rattle.coding.specs.Shortcut.{Tiny, Short, tinyAt, shortAt, bareAt};
+ghost use Rattle.coding.specs.Shortcut.{Tiny, Short, tinyAt, shortAt};
 ghost use Rattle.coding.specs.Written.{Wrote, lead, fullNumber};
 
 // ---- Elements: tag and length octets.
@@ -161,7 +161,7 @@ fn is_marker(s: &[u8], at: usize, end: usize) -> bool
     requires { ⌜ end ≤ length (now s) ⌝ }
     ensures { λ r. ⌜ r ≡ marker (now (s .entry)) at end ⌝ }
 {
-    bare(s, at, end, 0)
+    short_length(s, at, end, 0) == 0
 }
 
 // An end marker that is searched: its place, and the place after it.
@@ -574,30 +574,12 @@ pub struct Empty {
     pub next: usize,
 }
 
-// Whether the element at a place is tag 00, inside.
-fn bare(s: &[u8], at: usize, end: usize, tag: u8) -> bool
-    requires { ⌜ end ≤ length (now s) ⌝ }
-    ensures { λ r. ⌜ r ≡ bareAt (now (s .entry)) at end tag ⌝ }
-    ensures found { λ r. ⌜ ((r ≡ true) → Short (now (s .entry)) at end tag 0) ⌝ }
-{
-    if end <= at {
-        return false;
-    }
-    if end - at < 2 {
-        return false;
-    }
-    if s[at] != tag {
-        return false;
-    }
-    s[at + 1] == 0
-}
-
 // A NULL element.
 pub fn null_at(s: &[u8], at: usize, end: usize, tag: u8) -> Empty
     requires { ⌜ end ≤ length (now s) ⌝ }
     ensures { λ r. ⌜ (r .fault, r .place, tt, r .next) ≡ shown (tt {0}) ((prim tag nullLeaf) .read (now (s .entry)) at end) ⌝ }
 {
-    if bare(s, at, end, tag) {
+    if short_length(s, at, end, tag) == 0 {
         return Empty {
             fault: 0,
             place: 0,

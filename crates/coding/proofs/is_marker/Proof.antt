@@ -1,14 +1,14 @@
 -- `coding::is_marker` meets its contract.
 -- Assumes nothing.
 use borrow.Author.Needs.{needs}
-use Rattle.coding.specs.Reader.{marker}
-use Rattle.coding.specs.Shortcut.{bareAt}
+use mathlib.Core.Path.{ap, _∙_}
+use lib.Dec.{eqb}
+use Rattle.coding.proofs.Shortcut.{short-marker}
 use Rattle.coding.proofs.is_marker.Statement.{statement}
 use Rattle.coding.proofs.is_marker.Tie as tie
 
 returns : tie.Need-returns
-unfolding marker bareAt
-returns c = c .bare .ensures .0
+returns c = ap (λ n. eqb n 0) (c .short-length .ensures .0) ∙ short-marker _ _ _
 
 pub is-marker-spec : {M : Type 1} → statement M
 is-marker-spec = tie.close (tie.spec (search needs) returns)
