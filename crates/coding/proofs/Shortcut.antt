@@ -30,8 +30,14 @@ module _ (s : List ℕ) (at end tag : ℕ) where
   unfolding tinyAt
   not-tiny h = (sym (unpicked _ _ h), (omega arith, λ l. absurd (omega arith)))
 
-  pub tiny-none : end < at + 3 → TinyIs 256
+  tiny-none : end < at + 3 → TinyIs 256
   tiny-none h = not-tiny (ap (λ b. b && (eqb (getD s at 0) tag && eqb (getD s (at + 1) 0) 1)) (lt-leb (at + 3) end h))
+
+  pub tiny-end : end ≤ at → TinyIs 256
+  tiny-end h = tiny-none (omega arith)
+
+  pub tiny-near : at < end → end - at < 3 → TinyIs 256
+  tiny-near h l = tiny-none (omega arith)
 
   pub tiny-other : (getD s at 0 ≡ tag → ⊥) → TinyIs 256
   tiny-other h = not-tiny (and-no (leb (at + 3) end) _ (ap (λ b. b && eqb (getD s (at + 1) 0) 1) (ne-eqb _ _ h)))
@@ -39,9 +45,10 @@ module _ (s : List ℕ) (at end tag : ℕ) where
   pub tiny-long : (getD s (at + 1) 0 ≡ 1 → ⊥) → TinyIs 256
   tiny-long h = not-tiny (and-no (leb (at + 3) end) _ (and-no (eqb (getD s at 0) tag) _ (ne-eqb _ _ h)))
 
-  pub tiny-some : {x : ℕ} → at + 3 ≤ end → getD s at 0 ≡ tag → getD s (at + 1) 0 ≡ 1 → x ≡ getD s (at + 2) 0 → x < 256 → TinyIs x
+  pub tiny-some : {x : ℕ} → at < end → 3 ≤ end - at → getD s at 0 ≡ tag → getD s (at + 1) 0 ≡ 1 → x ≡ getD s (at + 2) 0 → x < 256 → TinyIs x
   unfolding tinyAt
-  tiny-some i n o x l =
+  tiny-some h k n o x l =
+      let i : at + 3 ≤ end = omega arith in
       let b = and-both (leb (at + 3) end) _ (le-leb _ _ i) (and-both (eqb (getD s at 0) tag) _ (eq-eqb _ _ n) (eq-eqb _ _ o)) in
       (x ∙ sym (picked _ _ b), (omega arith, λ m. record { inside = i; named = n; single = o; octet = sym x }))
 
@@ -54,32 +61,43 @@ module _ (s : List ℕ) (at end tag : ℕ) where
   unfolding shortAt
   not-short h = (sym (unpicked _ _ h), (omega arith, λ l. absurd (omega arith)))
 
-  pub short-none : end < at + 2 → ShortIs 256
+  short-none : end < at + 2 → ShortIs 256
   short-none h =
       not-short (ap (λ b. b && (eqb (getD s at 0) tag && (ltb (getD s (at + 1) 0) 128 && leb (at + 2 + getD s (at + 1) 0) end))) (lt-leb (at + 2) end h))
+
+  pub short-end : end ≤ at → ShortIs 256
+  short-end h = short-none (omega arith)
+
+  pub short-near : at < end → end - at < 2 → ShortIs 256
+  short-near h l = short-none (omega arith)
 
   pub short-other : (getD s at 0 ≡ tag → ⊥) → ShortIs 256
   short-other h =
       not-short (and-no (leb (at + 2) end) _ (ap (λ b. b && (ltb (getD s (at + 1) 0) 128 && leb (at + 2 + getD s (at + 1) 0) end)) (ne-eqb _ _ h)))
 
-  pub short-long : 128 ≤ getD s (at + 1) 0 → ShortIs 256
-  short-long h =
-      not-short (and-no (leb (at + 2) end) _ (and-no (eqb (getD s at 0) tag) _ (ap (λ b. b && leb (at + 2 + getD s (at + 1) 0) end) (le-ltb _ _ h))))
+  module _ {n : ℕ} (e : n ≡ getD s (at + 1) 0) where
+    pub short-long : 128 ≤ n → ShortIs 256
+    short-long h =
+        let h' : 128 ≤ getD s (at + 1) 0 = omega (arith, e) in
+        not-short (and-no (leb (at + 2) end) _ (and-no (eqb (getD s at 0) tag) _ (ap (λ b. b && leb (at + 2 + getD s (at + 1) 0) end) (le-ltb _ _ h'))))
 
-  pub short-cut : end < at + 2 + getD s (at + 1) 0 → ShortIs 256
-  short-cut h =
-      not-short (and-no (leb (at + 2) end) _ (and-no (eqb (getD s at 0) tag) _ (and-no (ltb (getD s (at + 1) 0) 128) _ (lt-leb _ _ h))))
+    module _ (h : at < end) (k : 2 ≤ end - at) where
+      pub short-cut : end - at - 2 < n → ShortIs 256
+      short-cut c =
+          let c' : end < at + 2 + getD s (at + 1) 0 = omega (arith, e) in
+          not-short (and-no (leb (at + 2) end) _ (and-no (eqb (getD s at 0) tag) _ (and-no (ltb (getD s (at + 1) 0) 128) _ (lt-leb _ _ c'))))
 
-  pub short-some : {n : ℕ} → n ≡ getD s (at + 1) 0 → at + 2 + n ≤ end → getD s at 0 ≡ tag → n < 128 → ShortIs n
-  unfolding shortAt
-  short-some {n} e i t l =
-      let i' : at + 2 + getD s (at + 1) 0 ≤ end = omega (arith, e) in
-      let l' : getD s (at + 1) 0 < 128 = omega (arith, e) in
-      let m : at + 2 ≤ end = omega arith in
-      let b =
-      and-both (leb (at + 2) end) _ (le-leb _ _ m)
-      (and-both (eqb (getD s at 0) tag) _ (eq-eqb _ _ t) (and-both (ltb (getD s (at + 1) 0) 128) _ (lt-ltb _ _ l') (le-leb _ _ i'))) in
-      (e ∙ sym (picked _ _ b), (omega arith, λ k. record { inside = i; named = t; small = l; octet = sym e }))
+      pub short-some : n ≤ end - at - 2 → getD s at 0 ≡ tag → n < 128 → ShortIs n
+      unfolding shortAt
+      short-some j t l =
+          let i : at + 2 + n ≤ end = omega arith in
+          let i' : at + 2 + getD s (at + 1) 0 ≤ end = omega (arith, e) in
+          let l' : getD s (at + 1) 0 < 128 = omega (arith, e) in
+          let m : at + 2 ≤ end = omega arith in
+          let b =
+          and-both (leb (at + 2) end) _ (le-leb _ _ m)
+          (and-both (eqb (getD s at 0) tag) _ (eq-eqb _ _ t) (and-both (ltb (getD s (at + 1) 0) 128) _ (lt-ltb _ _ l') (le-leb _ _ i'))) in
+          (e ∙ sym (picked _ _ b), (omega arith, λ k. record { inside = i; named = t; small = l; octet = sym e }))
 
   -- ---- what they mean
 
