@@ -8,21 +8,21 @@ use borrow.Author.Tests.{eqb-true}
 use Rattle.types.specs.declared.Charge.{Charge}
 use Rattle.types.specs.Charges.{flag}
 use Rattle.types.specs.Arguments.{noCharge}
-use Rattle.types.specs.Frames.{readOf}
-use Rattle.values.specs.Sets.{has, with}
-use Rattle.same.specs.Same.{sameOf}
-use Rattle.account.specs.declared.Event.{Event}
-use Rattle.account.specs.declared.Outcome.{Outcome}
-use Rattle.account.specs.declared.Status.{Status}
+use Rattle.values.specs.Sets.{with}
+use Rattle.phases.specs.declared.Event.{Event}
+use Rattle.phases.specs.declared.Outcome.{Outcome}
+use Rattle.phases.specs.declared.Status.{Status}
 use Rattle.account.specs.declared.Account.{Account}
-use Rattle.account.specs.Outcome.{Idle, Ended, Suspended, Setup, Released, Component, S, D, E, outcome, noService, Request, noRequest, clashes, allowed}
-use Rattle.account.specs.Outcome.{leadsTo, among, isRefusal, Known, serviceOf, holderOf, fits, runs, closes, judgeFinal, firstFinal, judgeRecord, judgeAnswer, judge}
-use Rattle.account.specs.History.{Given, Judged, chargeIn, any, last, was, its, settles, phase, pending, hasFinal, final, noClosing}
+use Rattle.phases.specs.Phases.{Idle, Ended, Setup, Released, Component, S, D, E, outcome, noService, Request, noRequest, clashes, allowed, leadsTo, Given}
+use Rattle.outcomes.specs.Outcome.{among, isRefusal, judge, chargeIn, was, its, settles}
+use Rattle.account.specs.History.{Judged, any, last, phase, hasFinal, final, noClosing}
 use Rattle.account.specs.History.{closing, currentRate, running, known, judged, accountBy, fresh, steppedBy, Shown, shown, picked, Calls, Obeys, answers}
-use Rattle.account.specs.Step.{knownOf, isGiven, noted, statusAfter, changeBy, put, changeOf, steppedOf, closingOf, ours}
-use Rattle.account.proofs.Choice.{if-same, by-test, by-number, never}
-use Rattle.account.proofs.Transitions.{to-idle, from-idle, setup-idle, from-ended, to-ended, component-stays}
-use Rattle.account.proofs.Refusals.{none-of, fails, apart, decoding-refusal}
+use Rattle.account.specs.Step.{knownOf, changeBy, put, changeOf, steppedOf, closingOf, ours}
+use Rattle.outcomes.specs.Status.{isGiven, noted, statusAfter}
+use Rattle.phases.proofs.Choice.{if-same, by-test, by-number, never}
+use Rattle.phases.proofs.Transitions.{to-idle, setup-idle, to-ended, component-stays}
+use Rattle.outcomes.proofs.Refusals.{none-of, fails, apart}
+use Rattle.outcomes.proofs.Judging.{phased, phased-judge, unsettled-now, ended-judge, keeps, kept-given}
 
 abbrev told : Event → List ℕ → Outcome → Judged
 told e o r = record { event = e; octets = o; outcome = r }
@@ -76,10 +76,7 @@ component-stands : (h : List Judged) (e : Event) (o : List ℕ) (r : Outcome) �
 component-stands h e o r q =
     rw q (placed (accountBy h) (noted (accountBy h .status) r) (chargeIn o) (r .number) (r .service)) ∙ component-kept h e o r (eqb-true _ _ q)
 
--- ---- a phase event, by how it is judged: t that it is allowed, u that two of its requests clash
-
-abbrev phased : ℕ → Bool → Bool → Outcome
-phased kind t u = cond t (cond (eqb kind Setup && u) (noService 13) (noService 0)) (noService 14)
+-- ---- a phase event
 
 refused-stays : (h : List Judged) (e : Event) (o : List ℕ) → accountBy (told e o (noService 14) ∷ h) ≡ accountBy h
 refused-stays h e o = simp and-false
@@ -97,18 +94,6 @@ module _ (h : List Judged) (e : Event) (o : List ℕ) (other : eqb (e .kind) Com
 
 -- ---- in Idle no request has had its 24 or 25
 
-unsettled-kind : (s kind p : ℕ) (r : Outcome) (u : Bool) → p ≡ Idle →
-    settles s (cond (allowed kind p) (cond (eqb kind Component) r (cond (eqb kind Setup && u) (noService 13) (noService 0))) (noService 14)) ≡ false
-unsettled-kind s kind p r u z =
-    by-test (eqb kind Setup)
-    (λ q. let k : eqb kind Component ≡ false = ap (λ (x : ℕ). eqb x Component) (eqb-true kind Setup q) in
-    by-test (allowed kind p) (λ a. by-test u (λ v. rw (a, k, q, v)) (λ v. rw (a, k, q, v))) (λ a. rw a))
-    (λ q. rw (from-idle kind p z q))
-
-unsettled-now : (s : ℕ) (k : Known) (e : Event) (o : List ℕ) → k .phase ≡ Idle → settles s (judge k e o) ≡ false
-unfolding judge
-unsettled-now s k e o q = unsettled-kind s (e .kind) (k .phase) (judgeAnswer k (readOf o)) (clashes e) q
-
 stays-idle : (b : Bool) (kind p : ℕ) → cond b (leadsTo kind p) p ≡ Idle → p ≡ Idle
 stays-idle false kind p q = q
 stays-idle true kind p q = to-idle kind p q
@@ -121,10 +106,6 @@ unsettled s (g ∷ h) q =
 
 -- ---- the account after any event is that of the history with the event
 
-phased-judge : (k : Known) (e : Event) (o : List ℕ) → eqb (e .kind) Component ≡ false → judge k e o ≡ phased (e .kind) (allowed (e .kind) (k .phase)) (clashes e)
-unfolding judge
-phased-judge k e o q = rw q
-
 account-stands : (h : List Given) (e : Event) (o : List ℕ)
     → after (accountBy (judged h)) e (chargeIn o) (judge (known (judged h)) e o) ≡ accountBy (told e o (judge (known (judged h)) e o) ∷ judged h)
 account-stands h e o =
@@ -134,51 +115,6 @@ account-stands h e o =
     (phase-stands (judged h) e o q (allowed (e .kind) (phase (judged h))) (clashes e) (λ t u s. unsettled s h (setup-idle (e .kind) (phase (judged h)) t u))))
 
 -- ---- a figure that is kept is never of kind 0, so the account tells whether there is one
-
--- the outcomes that keep a figure
-abbrev pub keeps : Outcome → Bool
-keeps r = (was 20 r || its S 24 r) || (was 21 r || was 22 r)
-
-module _ (g : Bool) where
-  abbrev Fine : Outcome → Type 0
-  Fine r = keeps r ≡ true → g ≡ true
-
-  by-way : (b : Bool) (x y : Outcome) → (b ≡ true → Fine x) → (b ≡ false → Fine y) → Fine (cond b x y)
-  by-way true x y p q = p refl
-  by-way false x y p q = q refl
-
--- a result that is kept is a list or a special arrangement
-fitting : (s : ℕ) (c : Charge) → fits s c ≡ true → keeps (outcome 24 s) ≡ true → isGiven c ≡ true
-fitting s c f q =
-    by-test (eqb s S)
-    (λ t. by-number (c .figure .kind) 4 (λ k. rw k) (λ k. rw (eqb-true (c .figure .kind) 5 (rw (t, k) at f))))
-    (λ t. let z : false ≡ true = rw t at q in cc)
-
-refusal-keeps : (n : ℕ) → isRefusal n ≡ true → keeps (noService n) ≡ false
-unfolding isRefusal
-refusal-keeps n q = rw (apart isRefusal n 20 q refl, apart isRefusal n 24 q refl, apart isRefusal n 21 q refl, apart isRefusal n 22 q refl)
-
-pub kept-given : (k : Known) (e : Event) (o : List ℕ) → keeps (judge k e o) ≡ true → isGiven (chargeIn o) ≡ true
-unfolding judge judgeRecord
-kept-given k e o =
-    let g : Bool = isGiven (chargeIn o) in
-    by-way g (allowed (e .kind) (k .phase)) _ _
-    (λ _. by-way g (eqb (e .kind) Component) _ _
-    (λ _. by-way g (eqb (readOf o .number) 0) _ _
-    (λ _. by-way g (eqb (k .phase) Suspended) _ _ (λ _ q. cc)
-    (λ _. by-way g (eqb (readOf o .value .frame) 1) _ _
-    (λ _. by-way g (eqb (readOf o .value .operation) 30) _ _ (λ _ q. cc)
-    (λ _. by-way g (has (k .pending .asked) (serviceOf (readOf o .value .operation))) _ _ (λ _ q. cc)
-    (λ _. by-way g (eqb (readOf o .value .charge .figure .kind) 0) _ _ (λ _ q. cc) (λ f q. rw f))))
-    (λ _. by-way g (eqb (readOf o .value .frame) 2) _ _
-    (λ _. by-way g (eqb (holderOf (k .pending) (readOf o .value .id)) 0) _ _ (λ _ q. cc)
-    (λ _. by-way g (fits (holderOf (k .pending) (readOf o .value .id)) (chargeIn o)) _ _
-    (fitting (holderOf (k .pending) (readOf o .value .id)) (chargeIn o)) (λ _ q. cc)))
-    (λ _. by-way g (eqb (readOf o .value .unnamed) 1) _ _ (λ _ q. cc)
-    (λ _. by-way g (eqb (holderOf (k .pending) (readOf o .value .id)) 0) _ _ (λ _ q. cc) (λ _ q. cc))))))
-    (λ n q. never (rw (refusal-keeps (readOf o .number) (decoding-refusal o n)) at q)))
-    (λ _. by-way g (eqb (e .kind) Setup && clashes e) _ _ (λ _ q. cc) (λ _ q. cc)))
-    (λ _ q. cc)
 
 given-more : (b x : Bool) (c f : Charge) → (b ≡ true → isGiven c ≡ true) → isGiven f ≡ x → isGiven (cond b c f) ≡ (b || x)
 given-more true x c f p q = p refl
@@ -209,45 +145,7 @@ rate-given h = last-given (λ r. was 20 r || its S 24 r) (λ r q. either-is (was
 pub running-given : (h : List Given) → isGiven (running (judged h)) ≡ any (λ j. was 21 (j .outcome)) (judged h)
 running-given h = last-given (was 21) running-keeps h
 
--- ---- a service has one 22 at most
-
-module _ (s : ℕ) where
-  none-way : (b : Bool) (x y : Outcome) → (b ≡ true → its s 22 x ≡ false) → (b ≡ false → its s 22 y ≡ false) → its s 22 (cond b x y) ≡ false
-  none-way true x y p q = p refl
-  none-way false x y p q = q refl
-
-  none-more : (k : Known) (c : Charge) (u : ℕ) → firstFinal k s .given ≡ true → its s 22 (judgeFinal (firstFinal k u) u c) ≡ false
-  none-more k c u g =
-      none-way (firstFinal k u .given) _ _ (λ _. none-way (sameOf (firstFinal k u .charge) c) _ _ (λ _. refl) (λ _. refl))
-      (λ n. by-number u s (λ e. let z : true ≡ false = sym g ∙ rw e at n in cc) (λ e. e))
-
-refusal-final : (n : ℕ) → isRefusal n ≡ true → eqb n 22 ≡ false
-unfolding isRefusal
-refusal-final n q = apart isRefusal n 22 q refl
-
-pub only-final : (k : Known) (e : Event) (o : List ℕ) (s : ℕ) → firstFinal k s .given ≡ true → its s 22 (judge k e o) ≡ false
-unfolding judge judgeRecord
-only-final k e o s g =
-    let u : ℕ = serviceOf (readOf o .value .operation) in
-    let kind : ℕ = readOf o .value .charge .figure .kind in
-    let holder : ℕ = holderOf (k .pending) (readOf o .value .id) in
-    none-way s (allowed (e .kind) (k .phase)) _ _
-    (λ _. none-way s (eqb (e .kind) Component) _ _
-    (λ _. none-way s (eqb (readOf o .number) 0) _ _
-    (λ _. none-way s (eqb (k .phase) Suspended) _ _ (λ _. refl)
-    (λ _. none-way s (eqb (readOf o .value .frame) 1) _ _
-    (λ _. none-way s (eqb (readOf o .value .operation) 30) _ _ (λ _. refl)
-    (λ _. none-way s (has (k .pending .asked) u) _ _ (λ _. refl)
-    (λ _. none-way s (eqb kind 0) _ _ (λ _. refl)
-    (λ _. none-way s (eqb u S) _ _ (λ _. refl)
-    (λ _. none-way s (runs (k .phase) u (chargeIn o)) _ _ (λ _. refl)
-    (λ _. none-way s (closes (k .phase) u (chargeIn o)) _ _ (λ _. none-more s k (chargeIn o) u g) (λ _. refl)))))))
-    (λ _. none-way s (eqb (readOf o .value .frame) 2) _ _
-    (λ _. none-way s (eqb holder 0) _ _ (λ _. refl) (λ _. none-way s (fits holder (chargeIn o)) _ _ (λ _. refl) (λ _. refl)))
-    (λ _. none-way s (eqb (readOf o .value .unnamed) 1) _ _ (λ _. refl) (λ _. none-way s (eqb holder 0) _ _ (λ _. refl) (λ _. refl))))))
-    (λ n. rw (refusal-final (readOf o .number) (decoding-refusal o n))))
-    (λ _. none-way s (eqb (e .kind) Setup && clashes e) _ _ (λ _. refl) (λ _. refl)))
-    (λ _. refl)
+-- ---- what the account knows is what the list says
 
 pub known-stands : (h : List Given) → knownOf (accountBy (judged h)) ≡ known (judged h)
 known-stands h = rw (final-given D h, final-given E h)
@@ -319,10 +217,6 @@ refused-left h g q =
     sym (account-stands h (g .event) (g .octets)) ∙ after-nothing isRefusal refl (judge (known (judged h)) (g .event) (g .octets)) q (accountBy (judged h)) (g .event) (chargeIn (g .octets))
 
 -- ---- the closing figure: no later event alters it
-
-ended-judge : (k : Known) (e : Event) (o : List ℕ) → k .phase ≡ Ended → judge k e o ≡ noService 14
-unfolding judge
-ended-judge k e o q = rw (from-ended (e .kind) (k .phase) q)
 
 ended-stays : (h : List Given) (g : Given) → phase (judged h) ≡ Ended → accountBy (judged (g ∷ h)) ≡ accountBy (judged h)
 ended-stays h g q = rw (ended-judge (known (judged h)) (g .event) (g .octets) q) (refused-stays (judged h) (g .event) (g .octets))

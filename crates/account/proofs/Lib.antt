@@ -1,9 +1,4 @@
-pub mod Choice
-pub mod Transitions
-pub mod Refusals
 pub mod Demand
 pub mod Noise
-pub mod Steps
-pub mod Machine
-pub mod Lent
+pub mod Reading
 pub mod Examples

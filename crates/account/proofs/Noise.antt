@@ -3,15 +3,16 @@ use Prim.Native.Nat.{ℕ}
 use mathlib.Core.Path.{_≡_, refl, sym, _∙_, ap}
 use mathlib.Core.List.{List, [], _∷_, map}
 use mathlib.Core.Bool.{Bool, true, false, _&&_}
-use Rattle.account.specs.declared.Event.{Event}
-use Rattle.account.specs.declared.Outcome.{Outcome}
+use Rattle.phases.specs.declared.Event.{Event}
+use Rattle.phases.specs.declared.Outcome.{Outcome}
 use Rattle.account.specs.declared.Account.{Account}
 use Rattle.account.specs.declared.Stepped.{Stepped}
-use Rattle.account.specs.Outcome.{isRefusal, outcome, judge}
-use Rattle.account.specs.History.{Given, chargeIn, known, judged, accountBy, steppedBy, Shown, fresh, answers}
+use Rattle.outcomes.specs.Outcome.{isRefusal, judge, chargeIn}
+use Rattle.phases.specs.Phases.{outcome, Given}
+use Rattle.account.specs.History.{known, judged, accountBy, Shown, answers}
 use Rattle.account.specs.Step.{knownOf, changeOf, steppedOf, closingOf, marksOf, ours}
 use Rattle.account.specs.Noise.{isNoise, chosen, onlyNoise, Standing, standing, Past, past, outcomes}
-use Rattle.account.proofs.Choice.{first-of, second-of}
+use Rattle.phases.proofs.Choice.{first-of, second-of}
 use Rattle.account.proofs.Demand.{known-stands, closing-stands, step-stands, after-nothing}
 
 -- ---- noise changes nothing: no outcome that counts is among it

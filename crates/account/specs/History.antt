@@ -7,34 +7,23 @@ use lib.Dec.{eqb}
 use Rattle.types.specs.declared.Charge.{Charge}
 use Rattle.types.specs.Charges.{flag}
 use Rattle.types.specs.Arguments.{noCharge}
-use Rattle.types.specs.Frames.{readOf}
-use Rattle.account.specs.declared.Event.{Event}
-use Rattle.account.specs.declared.Outcome.{Outcome}
-use Rattle.account.specs.declared.Status.{Status}
+use Rattle.phases.specs.declared.Event.{Event}
+use Rattle.phases.specs.declared.Outcome.{Outcome}
+use Rattle.phases.specs.declared.Status.{Status}
 use Rattle.account.specs.declared.Account.{Account}
 use Rattle.account.specs.declared.Closing.{Closing}
 use Rattle.account.specs.declared.Marks.{Marks}
 use Rattle.account.specs.declared.Pending.{Pending}
 use Rattle.account.specs.declared.Stepped.{Stepped}
 use Rattle.values.specs.Sets.{emptySet}
-use Rattle.account.specs.Outcome.{Idle, Ended, Setup, leadsTo, S, D, E, Request, noRequest, requestFor, Requests, Known, judge}
+use Rattle.phases.specs.Phases.{Idle, Ended, Setup, leadsTo, S, D, E, Request, noRequest, requestFor, Given}
+use Rattle.outcomes.specs.Outcome.{Requests, Known, judge, chargeIn, was, its, settles}
 
--- an event with its octets, and the same with its outcome
-pub record Given : Type 0 where
-  pub event : Event
-  pub octets : List ℕ
-
-abbrev pub event : Event → List ℕ → Given
-event e o = record { event = e; octets = o }
-
+-- an event with its octets and its outcome
 pub record Judged : Type 0 where
   pub event : Event
   pub octets : List ℕ
   pub outcome : Outcome
-
--- the charge of a component
-abbrev pub chargeIn : List ℕ → Charge
-chargeIn o = readOf o .value .charge
 
 -- ---- going over a list
 
@@ -47,13 +36,6 @@ abbrev pub last : (Judged → Bool) → List Judged → Charge
 last t [] = noCharge
 last t (j ∷ h) = cond (t j) (chargeIn (j .octets)) (last t h)
 
--- an outcome was n; it was the service's n
-abbrev pub was : ℕ → Outcome → Bool
-was n r = eqb (r .number) n
-
-abbrev pub its : ℕ → ℕ → Outcome → Bool
-its s n r = eqb (r .number) n && eqb (r .service) s
-
 -- ---- the phase follows from the phase events not refused
 
 abbrev pub phase : List Judged → ℕ
@@ -65,9 +47,6 @@ phase (j ∷ h) = cond (was 0 (j .outcome)) (leadsTo (j .event .kind) (phase h))
 abbrev pub named : ℕ → List Judged → Request
 named s [] = noRequest
 named s (j ∷ h) = cond (eqb (j .event .kind) Setup && was 0 (j .outcome)) (requestFor s (j .event)) (named s h)
-
-abbrev pub settles : ℕ → Outcome → Bool
-settles s r = its s 24 r || its s 25 r
 
 abbrev pub pending : ℕ → List Judged → Request
 pending s h = cond (any (λ j. settles s (j .outcome)) h) noRequest (named s h)

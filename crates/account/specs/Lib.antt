@@ -1,5 +1,3 @@
-pub mod Outcome
 pub mod History
 pub mod Step
-pub mod Parts
 pub mod Noise

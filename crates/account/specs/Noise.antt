@@ -3,11 +3,12 @@ use Prim.Native.Nat.{ℕ}
 use mathlib.Core.List.{List, [], _∷_, map}
 use mathlib.Core.Bool.{Bool, true, false, _&&_, _||_}
 use Rattle.types.specs.declared.Charge.{Charge}
-use Rattle.account.specs.declared.Outcome.{Outcome}
+use Rattle.phases.specs.declared.Outcome.{Outcome}
 use Rattle.account.specs.declared.Closing.{Closing}
 use Rattle.account.specs.declared.Marks.{Marks}
-use Rattle.account.specs.Outcome.{among, isRefusal, Known, judge}
-use Rattle.account.specs.History.{Given, known, marks, currentRate, running, closing, judged}
+use Rattle.outcomes.specs.Outcome.{among, isRefusal, Known, judge}
+use Rattle.phases.specs.Phases.{Given}
+use Rattle.account.specs.History.{known, marks, currentRate, running, closing, judged}
 
 -- refused, or one of these outcomes
 abbrev pub noise : List ℕ

@@ -25,7 +25,7 @@ use denote.Memory.{mem, cellAt}
 use denote.Steps.{opens, closes, owned, peeks, heard}
 use denote.Struct.Steps.{spelt}
 use denote.Triple.Call.{calls-from}
-use Rattle.account.proofs.Lent.{accountTy, accountVal}
+use Rattle.step.proofs.Lent.{accountTy, accountVal}
 
 abbrev Typed : Ty → Val → Type 0
 Typed τ v = T (hasTy τ v) × WT v

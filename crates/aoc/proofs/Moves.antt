@@ -33,22 +33,23 @@ use denote.Triple.Spec.{Meets, tripleOf}
 use denote.Triple.Walked.{says, Stays, stay-ref, walkOf, AllGo, goes-ref, Walks, ends-at, walked, walk-meets}
 use denote.Triple.Clauses.{Clauses, ensured, lasts, closing}
 use Rattle.account.specs.declared.Account.{Account}
-use Rattle.account.specs.declared.Moving.{Moving}
-use Rattle.account.specs.Parts.{movingOf}
+use Rattle.phases.specs.declared.Moving.{Moving}
+use Rattle.phases.specs.Parts.{movingOf}
 use Rattle.account.specs.History.{stepped}
 use Rattle.account.proofs.Account as T
 use Rattle.account.proofs.Account.Laws as T′
-use Rattle.account.proofs.Outcome as O
-use Rattle.account.proofs.Outcome.Laws as O′
-use Rattle.account.proofs.Status as S
-use Rattle.account.proofs.Status.Laws as S′
-use Rattle.account.proofs.Moving as N
-use Rattle.account.proofs.Lent.{accountTy}
+use Rattle.phases.proofs.Outcome as O
+use Rattle.phases.proofs.Outcome.Laws as O′
+use Rattle.phases.proofs.Status as S
+use Rattle.phases.proofs.Status.Laws as S′
+use Rattle.phases.proofs.Moving as N
+use Rattle.step.proofs.Lent.{accountTy}
+use Rattle.step.proofs.Machine.{account-name, parts}
 use Rattle.types.proofs.Charge.Laws as F′
 use Rattle.aoc.specs.Events.{plainEvent, Took}
 use Rattle.aoc.proofs.Phases.{withStatus, took}
 use Rattle.aoc.proofs.Lent.{moves, movesFn}
-use Rattle.aoc.proofs.Whole.{account-name, moving-name, vA, vO, vT, vF, tellsA, parts, is-with, is-status, typedT, taken-apart}
+use Rattle.aoc.proofs.Whole.{moving-name, vA, vO, vT, vF, tellsA, is-with, is-status, typedT, taken-apart}
 use Rattle.aoc.proofs.moved as callee
 use Rattle.aoc.proofs.moved.Symbol.{name as #aoc·moved}
 use Rattle.aoc.proofs.aoc_connect as own

@@ -3,13 +3,13 @@
 use mathlib.Core.Path.{_≡_, ap, _∙_}
 use mathlib.Core.List.{[]}
 use Rattle.account.specs.declared.Account.{Account}
-use Rattle.account.specs.declared.Event.{Event}
-use Rattle.account.specs.declared.Status.{Status}
-use Rattle.account.specs.declared.Moving.{Moving}
-use Rattle.account.specs.Parts.{movingOf}
+use Rattle.phases.specs.declared.Event.{Event}
+use Rattle.phases.specs.declared.Status.{Status}
+use Rattle.phases.specs.declared.Moving.{Moving}
+use Rattle.phases.specs.Parts.{movingOf}
 use Rattle.account.specs.History.{stepped}
 use Rattle.account.specs.Step.{changed, steppedOf}
-use Rattle.account.proofs.Steps.{promised, phase-change}
+use Rattle.step.proofs.Steps.{promised, phase-change}
 use Rattle.aoc.specs.Events.{Took}
 
 -- the account with another status

@@ -6,10 +6,10 @@ use Rattle.values.specs.declared.Services.{Services}
 use Rattle.values.specs.declared.Three.{Three}
 use Rattle.values.specs.Sets.{emptySet}
 use Rattle.account.specs.declared.Account.{Account}
-use Rattle.account.specs.declared.Event.{Event}
+use Rattle.phases.specs.declared.Event.{Event}
 use Rattle.account.specs.declared.Stepped.{Stepped}
-use Rattle.account.specs.Outcome.{Setup}
-use Rattle.account.specs.History.{Given, event, judged, accountBy, steppedBy}
+use Rattle.phases.specs.Phases.{Setup, Given, event}
+use Rattle.account.specs.History.{judged, accountBy, steppedBy}
 use Rattle.account.specs.Step.{steppedOf}
 
 -- an event that has nothing but its kind

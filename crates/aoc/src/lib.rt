@@ -19,10 +19,11 @@ ghost use Rattle.values.specs.Amounts.{powers};
 ghost use Rattle.values.specs.Identifiers.{nextOf, oneUp};
 ghost use Rattle.values.specs.Sets.{emptySet, isService, has, with};
 ghost use Rattle.why.specs.Reasons.{whyOf};
-ghost use Rattle.account.specs.History.{Given, event, judged, accountBy, currentRate, running, closing, marks, phase, requests, stepped, steppedBy, fresh, pendingOf};
-ghost use Rattle.account.specs.Step.{requestsOf, steppedOf, closingOf, marksOf};
-ghost use Rattle.account.specs.Parts.{movingOf};
-ghost use Rattle.account.specs.Outcome.{Connect, Clear, Released, Component, Suspend, Resume};
+ghost use Rattle.phases.specs.Phases.{Given, event, Connect, Clear, Released, Component, Suspend, Resume};
+ghost use Rattle.account.specs.History.{judged, accountBy, currentRate, running, closing, marks, phase, requests, stepped, steppedBy, fresh, pendingOf};
+ghost use Rattle.outcomes.specs.Status.{requestsOf};
+ghost use Rattle.account.specs.Step.{steppedOf, closingOf, marksOf};
+ghost use Rattle.phases.specs.Parts.{movingOf};
 ghost use Rattle.aoc.specs.Events.{plainEvent, setupEvent, Took};
 ghost use Rattle.aoc.specs.Reading.{ReadsOff};
 ghost use Rattle.price.specs.Price.{priceOf};
@@ -146,22 +147,22 @@ pub extern "C" fn aoc_fresh() -> account::Account
 #[no_mangle]
 pub extern "C" fn aoc_step(
     a: &mut account::Account,
-    e: account::Event,
+    e: phases::Event,
     octets: &[u8],
-) -> account::Outcome
+) -> phases::Outcome
     ensures { λ r. ⌜ (stepped r (now (a .exit)) ≡ steppedOf (now (a .entry)) e (now (octets .entry))) × ((h : List Given) → now (a .entry) ≡ accountBy (judged h) → stepped r (now (a .exit)) ≡ steppedBy (event e (now (octets .entry))) h) ⌝ }
 {
-    account::step_in(a, e, octets)
+    step::step_in(a, e, octets)
 }
 
 // The events, one function for each. An event without octets is taken by its status, which alone it changes.
 
-fn set_up(t: account::Status, asked: values::Services, ids: values::Three) -> account::Moving
+fn set_up(t: phases::Status, asked: values::Services, ids: values::Three) -> phases::Moving
     ensures { λ r. ⌜ r ≡ movingOf t (setupEvent asked ids) ⌝ }
 {
-    account::phase_step(
+    phases::phase_step(
         t,
-        account::Event {
+        phases::Event {
             kind: 1,
             asked,
             s: ids.s,
@@ -171,12 +172,12 @@ fn set_up(t: account::Status, asked: values::Services, ids: values::Three) -> ac
     )
 }
 
-fn moved(t: account::Status, kind: u8) -> account::Moving
+fn moved(t: phases::Status, kind: u8) -> phases::Moving
     ensures { λ r. ⌜ r ≡ movingOf t (plainEvent kind) ⌝ }
 {
-    account::phase_step(
+    phases::phase_step(
         t,
-        account::Event {
+        phases::Event {
             kind,
             asked: values::Services::EMPTY,
             s: 0,
@@ -186,10 +187,10 @@ fn moved(t: account::Status, kind: u8) -> account::Moving
     )
 }
 
-fn component_event() -> account::Event
+fn component_event() -> phases::Event
     ensures { λ r. ⌜ r ≡ plainEvent Component ⌝ }
 {
-    account::Event {
+    phases::Event {
         kind: 5,
         asked: values::Services::EMPTY,
         s: 0,
@@ -203,7 +204,7 @@ pub extern "C" fn aoc_setup(
     a: &mut account::Account,
     asked: values::Services,
     ids: values::Three,
-) -> account::Outcome
+) -> phases::Outcome
     ensures { λ r. ⌜ Took (now (a .entry)) (setupEvent asked ids) [] (stepped r (now (a .exit))) ⌝ }
 {
     let m = set_up(a.status, asked, ids);
@@ -212,7 +213,7 @@ pub extern "C" fn aoc_setup(
 }
 
 #[no_mangle]
-pub extern "C" fn aoc_connect(a: &mut account::Account) -> account::Outcome
+pub extern "C" fn aoc_connect(a: &mut account::Account) -> phases::Outcome
     ensures { λ r. ⌜ Took (now (a .entry)) (plainEvent Connect) [] (stepped r (now (a .exit))) ⌝ }
 {
     let m = moved(a.status, 2);
@@ -221,7 +222,7 @@ pub extern "C" fn aoc_connect(a: &mut account::Account) -> account::Outcome
 }
 
 #[no_mangle]
-pub extern "C" fn aoc_clear(a: &mut account::Account) -> account::Outcome
+pub extern "C" fn aoc_clear(a: &mut account::Account) -> phases::Outcome
     ensures { λ r. ⌜ Took (now (a .entry)) (plainEvent Clear) [] (stepped r (now (a .exit))) ⌝ }
 {
     let m = moved(a.status, 3);
@@ -230,7 +231,7 @@ pub extern "C" fn aoc_clear(a: &mut account::Account) -> account::Outcome
 }
 
 #[no_mangle]
-pub extern "C" fn aoc_released(a: &mut account::Account) -> account::Outcome
+pub extern "C" fn aoc_released(a: &mut account::Account) -> phases::Outcome
     ensures { λ r. ⌜ Took (now (a .entry)) (plainEvent Released) [] (stepped r (now (a .exit))) ⌝ }
 {
     let m = moved(a.status, 4);
@@ -239,7 +240,7 @@ pub extern "C" fn aoc_released(a: &mut account::Account) -> account::Outcome
 }
 
 #[no_mangle]
-pub extern "C" fn aoc_suspend(a: &mut account::Account) -> account::Outcome
+pub extern "C" fn aoc_suspend(a: &mut account::Account) -> phases::Outcome
     ensures { λ r. ⌜ Took (now (a .entry)) (plainEvent Suspend) [] (stepped r (now (a .exit))) ⌝ }
 {
     let m = moved(a.status, 6);
@@ -248,7 +249,7 @@ pub extern "C" fn aoc_suspend(a: &mut account::Account) -> account::Outcome
 }
 
 #[no_mangle]
-pub extern "C" fn aoc_resume(a: &mut account::Account) -> account::Outcome
+pub extern "C" fn aoc_resume(a: &mut account::Account) -> phases::Outcome
     ensures { λ r. ⌜ Took (now (a .entry)) (plainEvent Resume) [] (stepped r (now (a .exit))) ⌝ }
 {
     let m = moved(a.status, 7);
@@ -257,11 +258,11 @@ pub extern "C" fn aoc_resume(a: &mut account::Account) -> account::Outcome
 }
 
 #[no_mangle]
-pub extern "C" fn aoc_component(a: &mut account::Account, octets: &[u8]) -> account::Outcome
+pub extern "C" fn aoc_component(a: &mut account::Account, octets: &[u8]) -> phases::Outcome
     ensures { λ r. ⌜ Took (now (a .entry)) (plainEvent Component) (now (octets .entry)) (stepped r (now (a .exit))) ⌝ }
 {
     let e = component_event();
-    account::step_in(a, e, octets)
+    step::step_in(a, e, octets)
 }
 
 // Reading off.

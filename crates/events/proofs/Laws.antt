@@ -8,7 +8,7 @@ use mathlib.Core.List.{List, [], _∷_}
 use lib.ListN.{length, getD, take, drop}
 use lib.Dec.{leb, eqb}
 use borrow.Author.Tests.{le-leb, lt-leb, leb-true, eq-eqb, ne-eqb}
-use Rattle.account.specs.History.{Given, event}
+use Rattle.phases.specs.Phases.{event}
 use Rattle.events.specs.Events.{rowAt, countAt, rowsFit, addsUp, eventsFrom, eventsOf, Going}
 use Rattle.coding.proofs.Basic.{and-right}
 

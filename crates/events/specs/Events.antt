@@ -7,8 +7,8 @@ use mathlib.Core.List.{List, [], _∷_}
 use lib.ListN.{length, getD, take, drop}
 use lib.Dec.{leb, eqb}
 use Rattle.values.specs.declared.Services.{Services}
-use Rattle.account.specs.declared.Event.{Event}
-use Rattle.account.specs.History.{Given, event}
+use Rattle.phases.specs.declared.Event.{Event}
+use Rattle.phases.specs.Phases.{Given, event}
 
 -- a number that is no octet is the kind of no event
 abbrev pub kindOf : ℕ → ℕ

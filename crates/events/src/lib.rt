@@ -57,13 +57,13 @@ fn set_of(n: u16) -> values::Services
 }
 
 // The event of row i, but for its octets.
-pub fn row_at(rows: &[u16], i: usize) -> account::Event
+pub fn row_at(rows: &[u16], i: usize) -> phases::Event
     requires { ⌜ i < length (now rows) / 6 ⌝ }
     ensures { λ r. ⌜ r ≡ rowAt (now (rows .entry)) i ⌝ }
 {
     let kind = kind_of(rows[i * 6]);
     let asked = set_of(rows[i * 6 + 1]);
-    account::Event {
+    phases::Event {
         kind,
         asked,
         s: rows[i * 6 + 2],

@@ -9,10 +9,11 @@ use lib.Dec.{eqb}
 use borrow.Author.Tests.{eq-eqb, ne-eqb, not-true, not-false}
 use Rattle.types.specs.declared.Charge.{Charge}
 use Rattle.types.specs.Arguments.{noCharge}
-use Rattle.account.specs.Outcome.{Ended, D, E, firstFinal, judge}
-use Rattle.account.specs.History.{Given, Judged, any, chargeIn, known, judged, phase, its, hasFinal, final, closing}
-use Rattle.account.proofs.Choice.{by-test, by-number, never}
-use Rattle.account.proofs.Demand.{only-final}
+use Rattle.phases.specs.Phases.{Ended, D, E, Given}
+use Rattle.outcomes.specs.Outcome.{firstFinal, judge, chargeIn, its}
+use Rattle.account.specs.History.{Judged, any, known, judged, phase, hasFinal, final, closing}
+use Rattle.phases.proofs.Choice.{by-test, by-number, never}
+use Rattle.outcomes.proofs.Judging.{only-final}
 use Rattle.why.specs.declared.Reason.{Reason}
 use Rattle.why.specs.Reasons.{orElse, earliest, ifFound, seenBy, explained, reasonOf}
 use Rattle.why.proofs.Theorems.{at-most}

@@ -5,9 +5,9 @@ use mathlib.Core.Bool.{true, false}
 use mathlib.Core.List.{List, [], _∷_, reverse, reverseAux}
 use native.Mathlib.Numerals.{add-one}
 use lib.ListN.{length, take, drop}
-use Rattle.account.specs.declared.Event.{Event}
-use Rattle.account.specs.Step.{steppedOf}
-use Rattle.account.specs.History.{Given, Judged, event, judged, accountBy}
+use Rattle.phases.specs.declared.Event.{Event}
+use Rattle.phases.specs.Phases.{Given, event}
+use Rattle.account.specs.History.{judged}
 use Rattle.account.proofs.Demand.{step-stands}
 use Rattle.events.specs.Events.{rowAt, countAt, addsUp, eventsFrom, eventsOf, Going}
 use Rattle.events.proofs.Laws.{from-start, nothing-left, next-event}

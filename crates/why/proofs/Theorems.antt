@@ -7,9 +7,10 @@ use native.Mathlib.Omega.{arith}
 use lib.ListN.{length}
 use lib.Dec.{eqb}
 use borrow.Author.Tests.{eqb-false, ne-eqb}
-use Rattle.account.proofs.Choice.{by-test, by-number}
-use Rattle.account.specs.Outcome.{Ended, D, E}
-use Rattle.account.specs.History.{Given, Judged, judged, phase, was, its}
+use Rattle.phases.proofs.Choice.{by-test, by-number}
+use Rattle.phases.specs.Phases.{Ended, D, E, Given}
+use Rattle.outcomes.specs.Outcome.{was, its}
+use Rattle.account.specs.History.{Judged, judged, phase}
 use Rattle.why.specs.declared.Reason.{Reason}
 use Rattle.why.specs.Reasons.{passedOver, toldAbsent, unread, orElse, earliest, because, ifFound, seenBy, explained, reasonOf}
 

@@ -6,9 +6,10 @@ use lib.ListN.{length}
 use lib.Dec.{eqb, leb}
 use Rattle.types.specs.declared.Record.{Record}
 use Rattle.types.specs.Frames.{readOf}
-use Rattle.account.specs.declared.Outcome.{Outcome}
-use Rattle.account.specs.Outcome.{Ended, D, E}
-use Rattle.account.specs.History.{Given, Judged, judged, phase, was, its}
+use Rattle.phases.specs.declared.Outcome.{Outcome}
+use Rattle.phases.specs.Phases.{Ended, D, E, Given}
+use Rattle.outcomes.specs.Outcome.{was, its}
+use Rattle.account.specs.History.{Judged, judged, phase}
 use Rattle.events.specs.Events.{addsUp, eventsOf}
 use Rattle.why.specs.declared.Reason.{Reason}
 use Rattle.why.specs.declared.Seen.{Seen}

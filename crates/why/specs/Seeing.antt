@@ -1,10 +1,11 @@
 -- Going over the list once: what is kept of the events seen.
 use Prim.Native.Nat.{ℕ, suc, _+_}
 use mathlib.Core.List.{List, [], _∷_}
-use Rattle.account.specs.declared.Event.{Event}
-use Rattle.account.specs.declared.Outcome.{Outcome}
-use Rattle.account.specs.Outcome.{D, E}
-use Rattle.account.specs.History.{Given, Judged, was, its, accountBy, fresh}
+use Rattle.phases.specs.declared.Event.{Event}
+use Rattle.phases.specs.declared.Outcome.{Outcome}
+use Rattle.phases.specs.Phases.{D, E, Given}
+use Rattle.outcomes.specs.Outcome.{was, its}
+use Rattle.account.specs.History.{Judged, accountBy, fresh}
 use Rattle.account.specs.Step.{steppedOf}
 use Rattle.why.specs.declared.Reason.{Reason}
 use Rattle.why.specs.declared.Seen.{Seen}

@@ -2,13 +2,13 @@
 //
 // An account is kept beside the numbers of the events seen, so that each event is judged once.
 use account::Account;
-use account::Event;
-use account::Outcome;
+use phases::Event;
+use phases::Outcome;
 ghost use mathlib.Core.Path.{_≡_};
 ghost use mathlib.Core.Bool.{true};
 ghost use lib.ListN.{length};
 ghost use Rattle.types.specs.Frames.{readOf};
-ghost use Rattle.account.specs.History.{its};
+ghost use Rattle.outcomes.specs.Outcome.{its};
 ghost use Rattle.events.specs.Events.{addsUp, eventsOf};
 ghost use Rattle.why.specs.Reasons.{within, isFigure, passedOver, toldAbsent, unread, orElse, because, ifFound, concluded, reasonOf, whyOf};
 ghost use Rattle.why.specs.Seeing.{seenNext, turnOf};
@@ -135,7 +135,7 @@ fn turn(t: State, e: Event, octets: &[u8], n: u64) -> State
     ensures { λ r. ⌜ r ≡ turnOf t e (now (octets .entry)) n ⌝ }
 {
     let before = t.account;
-    let w = account::step_whole(before, e, octets);
+    let w = step::step_whole(before, e, octets);
     let outcome = w.outcome;
     let account = w.account;
     let s = t.seen;

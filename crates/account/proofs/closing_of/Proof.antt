@@ -1,4 +1,4 @@
-use Rattle.account.proofs.Steps.{closing-promised}
+use Rattle.account.proofs.Reading.{closing-promised}
 use borrow.Author.Tests.{eq-eqb, ne-eqb}
 use borrow.Author.Needs.{needs}
 use Rattle.account.proofs.closing_of.Statement.{statement}

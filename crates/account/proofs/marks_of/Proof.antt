@@ -1,4 +1,4 @@
-use Rattle.account.proofs.Steps.{read-off}
+use Rattle.account.proofs.Reading.{read-off}
 use Rattle.account.specs.Step.{marksOf}
 use Rattle.account.proofs.marks_of.Statement.{statement}
 use Rattle.account.proofs.marks_of.Tie as tie

@@ -1,6 +1,6 @@
-use Rattle.account.proofs.Steps.{read-off}
+use Rattle.account.proofs.Reading.{read-off}
 use Rattle.account.specs.History.{pendingOf}
-use Rattle.account.specs.Step.{requestsOf}
+use Rattle.outcomes.specs.Status.{requestsOf}
 use Rattle.account.specs.declared.Account.{Account}
 use Rattle.account.proofs.pending_of.Statement.{statement}
 use Rattle.account.proofs.pending_of.Tie as tie

@@ -1,4 +1,4 @@
-use Rattle.account.proofs.Steps.{read-off}
+use Rattle.account.proofs.Reading.{read-off}
 use Rattle.account.specs.declared.Account.{Account}
 use Rattle.account.proofs.running_of.Statement.{statement}
 use Rattle.account.proofs.running_of.Tie as tie

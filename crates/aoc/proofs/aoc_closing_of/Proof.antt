@@ -10,7 +10,8 @@ use Rattle.account.specs.declared.Closing.{Closing}
 use Rattle.account.proofs.Closing as Q
 use Rattle.account.proofs.Closing.Laws as Q′
 use Rattle.account.specs.declared.Account.{Account}
-use Rattle.account.specs.History.{Given, judged, accountBy, closing}
+use Rattle.phases.specs.Phases.{Given}
+use Rattle.account.specs.History.{judged, accountBy, closing}
 use Rattle.account.specs.Step.{closingOf}
 use Rattle.account.proofs.closing_of.Symbol as callee-def
 use Rattle.account.proofs.closing_of.Symbol.{name as #account·closing-of}

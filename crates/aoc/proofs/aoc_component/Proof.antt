@@ -36,18 +36,18 @@ use denote.Triple.Clauses.{Lasts, lasts, atExit, ensured}
 use denote.Triple.Walked.{Stays, gave-ref, stay-dropped, walkOf, AllGo, goes-gave-ref, goes-dropped, Walks, ends-at, walked, walk-meets}
 use denote.Exit.{yes}
 use Rattle.account.specs.declared.Account.{Account}
-use Rattle.account.specs.declared.Event.{Event}
-use Rattle.account.specs.declared.Outcome.{Outcome}
+use Rattle.phases.specs.declared.Event.{Event}
+use Rattle.phases.specs.declared.Outcome.{Outcome}
 use Rattle.account.specs.declared.Stepped.{Stepped}
 use Rattle.account.proofs.Account as T
-use Rattle.account.proofs.Event as E
-use Rattle.account.proofs.Event.Laws as E′
-use Rattle.account.proofs.Outcome as O
-use Rattle.account.proofs.Outcome.Laws as O′
-use Rattle.account.proofs.step_in as callee
-use Rattle.account.proofs.step_in.Symbol as callee-def
-use Rattle.account.proofs.step_in.Symbol.{name as #account·step-in}
-use Rattle.account.proofs.step_in.Met as callee-thm
+use Rattle.phases.proofs.Event as E
+use Rattle.phases.proofs.Event.Laws as E′
+use Rattle.phases.proofs.Outcome as O
+use Rattle.phases.proofs.Outcome.Laws as O′
+use Rattle.step.proofs.step_in as callee
+use Rattle.step.proofs.step_in.Symbol as callee-def
+use Rattle.step.proofs.step_in.Symbol.{name as #step·step-in}
+use Rattle.step.proofs.step_in.Met as callee-thm
 use Rattle.aoc.specs.Events.{plainEvent, Took}
 use Rattle.aoc.proofs.component_event as maker
 use Rattle.aoc.proofs.component_event.Symbol as maker-def
@@ -114,7 +114,7 @@ module _ {M : Type 1} (𝓤 : URA M) (H : Heap 𝓤) (A : Atoms 𝓤) (W : Given
         move ! (1 ∷ []) $ use1 W (raw (own.clauses 𝓤 H A at-mem run (κ, (κ′, tt)) (ref, (s, tt)) .ensures tt r (atExit own.ended (κ, (κ′, tt)) (ref, (s, tt)) (ws .0, ws .1 .1)))) (retold 𝓤 h ev (plainEvent 5) (now s) _ e) $
         move ! (1 ∷ 2 ∷ []) $ join ! $ move ! (2 ∷ 0 ∷ []) $ join ! $ frame ! $ done !
 
-  module _ (C : Calls 𝓤 H) (Λ : Loops 𝓤 H) (fm : FmC 𝓤 H (W .laws) C) (makes : Triple 𝓤 (C #aoc·component-event) (Maker 𝓤 H A at-mem run)) (known : Triple 𝓤 (C #account·step-in) (Callee 𝓤 H A at-mem run)) where
+  module _ (C : Calls 𝓤 H) (Λ : Loops 𝓤 H) (fm : FmC 𝓤 H (W .laws) C) (makes : Triple 𝓤 (C #aoc·component-event) (Maker 𝓤 H A at-mem run)) (known : Triple 𝓤 (C #step·step-in) (Callee 𝓤 H A at-mem run)) where
     walk : Is (ShrSlice (named 1) κ′ u8) s (vS ∷ []) → ent 𝓤 (onEntry 𝓤 H A own.signature (κ, (κ′, tt)) (q, (q′, tt)) (ref, (s, tt)) (vptr b o ∷ [], (vS ∷ [], tt))) (WpFn 𝓤 H C Λ code.function (vptr b o ∷ vS ∷ []) Post)
     walk is-slice =
         qed W (tokens ∷ passed ∷ []) ∵
@@ -141,7 +141,7 @@ module _ {M : Type 1} (𝓤 : URA M) (H : Heap 𝓤) (A : Atoms 𝓤) (W : Given
         keep ! (0 ∷ 1 ∷ 2 ∷ []) $ by ! (exits ev vE e r v ws))))))))))))))
 
 module _ {M : Type 1} (𝓤 : URA M) (H : Heap 𝓤) (A : Atoms 𝓤) (W : Given 𝓤 H A) (at-mem : Memory → SProp 𝓤) (run : Routine → Fun 𝓤) where
-  walks : (C : Calls 𝓤 H) (Λ : Loops 𝓤 H) → FmC 𝓤 H (W .laws) C → Triple 𝓤 (C #aoc·component-event) (Maker 𝓤 H A at-mem run) → Triple 𝓤 (C #account·step-in) (Callee 𝓤 H A at-mem run)
+  walks : (C : Calls 𝓤 H) (Λ : Loops 𝓤 H) → FmC 𝓤 H (W .laws) C → Triple 𝓤 (C #aoc·component-event) (Maker 𝓤 H A at-mem run) → Triple 𝓤 (C #step·step-in) (Callee 𝓤 H A at-mem run)
       → Walks 𝓤 H A own.ended stayed (WpFn 𝓤 H C Λ code.function) (own.clauses 𝓤 H A at-mem run)
   walks C Λ fm makes known = walked 𝓤 H A own.ended stayed (own.clauses 𝓤 H A at-mem run) (WpFn 𝓤 H C Λ code.function)
       (λ κs. (ptr-vals, (slice-vals, tt))) (λ κs. (mut-tells (named 0) (κs .0) T.the-row, (shr-slice-tells (named 1) (κs .1 .0) u8, tt)))
@@ -150,7 +150,7 @@ module _ {M : Type 1} (𝓤 : URA M) (H : Heap 𝓤) (A : Atoms 𝓤) (W : Given
   goes : AllGo 𝓤 H A W 2 (own.signature .params) (own.ended .kept) stayed
   goes = (goes-gave-ref 𝓤 H A W 2 0 tt (plain (λ _. T.the-row)), (goes-dropped 𝓤 H A W 2 (shrSliceOf (1 ∷ []) tt (plain (λ _. u8))) yes (λ κs x f. refl), tt))
 
-  meets : (𝓣 : Tables 𝓤 H) → Triple 𝓤 (𝓣 .C #aoc·component-event) (Maker 𝓤 H A at-mem run) → Triple 𝓤 (𝓣 .C #account·step-in) (Callee 𝓤 H A at-mem run)
+  meets : (𝓣 : Tables 𝓤 H) → Triple 𝓤 (𝓣 .C #aoc·component-event) (Maker 𝓤 H A at-mem run) → Triple 𝓤 (𝓣 .C #step·step-in) (Callee 𝓤 H A at-mem run)
       → Meets 𝓤 H A own.signature (WpFn 𝓤 H (𝓣 .C) (𝓣 .Λ) code.function) (own.spec 𝓤 H A at-mem run)
   meets 𝓣 makes known = walk-meets 𝓤 H A own.ended stayed W goes (own.clauses 𝓤 H A at-mem run) (WpFn 𝓤 H (𝓣 .C) (𝓣 .Λ) code.function) (WpFn-mono 𝓤 H (W .laws) 𝓣 code.function)
       (walks (𝓣 .C) (𝓣 .Λ) (fmOf 𝓤 H (W .laws) 𝓣) makes known)
@@ -162,4 +162,4 @@ aoc-component-spec 𝓤 H 𝓜 𝓖 𝓡 =
     (tables 𝓤 H 𝓜 𝓡 code.env .C) (tables 𝓤 H 𝓜 𝓡 code.env .Λ) #aoc·aoc-component code.function (code.unfolded 𝓤 H 𝓜 𝓡)
     (meets 𝓤 H (𝓖 .A) (givenOf 𝓤 H 𝓜 𝓖) (𝓜 .mem) (𝓡 .run) (tablesOf 𝓤 H 𝓜 (tables 𝓤 H 𝓜 𝓡 code.env))
     (cited 𝓤 H (Maker 𝓤 H (𝓖 .A) (𝓜 .mem) (𝓡 .run)) 𝓜 𝓡 code.env #aoc·component-event maker-def.routine code.calls-aoc·component-event (maker-thm.met 𝓤 H 𝓜 𝓖 𝓡))
-    (cited 𝓤 H (Callee 𝓤 H (𝓖 .A) (𝓜 .mem) (𝓡 .run)) 𝓜 𝓡 code.env #account·step-in callee-def.routine code.calls-account·step-in (callee-thm.met 𝓤 H 𝓜 𝓖 𝓡)))
+    (cited 𝓤 H (Callee 𝓤 H (𝓖 .A) (𝓜 .mem) (𝓡 .run)) 𝓜 𝓡 code.env #step·step-in callee-def.routine code.calls-step·step-in (callee-thm.met 𝓤 H 𝓜 𝓖 𝓡)))

@@ -10,7 +10,8 @@ use Rattle.account.specs.declared.Marks.{Marks}
 use Rattle.account.proofs.Marks as Q
 use Rattle.account.proofs.Marks.Laws as Q′
 use Rattle.account.specs.declared.Account.{Account}
-use Rattle.account.specs.History.{Given, judged, accountBy, marks}
+use Rattle.phases.specs.Phases.{Given}
+use Rattle.account.specs.History.{judged, accountBy, marks}
 use Rattle.account.specs.Step.{marksOf}
 use Rattle.account.proofs.marks_of.Symbol as callee-def
 use Rattle.account.proofs.marks_of.Symbol.{name as #account·marks-of}

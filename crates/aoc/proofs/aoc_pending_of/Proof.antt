@@ -10,8 +10,9 @@ use Rattle.account.specs.declared.Pending.{Pending}
 use Rattle.account.proofs.Pending as Q
 use Rattle.account.proofs.Pending.Laws as Q′
 use Rattle.account.specs.declared.Account.{Account}
-use Rattle.account.specs.History.{Given, judged, accountBy, pendingOf, requests}
-use Rattle.account.specs.Step.{requestsOf}
+use Rattle.phases.specs.Phases.{Given}
+use Rattle.account.specs.History.{judged, accountBy, pendingOf, requests}
+use Rattle.outcomes.specs.Status.{requestsOf}
 use Rattle.account.proofs.pending_of.Symbol as callee-def
 use Rattle.account.proofs.pending_of.Symbol.{name as #account·pending-of}
 use Rattle.account.proofs.pending_of.Met as callee-thm

@@ -10,7 +10,8 @@ use mir.Syntax.{tyInt, w8}
 use denote.Builtin.{u8}
 use denote.Plain.{uint-lawful}
 use Rattle.account.specs.declared.Account.{Account}
-use Rattle.account.specs.History.{Given, judged, accountBy, phase}
+use Rattle.phases.specs.Phases.{Given}
+use Rattle.account.specs.History.{judged, accountBy, phase}
 use Rattle.account.proofs.phase_of.Symbol as callee-def
 use Rattle.account.proofs.phase_of.Symbol.{name as #account·phase-of}
 use Rattle.account.proofs.phase_of.Met as callee-thm

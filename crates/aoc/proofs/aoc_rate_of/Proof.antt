@@ -10,7 +10,8 @@ use Rattle.types.specs.declared.Charge.{Charge}
 use Rattle.types.proofs.Charge as Q
 use Rattle.types.proofs.Charge.Laws as Q′
 use Rattle.account.specs.declared.Account.{Account}
-use Rattle.account.specs.History.{Given, judged, accountBy, currentRate}
+use Rattle.phases.specs.Phases.{Given}
+use Rattle.account.specs.History.{judged, accountBy, currentRate}
 use Rattle.account.proofs.rate_of.Symbol as callee-def
 use Rattle.account.proofs.rate_of.Symbol.{name as #account·rate-of}
 use Rattle.account.proofs.rate_of.Met as callee-thm

@@ -10,7 +10,8 @@ use Rattle.types.specs.declared.Charge.{Charge}
 use Rattle.types.proofs.Charge as Q
 use Rattle.types.proofs.Charge.Laws as Q′
 use Rattle.account.specs.declared.Account.{Account}
-use Rattle.account.specs.History.{Given, judged, accountBy, running}
+use Rattle.phases.specs.Phases.{Given}
+use Rattle.account.specs.History.{judged, accountBy, running}
 use Rattle.account.proofs.running_of.Symbol as callee-def
 use Rattle.account.proofs.running_of.Symbol.{name as #account·running-of}
 use Rattle.account.proofs.running_of.Met as callee-thm

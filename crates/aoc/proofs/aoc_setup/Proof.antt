@@ -36,25 +36,26 @@ use denote.Triple.Clauses.{ensured, lasts}
 use Rattle.values.specs.declared.Services.{Services}
 use Rattle.values.specs.declared.Three.{Three}
 use Rattle.account.specs.declared.Account.{Account}
-use Rattle.account.specs.declared.Moving.{Moving}
-use Rattle.account.specs.Parts.{movingOf}
+use Rattle.phases.specs.declared.Moving.{Moving}
+use Rattle.phases.specs.Parts.{movingOf}
 use Rattle.values.proofs.Services as Set
 use Rattle.values.proofs.Services.Laws as Set′
 use Rattle.values.proofs.Three as Ids
 use Rattle.values.proofs.Three.Laws as Ids′
 use Rattle.account.proofs.Account as T
 use Rattle.account.proofs.Account.Laws as T′
-use Rattle.account.proofs.Outcome as O
-use Rattle.account.proofs.Outcome.Laws as O′
-use Rattle.account.proofs.Status as S
-use Rattle.account.proofs.Status.Laws as S′
-use Rattle.account.proofs.Moving as N
-use Rattle.account.proofs.Lent.{accountTy}
+use Rattle.phases.proofs.Outcome as O
+use Rattle.phases.proofs.Outcome.Laws as O′
+use Rattle.phases.proofs.Status as S
+use Rattle.phases.proofs.Status.Laws as S′
+use Rattle.phases.proofs.Moving as N
+use Rattle.step.proofs.Lent.{accountTy}
+use Rattle.step.proofs.Machine.{account-name, parts}
 use Rattle.types.proofs.Charge.Laws as F′
 use Rattle.aoc.specs.Events.{setupEvent}
 use Rattle.aoc.proofs.Phases.{withStatus, took}
 use Rattle.aoc.proofs.Lent.{sets}
-use Rattle.aoc.proofs.Whole.{account-name, moving-name, vA, vO, vT, vF, tellsA, parts, is-with, is-status, typedT, taken-apart}
+use Rattle.aoc.proofs.Whole.{moving-name, vA, vO, vT, vF, tellsA, is-with, is-status, typedT, taken-apart}
 use Rattle.aoc.proofs.set_up as callee
 use Rattle.aoc.proofs.set_up.Symbol as callee-def
 use Rattle.aoc.proofs.set_up.Symbol.{name as #aoc·set-up}

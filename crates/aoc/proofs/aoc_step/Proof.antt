@@ -36,17 +36,17 @@ use denote.Triple.Clauses.{Lasts, lasts, atExit}
 use denote.Triple.Walked.{Stays, gave-ref, stay-dropped, walkOf, AllGo, goes-gave-ref, goes-dropped, Walks, ends-at, walked, walk-meets}
 use denote.Exit.{yes}
 use Rattle.account.specs.declared.Account.{Account}
-use Rattle.account.specs.declared.Event.{Event}
-use Rattle.account.specs.declared.Outcome.{Outcome}
+use Rattle.phases.specs.declared.Event.{Event}
+use Rattle.phases.specs.declared.Outcome.{Outcome}
 use Rattle.account.proofs.Account as T
-use Rattle.account.proofs.Event as E
-use Rattle.account.proofs.Event.Laws as E′
-use Rattle.account.proofs.Outcome as O
-use Rattle.account.proofs.Outcome.Laws as O′
-use Rattle.account.proofs.step_in as callee
-use Rattle.account.proofs.step_in.Symbol as callee-def
-use Rattle.account.proofs.step_in.Symbol.{name as #account·step-in}
-use Rattle.account.proofs.step_in.Met as callee-thm
+use Rattle.phases.proofs.Event as E
+use Rattle.phases.proofs.Event.Laws as E′
+use Rattle.phases.proofs.Outcome as O
+use Rattle.phases.proofs.Outcome.Laws as O′
+use Rattle.step.proofs.step_in as callee
+use Rattle.step.proofs.step_in.Symbol as callee-def
+use Rattle.step.proofs.step_in.Symbol.{name as #step·step-in}
+use Rattle.step.proofs.step_in.Met as callee-thm
 use Rattle.aoc.proofs.aoc_step.Key.{name as #aoc·aoc-step}
 use Rattle.aoc.proofs.aoc_step as own
 use Rattle.aoc.proofs.aoc_step.Statement as stated
@@ -105,7 +105,7 @@ module _ {M : Type 1} (𝓤 : URA M) (H : Heap 𝓤) (A : Atoms 𝓤) (W : Given
   goes-in : ent 𝓤 (⋆ 𝓤 H A (tokens ∷ passed ∷ [])) (Callee 𝓤 H A at-mem run .pre to-callee)
   goes-in = qed W (tokens ∷ passed ∷ []) ∵ join ! $ frame ! $ done !
 
-  module _ (C : Calls 𝓤 H) (Λ : Loops 𝓤 H) (fm : FmC 𝓤 H (W .laws) C) (known : Triple 𝓤 (C #account·step-in) (Callee 𝓤 H A at-mem run)) where
+  module _ (C : Calls 𝓤 H) (Λ : Loops 𝓤 H) (fm : FmC 𝓤 H (W .laws) C) (known : Triple 𝓤 (C #step·step-in) (Callee 𝓤 H A at-mem run)) where
     walk : Is E.the-row ev (vE ev ∷ []) → Is (ShrSlice (named 1) κ′ u8) s (vS ∷ [])
         → ent 𝓤 (onEntry 𝓤 H A own.signature (κ, (κ′, tt)) (q, (q′, tt)) x at) (WpFn 𝓤 H C Λ code.function (vptr b o ∷ vE ev ∷ vS ∷ []) Post)
     walk is-event is-slice =
@@ -126,7 +126,7 @@ module _ {M : Type 1} (𝓤 : URA M) (H : Heap 𝓤) (A : Atoms 𝓤) (W : Given
         by ! (exits r v ws))))))))))
 
 module _ {M : Type 1} (𝓤 : URA M) (H : Heap 𝓤) (A : Atoms 𝓤) (W : Given 𝓤 H A) (at-mem : Memory → SProp 𝓤) (run : Routine → Fun 𝓤) where
-  walks : (C : Calls 𝓤 H) (Λ : Loops 𝓤 H) → FmC 𝓤 H (W .laws) C → Triple 𝓤 (C #account·step-in) (Callee 𝓤 H A at-mem run) → Walks 𝓤 H A own.ended stayed (WpFn 𝓤 H C Λ code.function) (own.clauses 𝓤 H A at-mem run)
+  walks : (C : Calls 𝓤 H) (Λ : Loops 𝓤 H) → FmC 𝓤 H (W .laws) C → Triple 𝓤 (C #step·step-in) (Callee 𝓤 H A at-mem run) → Walks 𝓤 H A own.ended stayed (WpFn 𝓤 H C Λ code.function) (own.clauses 𝓤 H A at-mem run)
   walks C Λ fm known = walked 𝓤 H A own.ended stayed (own.clauses 𝓤 H A at-mem run) (WpFn 𝓤 H C Λ code.function)
       (λ κs. (ptr-vals, ((λ (d : Event). vE d ∷ []), (slice-vals, tt)))) (λ κs. (mut-tells (named 0) (κs .0) T.the-row, (tellsE, (shr-slice-tells (named 1) (κs .1 .0) u8, tt))))
       (λ κs qs bounds a _ are. via 𝓤 _ (fst∗ 𝓤 _ (emp 𝓤)) (walk 𝓤 H A W at-mem run (κs .0) (κs .1 .0) bounds (qs .0) (qs .1 .0) (a .0 .ptr .0) (a .0 .ptr .1) (a .0 .name) (a .0 .now) (a .1 .0) (a .1 .1 .0) C Λ fm known (are .1 .0) (are .1 .1 .0)))
@@ -134,7 +134,7 @@ module _ {M : Type 1} (𝓤 : URA M) (H : Heap 𝓤) (A : Atoms 𝓤) (W : Given
   goes : AllGo 𝓤 H A W 2 (own.signature .params) (own.ended .kept) stayed
   goes = (goes-gave-ref 𝓤 H A W 2 0 tt (plain (λ _. T.the-row)), (goes-dropped 𝓤 H A W 2 (plain (λ _. E.the-row)) yes (λ κs x f. refl), (goes-dropped 𝓤 H A W 2 (shrSliceOf (1 ∷ []) tt (plain (λ _. u8))) yes (λ κs x f. refl), tt)))
 
-meets : {M : Type 1} (𝓤 : URA M) (H : Heap 𝓤) (A : Atoms 𝓤) → Given 𝓤 H A → (at-mem : Memory → SProp 𝓤) (run : Routine → Fun 𝓤) (𝓣 : Tables 𝓤 H) → Triple 𝓤 (𝓣 .C #account·step-in) (Callee 𝓤 H A at-mem run)
+meets : {M : Type 1} (𝓤 : URA M) (H : Heap 𝓤) (A : Atoms 𝓤) → Given 𝓤 H A → (at-mem : Memory → SProp 𝓤) (run : Routine → Fun 𝓤) (𝓣 : Tables 𝓤 H) → Triple 𝓤 (𝓣 .C #step·step-in) (Callee 𝓤 H A at-mem run)
     → Meets 𝓤 H A own.signature (WpFn 𝓤 H (𝓣 .C) (𝓣 .Λ) code.function) (own.spec 𝓤 H A at-mem run)
 meets 𝓤 H A W at-mem run 𝓣 known = walk-meets 𝓤 H A own.ended stayed W (goes 𝓤 H A W at-mem run) (own.clauses 𝓤 H A at-mem run) (WpFn 𝓤 H (𝓣 .C) (𝓣 .Λ) code.function) (WpFn-mono 𝓤 H (W .laws) 𝓣 code.function)
     (walks 𝓤 H A W at-mem run (𝓣 .C) (𝓣 .Λ) (fmOf 𝓤 H (W .laws) 𝓣) known)
@@ -145,4 +145,4 @@ aoc-step-spec 𝓤 H 𝓜 𝓖 𝓡 =
     entered 𝓤 H (tripleOf 𝓤 H (𝓖 .A) own.signature (own.spec 𝓤 H (𝓖 .A) (𝓜 .mem) (𝓡 .run)))
     (tables 𝓤 H 𝓜 𝓡 code.env .C) (tables 𝓤 H 𝓜 𝓡 code.env .Λ) #aoc·aoc-step code.function (code.unfolded 𝓤 H 𝓜 𝓡)
     (meets 𝓤 H (𝓖 .A) (givenOf 𝓤 H 𝓜 𝓖) (𝓜 .mem) (𝓡 .run) (tablesOf 𝓤 H 𝓜 (tables 𝓤 H 𝓜 𝓡 code.env))
-    (cited 𝓤 H (Callee 𝓤 H (𝓖 .A) (𝓜 .mem) (𝓡 .run)) 𝓜 𝓡 code.env #account·step-in callee-def.routine code.calls-account·step-in (callee-thm.met 𝓤 H 𝓜 𝓖 𝓡)))
+    (cited 𝓤 H (Callee 𝓤 H (𝓖 .A) (𝓜 .mem) (𝓡 .run)) 𝓜 𝓡 code.env #step·step-in callee-def.routine code.calls-step·step-in (callee-thm.met 𝓤 H 𝓜 𝓖 𝓡)))

@@ -1,6 +1,0 @@
-use Rattle.account.proofs.Choice.{tests}
-use Rattle.account.proofs.closes.Statement.{statement}
-use Rattle.account.proofs.closes.Tie as tie
-
-pub closes-spec : {M : Type 1} → statement M
-closes-spec = tie.close (tie.spec (λ c. search tests) (λ c. search tests) (λ c. search tests) (λ c. search tests))

@@ -1,6 +1,0 @@
-use Rattle.account.proofs.Choice.{tests}
-use Rattle.account.proofs.failure_outcome.Statement.{statement}
-use Rattle.account.proofs.failure_outcome.Tie as tie
-
-pub failure-outcome-spec : {M : Type 1} → statement M
-failure-outcome-spec = tie.close (tie.spec (λ c. search tests) (λ c. search tests))

@@ -1,0 +1,159 @@
+// A call's phases and its events; what an event that is no component does to the call's status.
+//
+// What a host holds is flat structs of numbers: its memory may hold anything, and any value has its answer.
+// Services are numbered 1 S, 2 D, 3 E. Phases: 0 Idle, 1 Establishment, 2 Active, 3 Clearing, 4 Ended, 5 Suspended.
+use values::Services;
+ghost use mathlib.Core.Path.{_≡_};
+ghost use mathlib.Core.Bool.{_&&_};
+ghost use lib.Dec.{eqb};
+ghost use Prim.Native.Nat.{ℕ};
+ghost use Rattle.phases.specs.Phases.{clash, asking, clashes, moved};
+ghost use Rattle.phases.specs.Parts.{nextPhase, moving, movingOf};
+
+// number: 20 to 32, a refusal, or 0 for a phase event that is not refused. service: 0 for none.
+#[repr(C)]
+pub struct Outcome {
+    pub number: u8,
+    pub service: u8,
+}
+
+// kind: 1 Setup, 2 Connect, 3 Clear, 4 Released, 5 Component, 6 Suspend, 7 Resume. A Setup has the set of services asked for, and their requests' identifiers.
+#[repr(C)]
+pub struct Event {
+    pub kind: u8,
+    pub asked: Services,
+    pub s: u16,
+    pub d: u16,
+    pub e: u16,
+}
+
+// asked: the services with a request pending, and the requests' identifiers. absent: the services told not available.
+// conflict: the services with a final that differs from the first.
+#[repr(C)]
+pub struct Status {
+    pub phase: u8,
+    pub asked: Services,
+    pub s: u16,
+    pub d: u16,
+    pub e: u16,
+    pub absent: Services,
+    pub conflict: Services,
+}
+
+// What an event that is no component changes.
+#[repr(C)]
+pub struct Moving {
+    pub outcome: Outcome,
+    pub status: Status,
+}
+
+// Where each kind of event leads, in hexadecimal: the digit at a phase, counted from the right, is the phase that it leads to from there.
+// 0 stands where it is not allowed, since nothing leads to Idle.
+const NEXT: [u32; 8] = [0, 0x1, 0x20, 0x300330, 0x4000, 0x503210, 0x500, 0x200000];
+
+pub fn next_phase(kind: u8, phase: u8) -> u8
+    ensures { λ r. ⌜ r ≡ nextPhase kind phase ⌝ }
+{
+    if kind > 7 {
+        return 0;
+    }
+    if phase > 7 {
+        return 0;
+    }
+    let row = NEXT[kind as usize];
+    ((row >> ((phase as u32) * 4)) % 16) as u8
+}
+
+// Whether two requests have one identifier.
+fn clash(mark: u8, id: u16, other: u8, its: u16) -> bool
+    ensures { λ r. ⌜ r ≡ clash (asking mark id) (asking other its) ⌝ }
+{
+    if mark == 0 {
+        return false;
+    }
+    if other == 0 {
+        return false;
+    }
+    id == its
+}
+
+fn clashes(e: Event) -> bool
+    ensures { λ r. ⌜ r ≡ clashes e ⌝ }
+{
+    let asked = e.asked;
+    if clash(asked.s, e.s, asked.d, e.d) {
+        return true;
+    }
+    if clash(asked.s, e.s, asked.e, e.e) {
+        return true;
+    }
+    clash(asked.d, e.d, asked.e, e.e)
+}
+
+// A Setup with two requests that have one identifier.
+fn bad_setup(e: Event) -> bool
+    ensures { λ r. ⌜ r ≡ eqb (e .kind) 1 && clashes e ⌝ }
+{
+    if e.kind != 1 {
+        return false;
+    }
+    clashes(e)
+}
+
+// A mark as it is kept: 1 where something is asked for.
+fn mark_of(mark: u8) -> u8
+    ensures { λ r. ⌜ ((id : ℕ) → r ≡ asking mark id .mark) ⌝ }
+{
+    if mark == 0 { 0 } else { 1 }
+}
+
+fn id_of(mark: u8, id: u16) -> u16
+    ensures { λ r. ⌜ r ≡ asking mark id .id ⌝ }
+{
+    if mark == 0 { 0 } else { id }
+}
+
+// The status after a phase event that is not refused, by the phase that it leads to.
+fn moved(mut t: Status, e: Event, phase: u8) -> Status
+    ensures { λ r. ⌜ r ≡ moved t e phase ⌝ }
+{
+    t.phase = phase;
+    if e.kind != 1 {
+        return t;
+    }
+    let asked = e.asked;
+    let s = mark_of(asked.s);
+    let d = mark_of(asked.d);
+    let f = mark_of(asked.e);
+    let set = Services { s, d, e: f };
+    let i = id_of(asked.s, e.s);
+    let j = id_of(asked.d, e.d);
+    let k = id_of(asked.e, e.e);
+    t.asked = set;
+    t.s = i;
+    t.d = j;
+    t.e = k;
+    t
+}
+
+fn going(number: u8, status: Status) -> Moving
+    ensures { λ r. ⌜ r ≡ moving number status ⌝ }
+{
+    let outcome = Outcome { number, service: 0 };
+    Moving { outcome, status }
+}
+
+// What an event that is no component changes: it looks at the status alone, and changes no other part.
+pub fn phase_step(t: Status, e: Event) -> Moving
+    ensures { λ r. ⌜ r ≡ movingOf t e ⌝ }
+{
+    let phase = next_phase(e.kind, t.phase);
+    if phase == 0 {
+        return going(14, t);
+    }
+    if bad_setup(e) {
+        return going(13, t);
+    }
+    let next = moved(t, e, phase);
+    going(0, next)
+}
