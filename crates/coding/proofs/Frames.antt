@@ -10,7 +10,7 @@ use lib.ListN.{getD}
 use lib.Dec.{leb, eqb}
 use borrow.Author.Tests.{leb-true, leb-false, lt-leb, le-leb, eqb-true, eq-eqb, ne-eqb}
 use Rattle.coding.specs.declared.Extent.{Extent}
-use Rattle.coding.specs.Reader.{Ans, Fault, got, halt, code, after, choice, blamed, lengthAt, opened, enteredAny, closed, constructed, oneOf}
+use Rattle.coding.specs.Reader.{Ans, Fault, got, halt, code, after, blamed, lengthAt, opened, enteredAny, closed, constructed, oneOf}
 use Rattle.coding.specs.Reader.Fault.{missing, unexpected}
 use Rattle.coding.specs.Codec.{Run, Spans, isTag, apart, cons, frames}
 use Rattle.coding.specs.Shown.{shown}

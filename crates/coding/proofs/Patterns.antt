@@ -1,6 +1,6 @@
 -- An identifier's contents by how many octets they are.
 -- Assumes nothing.
-use Prim.Native.Nat.{ℕ, _+_, _-_, _*_, _≤_, _<_}
+use Prim.Native.Nat.{ℕ, _+_, _-_, _*_, _≤_, _<_, min}
 use native.Mathlib.Omega.{arith}
 use mathlib.Core.Path.{_≡_, sym, ap, _∙_}
 use mathlib.Core.Bool.{true, false, true≢false}
@@ -8,7 +8,7 @@ use mathlib.Core.List.{List, [], _∷_}
 use lib.ListN.{length, getD, drop, length-drop}
 use lib.Seq.{length-take-le}
 use Rattle.coding.specs.Reader.{part, Ruling}
-use Rattle.coding.specs.Contents.{shortest}
+use Rattle.coding.specs.Contents.{numberFrom, shortest}
 use Rattle.coding.specs.Leaves.{integer}
 use Rattle.coding.specs.Shown.{verdict}
 use Rattle.coding.proofs.Laws.{Octets}
@@ -34,14 +34,16 @@ module _ (s : List ℕ) (i j : ℕ) (l : j ≤ length s) where
   unfolding verdict
   id-one e g = rw (one e, g)
 
-  pub id-two : {x y : ℕ} → j ≡ i + 2 → x ≡ getD s i 0 → y ≡ getD s (i + 1) 0 → x < 256 → y < 256 → shortest (part s i j) ≡ true
-      → (0, x * 256 + y) ≡ verdict 0 (integer 2 (part s i j))
-  unfolding verdict
-  id-two e p q l m h =
+  pub id-two : {n : ℕ} → Octets s → j ≡ i + 2 → n ≡ min (numberFrom 0 (part s i j)) 16777216 → shortest (part s i j) ≡ true
+      → ((0, n) ≡ verdict 0 (integer 2 (part s i j))) × (n < 65536)
+  unfolding verdict numberFrom
+  id-two {n} os e q h =
       let k : shortest (getD s i 0 ∷ getD s (i + 1) 0 ∷ []) ≡ true = rw (two e) at h in
-      let l' : getD s i 0 < 256 = omega arith in
-      let m' : getD s (i + 1) 0 < 256 = omega arith in
-      rw (two e, both-octets _ _ l' m' k, p, q)
+      let l : getD s i 0 < 256 = os i in
+      let m : getD s (i + 1) 0 < 256 = os (i + 1) in
+      let p : numberFrom 0 (part s i j) ≡ getD s i 0 * 256 + getD s (i + 1) 0 = ap (numberFrom 0) (two e) ∙ omega arith in
+      let v : n ≡ getD s i 0 * 256 + getD s (i + 1) 0 = omega (arith, q, p) in
+      (rw (two e, both-octets _ _ l m k, v), omega (arith, v))
 
   -- shortest contents are some
   some : shortest (part s i j) ≡ true → j ≤ i → ⊥

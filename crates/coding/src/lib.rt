@@ -43,13 +43,6 @@ fn wide(x: u8) -> usize
     x as usize
 }
 
-fn wide32(x: u8) -> u32
-    ensures { λ r. ⌜ r ≡ x ⌝ }
-    ensures small { λ r. ⌜ r < 256 ⌝ }
-{
-    x as u32
-}
-
 // Whether the tag comes next.
 pub fn is_tag(s: &[u8], at: usize, end: usize, tag: u8) -> bool
     requires { ⌜ end ≤ length (now s) ⌝ }
@@ -623,11 +616,10 @@ fn pattern(x: u8) -> u32
     ensures { λ r. ⌜ integer 2 (x ∷ []) ≡ good r ⌝ }
     ensures bounded { λ r. ⌜ r < 65536 ⌝ }
 {
-    let n = wide32(x);
-    if n < 0x80 {
-        return n;
+    if x < 0x80 {
+        return x as u32;
     }
-    0xff00 + n
+    0xff00 + (x as u32)
 }
 
 // An identifier's contents: -32,768 to 32,767, as its pattern of 16 bits.
@@ -647,12 +639,8 @@ fn identifier_in(s: &[u8], start: usize, stop: usize) -> Verdict
         return Verdict { fault: 0, value };
     }
     if stop == start + 2 {
-        let x = wide32(s[start]);
-        let y = wide32(s[start + 1]);
-        return Verdict {
-            fault: 0,
-            value: x * 256 + y,
-        };
+        let value = magnitude(s, start, stop);
+        return Verdict { fault: 0, value };
     }
     Verdict {
         fault: 44,

@@ -22,14 +22,11 @@ returns-2 c =
 
 returns-3 : tie.Need-returns-3
 returns-3 c =
-    let w = c .before .before in
-    let t = w .before .before in
-    let e = t .before .before in
+    let e = c .before .before .before in
     let d = e .before in
     let shortest = sym (d .is-shortest .ensures) ∙ not-false _ (e .if1 .left) in
-    let x = w .wide32 .ensures in
-    let y = c .wide322 .ensures in
-    (id-two _ _ _ (d .before .before .pre .1) (t .if3 .taken) (x .0) (y .0) (x .1) (y .1) shortest, omega arith)
+    let octets : Octets (d .before .before .args .s .now) = λ i. omega (arith, d .before .shared-slice-known .given i) in
+    id-two _ _ _ (d .before .before .pre .1) octets (c .before .if3 .taken) (c .magnitude .ensures) shortest
 
 returns-4 : tie.Need-returns-4
 returns-4 c =
@@ -42,4 +39,4 @@ returns-4 c =
 pub identifier-in-spec : {M : Type 1} → statement M
 identifier-in-spec =
     tie.close
-    (tie.spec (search needs) returns (search needs) (search needs) (search needs) returns-2 (search needs) (search needs) (search needs) (search needs) (search needs) (search needs) (search needs) (search needs) returns-3 returns-4)
+    (tie.spec (search needs) returns (search needs) (search needs) (search needs) returns-2 (search needs) (search needs) returns-3 returns-4)
