@@ -7,10 +7,10 @@
 ghost use Prim.Native.Nat.{ℕ, _+_, _*_, _≤_, _<_, min};
 ghost use mathlib.Core.Path.{_≡_};
 ghost use mathlib.Core.Bool.{true, false};
-ghost use mathlib.Core.List.{[], _∷_, _++_};
+ghost use mathlib.Core.List.{List, [], _∷_, _++_};
 ghost use lib.ListN.{length, getD, take};
 ghost use lib.Dec.{ltb};
-ghost use Rattle.coding.specs.Reader.{tagged, extent, numberedAt, endless, marker, findEnd, spanned, lengthAt, opened, part};
+ghost use Rattle.coding.specs.Reader.{tagged, neither, extent, numberedAt, endless, marker, findEnd, spanned, lengthAt, opened, part};
 ghost use Rattle.coding.specs.Reader.Ruling.{good};
 ghost use Rattle.coding.specs.Contents.{natural, shortest, negative, numberFrom, every};
 ghost use Rattle.coding.specs.Codec.{prim, lengthOctets};
@@ -265,6 +265,17 @@ fn short_length(s: &[u8], at: usize, end: usize, tag: u8) -> usize
     n
 }
 
+// Nothing that may stand at a place does.
+fn not_there(at: usize, end: usize) -> Opened
+    ensures { λ r. ⌜ ((s : List ℕ) → (r .fault, r .place, r .value, r .next) ≡ shown (record { start = 0; stop = 0 }) (neither s at end)) ⌝ }
+    ensures inside { λ r. ⌜ (r .value .start ≤ r .value .stop) × (r .value .stop ≤ end) ⌝ }
+{
+    if end <= at {
+        return halted(40, end);
+    }
+    halted(41, at)
+}
+
 // An element's tag and length octets.
 pub fn open_at(s: &[u8], at: usize, end: usize, tag: u8) -> Opened
     requires { ⌜ end ≤ length (now s) ⌝ }
@@ -291,13 +302,10 @@ pub fn open_long(s: &[u8], at: usize, end: usize, tag: u8) -> Opened
     ensures { λ r. ⌜ (r .fault, r .place, r .value, r .next) ≡ shown (record { start = 0; stop = 0 }) (opened tag (now (s .entry)) at end) ⌝ }
     ensures inside { λ r. ⌜ (r .value .start ≤ r .value .stop) × (r .value .stop ≤ end) ⌝ }
 {
-    if end <= at {
-        return halted(40, end);
+    if is_tag(s, at, end, tag) {
+        return length_at(s, at, at + 1, end);
     }
-    if s[at] != tag {
-        return halted(41, at);
-    }
-    length_at(s, at, at + 1, end)
+    not_there(at, end)
 }
 
 // The same for a tag that is mostly a primitive element's: there the length has a number, and no end marker is searched.
@@ -310,13 +318,10 @@ fn open_leaf(s: &[u8], at: usize, end: usize, tag: u8) -> Opened
     if tag / 32 % 2 == 1 {
         return open_long(s, at, end, tag);
     }
-    if end <= at {
-        return halted(40, end);
+    if is_tag(s, at, end, tag) {
+        return numbered_at(s, at, at + 1, end);
     }
-    if s[at] != tag {
-        return halted(41, at);
-    }
-    numbered_at(s, at, at + 1, end)
+    not_there(at, end)
 }
 
 // ---- Numbers.

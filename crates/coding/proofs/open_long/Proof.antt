@@ -4,24 +4,25 @@ use borrow.Author.Needs.{needs}
 use native.Mathlib.Omega.{arith}
 use mathlib.Core.Path.{ap, sym, _∙_}
 use Rattle.coding.specs.Shown.{shown}
-use Rattle.coding.proofs.Header.{opened-there}
-use Rattle.coding.proofs.Sought.{opens-none, opens-other}
+use Rattle.coding.proofs.Header.{tagged-is}
+use Rattle.coding.proofs.Sought.{opens-there, opens-not}
 use Rattle.coding.proofs.open_long.Statement.{statement}
 use Rattle.coding.proofs.open_long.Tie as tie
 
+add-length-at : tie.Need-add-length-at
+add-length-at c = omega (arith, tagged-is _ _ _ _ (sym (c .before .is-tag .ensures) ∙ c .if1 .taken) .0)
+
 returns : tie.Need-returns
-returns c = rw (c .halted .ensures) (opens-none _ _ _ _ _ (c .before .if1 .taken), omega arith)
+returns c =
+    let t = c .before in
+    let e = opens-there _ _ _ _ (sym (t .before .is-tag .ensures) ∙ t .if1 .taken) in
+    (c .length-at .ensures .0 ∙ ap (shown (record { start = 0; stop = 0 })) (sym e), c .length-at .ensures .1)
 
 returns-2 : tie.Need-returns-2
 returns-2 c =
-    rw (c .halted2 .ensures) (opens-other _ _ _ _ _ (c .before .before .before .if1 .left) (c .before .if2 .taken), omega arith)
-
-returns-3 : tie.Need-returns-3
-returns-3 c =
-    let e = opened-there _ _ _ _ (c .before .before .before .if1 .left) (c .before .if2 .left) in
-    (c .length-at .ensures .0 ∙ ap (shown (record { start = 0; stop = 0 })) (sym e), c .length-at .ensures .1)
+    let t = c .before in
+    let e = opens-not _ _ _ _ (sym (t .before .is-tag .ensures) ∙ t .if1 .left) in
+    (c .not-there .ensures .0 _ ∙ ap (shown (record { start = 0; stop = 0 })) (sym e), c .not-there .ensures .1)
 
 pub open-long-spec : {M : Type 1} → statement M
-open-long-spec =
-    tie.close
-    (tie.spec (search needs) returns (search needs) (search needs) returns-2 (search needs) (search needs) returns-3)
+open-long-spec = tie.close (tie.spec (search needs) add-length-at (search needs) returns (search needs) returns-2)
