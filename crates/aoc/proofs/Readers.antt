@@ -30,7 +30,8 @@ use denote.Triple.Walked.{says, Stays, stay-none-ref, walkOf, AllGo, goes-none-r
 use denote.Exit.{yes}
 use denote.Triple.Clauses.{Ended, Clauses, ensured, lasts, closing}
 use Rattle.account.specs.declared.Account.{Account}
-use Rattle.account.specs.History.{Given as Past, Judged, judged, accountBy}
+use Rattle.phases.specs.Phases.{Given as Past}
+use Rattle.account.specs.History.{Judged, judged, accountBy}
 use Rattle.account.proofs.Account as T
 use Rattle.account.proofs.Account.Laws as T′
 use Rattle.aoc.proofs.Reader.{reads, readsFn}

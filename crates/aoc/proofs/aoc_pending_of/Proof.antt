@@ -7,7 +7,7 @@ use denote.Struct.Laws as LL
 use Rattle.account.proofs.Pending as Q
 use Rattle.account.proofs.Pending.Laws as Q′
 use Rattle.account.specs.History.{pendingOf, requests}
-use Rattle.account.specs.Step.{requestsOf}
+use Rattle.outcomes.specs.Status.{requestsOf}
 use Rattle.account.proofs.pending_of.Symbol as callee-def
 use Rattle.account.proofs.pending_of.Symbol.{name as #account·pending-of}
 use Rattle.account.proofs.pending_of.Met as callee-thm
