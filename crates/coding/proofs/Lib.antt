@@ -1,4 +1,4 @@
--- The laws of the coding: what the proofs of this crate and of those above cite.
+-- The laws of the coding: what the proofs of the crates above cite.
 pub mod Basic
 pub mod Laws
 pub mod Length
@@ -8,25 +8,21 @@ pub mod Moved
 pub mod Bounds
 pub mod Combine
 pub mod Number
-pub mod Bits
 pub mod Signed
 pub mod Leaves
 pub mod Whole
 pub mod Padded
 pub mod Frame
 pub mod Reading
-pub mod Sought
 pub mod Parts
 pub mod Arrays
 pub mod Lists
 pub mod More
-pub mod Patterns
 pub mod Writing
 pub mod Only
 pub mod Frames
 pub mod Own
 pub mod Rows
-pub mod Shortcut
 pub mod Small
 pub mod Tests
 pub mod Room

@@ -254,3 +254,8 @@ numberLaws low high hh = record {
         let p : 256 ^ (suc (width n - 1)) ≡ 256 ^ (width n - 1) * 256 = pow-suc 256 (width n - 1) in
         let q : suc (width n - 1) ≡ width n = omega (arith, b .0) in
         omega (arith, b .1, p, ap (λ (k : ℕ). 256 ^ k) q)
+
+-- contents that are not shortest are told as such, whatever number they say
+pub natural-shortest : (low high : ℕ) (xs : List ℕ) → shortest xs ≡ false → natural low high xs ≡ Ruling.bad Fault.shortest
+unfolding natural
+natural-shortest low high xs h = unpicked _ _ h

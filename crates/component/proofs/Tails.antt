@@ -8,7 +8,7 @@ use mathlib.Core.List.{List}
 use lib.ListN.{length, replicate}
 use lib.Dec.{eqb}
 use borrow.Author.Tests.{le-leb, lt-leb, eqb-true, eqb-false, ne-eqb}
-use Rattle.coding.specs.declared.Empty.{Empty}
+use Rattle.read_elements.specs.declared.Empty.{Empty}
 use Rattle.coding.specs.Reader.{Ans, after, part}
 use Rattle.coding.specs.Reader.Ans.{got, halt}
 use Rattle.coding.specs.Codec.{Run, pickRun, canonical, over, marked}

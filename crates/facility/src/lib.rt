@@ -60,7 +60,7 @@ fn starts_from(octets: &[u8]) -> Starts
     let mut count: usize = 0;
     let mut at: usize = 3;
     while at < end {
-        let tile = coding::open_at(octets, at, end, octets[at]);
+        let tile = read_elements::open_at(octets, at, end, octets[at]);
         if tile.fault != 0 {
             return refused();
         }

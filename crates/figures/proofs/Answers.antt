@@ -5,7 +5,7 @@ use mathlib.Core.Path.{_≡_, ap, sym, _∙_}
 use mathlib.Core.Bool.{false}
 use lib.Dec.{eqb}
 use borrow.Author.Tests.{eq-eqb, ne-eqb}
-use Rattle.coding.specs.declared.Empty.{Empty}
+use Rattle.read_elements.specs.declared.Empty.{Empty}
 use Rattle.coding.specs.Reader.{Ans, Ruling, after, ruled}
 use Rattle.coding.specs.Shown.{shown, verdict}
 use Rattle.coding.proofs.Reading.{step, passes}

@@ -26,20 +26,20 @@ pub fn flag(b: bool) -> u8
     0
 }
 
-pub fn halted(fault: u8, place: usize) -> coding::Empty
+pub fn halted(fault: u8, place: usize) -> read_elements::Empty
     ensures { λ r. ⌜ r ≡ record { fault = fault; place = place; next = 0 } ⌝ }
 {
-    coding::Empty {
+    read_elements::Empty {
         fault,
         place,
         next: 0,
     }
 }
 
-pub fn reached(next: usize) -> coding::Empty
+pub fn reached(next: usize) -> read_elements::Empty
     ensures { λ r. ⌜ r ≡ record { fault = 0; place = 0; next = next } ⌝ }
 {
-    coding::Empty {
+    read_elements::Empty {
         fault: 0,
         place: 0,
         next,
@@ -75,13 +75,13 @@ fn currency_in(s: &[u8], start: usize, stop: usize, figure: &mut [u8; 48]) -> u8
     0
 }
 
-fn currency_at(s: &[u8], at: usize, end: usize, figure: &mut [u8; 48]) -> coding::Empty
+fn currency_at(s: &[u8], at: usize, end: usize, figure: &mut [u8; 48]) -> read_elements::Empty
     requires { ⌜ end ≤ length (now s) ⌝ }
     requires { ⌜ now figure ≡ replicate 48 0 ⌝ }
     ensures { λ r. ⌜ (r .fault, r .place, stored noCurrency (r .fault) ((moneyIn (now (figure .exit))) .currency), r .next) ≡ shown noCurrency ((currency 0x81) .read (now (s .entry)) at end) ⌝ }
     ensures rest { λ _. ⌜ drop 11 (now (figure .exit)) ≡ replicate 37 0 ⌝ }
 {
-    let e = coding::open_at(s, at, end, 0x81);
+    let e = read_elements::open_at(s, at, end, 0x81);
     if e.fault != 0 {
         return halted(e.fault, e.place);
     }
@@ -119,15 +119,15 @@ pub fn scaled_at(s: &[u8], at: usize, end: usize, tag: u8) -> ScaledRead
     ensures { λ r. ⌜ (r .fault, r .place, r .value, r .next) ≡ shown noScaled ((scaled tag) .read (now (s .entry)) at end) ⌝ }
     ensures bounded { λ r. ⌜ (r .value .number ≤ 16777215) × (r .value .scale ≤ 6) ⌝ }
 {
-    let e = coding::open_at(s, at, end, tag);
+    let e = read_elements::open_at(s, at, end, tag);
     if e.fault != 0 {
         return no_scaled(e.fault, e.place);
     }
-    let n = coding::natural_at(s, e.value.start, e.value.stop, 0x81, 0, 16777215);
+    let n = read_elements::natural_at(s, e.value.start, e.value.stop, 0x81, 0, 16777215);
     if n.fault != 0 {
         return no_scaled(n.fault, n.place);
     }
-    let m = coding::natural_at(s, n.next, e.value.stop, 0x82, 0, 6);
+    let m = read_elements::natural_at(s, n.next, e.value.stop, 0x82, 0, 6);
     if m.fault != 0 {
         return no_scaled(m.fault, m.place);
     }
@@ -162,7 +162,7 @@ fn keep_amount(figure: &mut [u8; 48], a: types::Scaled)
 }
 
 // 81 currency, A2 amount.
-pub fn money_at(s: &[u8], at: usize, end: usize, figure: &mut [u8; 48]) -> coding::Empty
+pub fn money_at(s: &[u8], at: usize, end: usize, figure: &mut [u8; 48]) -> read_elements::Empty
     requires { ⌜ end ≤ length (now s) ⌝ }
     requires { ⌜ now figure ≡ replicate 48 0 ⌝ }
     ensures { λ r. ⌜ (r .fault, r .place, stored noMoney (r .fault) (moneyIn (now (figure .exit))), r .next) ≡ shown noMoney (money .read (now (s .entry)) at end) ⌝ }
@@ -219,13 +219,13 @@ fn digits_at(
     kind: u8,
     plan: u8,
     figure: &mut [u8; 48],
-) -> coding::Empty
+) -> read_elements::Empty
     requires { ⌜ end ≤ length (now s) ⌝ }
     requires { ⌜ Unassociated (now figure) ⌝ }
     ensures { λ r. ⌜ (r .fault, r .place, stored noAssociation (r .fault) (associationIn (now (figure .exit))), r .next) ≡ shown noAssociation (primitive tag (numbered kind plan) (now (s .entry)) at end) ⌝ }
     ensures rest { λ _. ⌜ SameBeside (now (figure .entry)) (now (figure .exit)) ⌝ }
 {
-    let e = coding::open_long(s, at, end, tag);
+    let e = read_elements::open_long(s, at, end, tag);
     if e.fault != 0 {
         return halted(e.fault, e.place);
     }
@@ -237,17 +237,17 @@ fn digits_at(
 }
 
 // A number of a kind: A1 {0A kind 0, 1, 2, 3, 4 or 6; 12 digits}.
-fn public_at(s: &[u8], at: usize, end: usize, figure: &mut [u8; 48]) -> coding::Empty
+fn public_at(s: &[u8], at: usize, end: usize, figure: &mut [u8; 48]) -> read_elements::Empty
     requires { ⌜ end ≤ length (now s) ⌝ }
     requires { ⌜ Unassociated (now figure) ⌝ }
     ensures { λ r. ⌜ (r .fault, r .place, stored noAssociation (r .fault) (associationIn (now (figure .exit))), r .next) ≡ shown noAssociation (publicParty .read (now (s .entry)) at end) ⌝ }
     ensures rest { λ _. ⌜ SameBeside (now (figure .entry)) (now (figure .exit)) ⌝ }
 {
-    let e = coding::open_long(s, at, end, 0xa1);
+    let e = read_elements::open_long(s, at, end, 0xa1);
     if e.fault != 0 {
         return halted(e.fault, e.place);
     }
-    let k = coding::natural_long(s, e.value.start, e.value.stop, 0x0a, 0, 6);
+    let k = read_elements::natural_long(s, e.value.start, e.value.stop, 0x0a, 0, 6);
     if k.fault != 0 {
         return halted(k.fault, k.place);
     }
@@ -265,26 +265,26 @@ fn public_at(s: &[u8], at: usize, end: usize, figure: &mut [u8; 48]) -> coding::
 }
 
 // A number of a kind, or alone.
-fn number_at(s: &[u8], at: usize, end: usize, figure: &mut [u8; 48]) -> coding::Empty
+fn number_at(s: &[u8], at: usize, end: usize, figure: &mut [u8; 48]) -> read_elements::Empty
     requires { ⌜ end ≤ length (now s) ⌝ }
     requires { ⌜ Unassociated (now figure) ⌝ }
     ensures { λ r. ⌜ (r .fault, r .place, stored noAssociation (r .fault) (associationIn (now (figure .exit))), r .next) ≡ shown noAssociation ((sort 0xa1 (ofKind 3) publicParty plainParty) .read (now (s .entry)) at end) ⌝ }
     ensures rest { λ _. ⌜ SameBeside (now (figure .entry)) (now (figure .exit)) ⌝ }
 {
-    if coding::is_tag(s, at, end, 0xa1) {
+    if read_elements::is_tag(s, at, end, 0xa1) {
         return public_at(s, at, end, figure);
     }
     digits_at(s, at, end, 0x80, 2, 0, figure)
 }
 
 // A0 with a number.
-fn party_at(s: &[u8], at: usize, end: usize, figure: &mut [u8; 48]) -> coding::Empty
+fn party_at(s: &[u8], at: usize, end: usize, figure: &mut [u8; 48]) -> read_elements::Empty
     requires { ⌜ end ≤ length (now s) ⌝ }
     requires { ⌜ Unassociated (now figure) ⌝ }
     ensures { λ r. ⌜ (r .fault, r .place, stored noAssociation (r .fault) (associationIn (now (figure .exit))), r .next) ≡ shown noAssociation (party .read (now (s .entry)) at end) ⌝ }
     ensures rest { λ _. ⌜ SameBeside (now (figure .entry)) (now (figure .exit)) ⌝ }
 {
-    let e = coding::open_long(s, at, end, 0xa0);
+    let e = read_elements::open_long(s, at, end, 0xa0);
     if e.fault != 0 {
         return halted(e.fault, e.place);
     }
@@ -298,13 +298,13 @@ fn party_at(s: &[u8], at: usize, end: usize, figure: &mut [u8; 48]) -> coding::E
     reached(e.next)
 }
 
-fn identified_at(s: &[u8], at: usize, end: usize, figure: &mut [u8; 48]) -> coding::Empty
+fn identified_at(s: &[u8], at: usize, end: usize, figure: &mut [u8; 48]) -> read_elements::Empty
     requires { ⌜ end ≤ length (now s) ⌝ }
     requires { ⌜ Unassociated (now figure) ⌝ }
     ensures { λ r. ⌜ (r .fault, r .place, stored noAssociation (r .fault) (associationIn (now (figure .exit))), r .next) ≡ shown noAssociation (identified .read (now (s .entry)) at end) ⌝ }
     ensures rest { λ _. ⌜ SameBeside (now (figure .entry)) (now (figure .exit)) ⌝ }
 {
-    let i = coding::identifier_long(s, at, end, 0x02);
+    let i = read_elements::identifier_long(s, at, end, 0x02);
     if i.fault != 0 {
         return halted(i.fault, i.place);
     }
@@ -315,16 +315,21 @@ fn identified_at(s: &[u8], at: usize, end: usize, figure: &mut [u8; 48]) -> codi
 }
 
 // An optional association: an identifier, or a party's number.
-pub fn association_at(s: &[u8], at: usize, end: usize, figure: &mut [u8; 48]) -> coding::Empty
+pub fn association_at(
+    s: &[u8],
+    at: usize,
+    end: usize,
+    figure: &mut [u8; 48],
+) -> read_elements::Empty
     requires { ⌜ end ≤ length (now s) ⌝ }
     requires { ⌜ Unassociated (now figure) ⌝ }
     ensures { λ r. ⌜ (r .fault, r .place, stored noAssociation (r .fault) (associationIn (now (figure .exit))), r .next) ≡ shown noAssociation (association .read (now (s .entry)) at end) ⌝ }
     ensures rest { λ _. ⌜ SameBeside (now (figure .entry)) (now (figure .exit)) ⌝ }
 {
-    if coding::is_tag(s, at, end, 0x02) {
+    if read_elements::is_tag(s, at, end, 0x02) {
         return identified_at(s, at, end, figure);
     }
-    if coding::is_tag(s, at, end, 0xa0) {
+    if read_elements::is_tag(s, at, end, 0xa0) {
         return party_at(s, at, end, figure);
     }
     reached(at)
@@ -333,13 +338,13 @@ pub fn association_at(s: &[u8], at: usize, end: usize, figure: &mut [u8; 48]) ->
 // ---- figures without money
 
 // 81 00: free.
-pub fn free_at(s: &[u8], at: usize, end: usize, figure: &mut [u8; 48]) -> coding::Empty
+pub fn free_at(s: &[u8], at: usize, end: usize, figure: &mut [u8; 48]) -> read_elements::Empty
     requires { ⌜ end ≤ length (now s) ⌝ }
     requires { ⌜ now figure ≡ replicate 48 0 ⌝ }
     ensures { λ r. ⌜ (r .fault, r .place, stored noCharge (r .fault) (plain (figureIn (now (figure .exit)))), r .next) ≡ shown noCharge ((sign 0x81 1) .read (now (s .entry)) at end) ⌝ }
     ensures free { λ _. ⌜ Unassociated (now (figure .exit)) ⌝ }
 {
-    let z = coding::null_at(s, at, end, 0x81);
+    let z = read_elements::null_at(s, at, end, 0x81);
     if z.fault != 0 {
         return halted(z.fault, z.place);
     }
@@ -348,12 +353,17 @@ pub fn free_at(s: &[u8], at: usize, end: usize, figure: &mut [u8; 48]) -> coding
 }
 
 // The argument of operation 32: a special arrangement, 1 to 10.
-pub fn arrangement_at(s: &[u8], at: usize, end: usize, figure: &mut [u8; 48]) -> coding::Empty
+pub fn arrangement_at(
+    s: &[u8],
+    at: usize,
+    end: usize,
+    figure: &mut [u8; 48],
+) -> read_elements::Empty
     requires { ⌜ end ≤ length (now s) ⌝ }
     requires { ⌜ now figure ≡ replicate 48 0 ⌝ }
     ensures { λ r. ⌜ (r .fault, r .place, stored noCharge (r .fault) (plain (figureIn (now (figure .exit)))), r .next) ≡ shown noCharge (arrangement .read (now (s .entry)) at end) ⌝ }
 {
-    let n = coding::natural_at(s, at, end, 0x02, 1, 10);
+    let n = read_elements::natural_at(s, at, end, 0x02, 1, 10);
     if n.fault != 0 {
         return halted(n.fault, n.place);
     }

@@ -214,7 +214,7 @@ pub fn front_size(f: Front, n: usize) -> usize
     ensures { λ r. ⌜ r ≡ length (frontOctets f n) ⌝ }
     ensures few { λ r. ⌜ (5 ≤ r) × (r ≤ 10) ⌝ }
 {
-    let i = 2 + coding::id_width(f.id);
+    let i = 2 + write_elements::id_width(f.id);
     if f.frame == 1 {
         if f.operation == 30 {
             return i + 6;
@@ -240,10 +240,10 @@ fn put_invoke(buf: &mut [u8], at: usize, f: Front) -> usize
     requires { ⌜ (f .operation < 128) × (f .detail < 128) × (at + length (idOctets f ++ (fullNumber 0x02 (f .operation) ++ cond (eqb (f .operation) 30) (fullNumber 0x0a (f .detail)) [])) ≤ length (now buf)) ⌝ }
     ensures { λ r. ⌜ Wrote (now (buf .entry)) (now (buf .exit)) at (idOctets f ++ (fullNumber 0x02 (f .operation) ++ cond (eqb (f .operation) 30) (fullNumber 0x0a (f .detail)) [])) r ⌝ }
 {
-    let p = coding::put_id(buf, at, 0x02, f.id);
-    let q = coding::put_small(buf, p, 0x02, f.operation);
+    let p = write_elements::put_id(buf, at, 0x02, f.id);
+    let q = write_elements::put_small(buf, p, 0x02, f.operation);
     if f.operation == 30 {
-        return coding::put_small(buf, q, 0x0a, f.detail);
+        return write_elements::put_small(buf, q, 0x0a, f.detail);
     }
     q
 }
@@ -252,9 +252,9 @@ fn put_result(buf: &mut [u8], at: usize, f: Front, n: usize) -> usize
     requires { ⌜ (f .operation < 128) × (n < 250) × (at + length (idOctets f ++ (lead 0x30 (3 + n) ++ fullNumber 0x02 (f .operation))) ≤ length (now buf)) ⌝ }
     ensures { λ r. ⌜ Wrote (now (buf .entry)) (now (buf .exit)) at (idOctets f ++ (lead 0x30 (3 + n) ++ fullNumber 0x02 (f .operation))) r ⌝ }
 {
-    let p = coding::put_id(buf, at, 0x02, f.id);
-    let q = coding::put_lead(buf, p, 0x30, 3 + n);
-    coding::put_small(buf, q, 0x02, f.operation)
+    let p = write_elements::put_id(buf, at, 0x02, f.id);
+    let q = write_elements::put_lead(buf, p, 0x30, 3 + n);
+    write_elements::put_small(buf, q, 0x02, f.operation)
 }
 
 // The identifier, or NULL.
@@ -263,9 +263,9 @@ fn put_caller(buf: &mut [u8], at: usize, f: Front) -> usize
     ensures { λ r. ⌜ Wrote (now (buf .entry)) (now (buf .exit)) at (cond (eqb (f .unnamed) 1) (lead 0x05 0) (idOctets f)) r ⌝ }
 {
     if f.unnamed == 1 {
-        return coding::put_null(buf, at, 0x05);
+        return write_elements::put_null(buf, at, 0x05);
     }
-    coding::put_id(buf, at, 0x02, f.id)
+    write_elements::put_id(buf, at, 0x02, f.id)
 }
 
 fn put_reject(buf: &mut [u8], at: usize, f: Front) -> usize
@@ -273,15 +273,15 @@ fn put_reject(buf: &mut [u8], at: usize, f: Front) -> usize
     ensures { λ r. ⌜ Wrote (now (buf .entry)) (now (buf .exit)) at (cond (eqb (f .unnamed) 1) (lead 0x05 0) (idOctets f) ++ fullNumber (f .problem) (f .detail)) r ⌝ }
 {
     let p = put_caller(buf, at, f);
-    coding::put_small(buf, p, f.problem, f.detail)
+    write_elements::put_small(buf, p, f.problem, f.detail)
 }
 
 fn put_error(buf: &mut [u8], at: usize, f: Front) -> usize
     requires { ⌜ (f .error < 128) × (at + length (idOctets f ++ fullNumber 0x02 (f .error)) ≤ length (now buf)) ⌝ }
     ensures { λ r. ⌜ Wrote (now (buf .entry)) (now (buf .exit)) at (idOctets f ++ fullNumber 0x02 (f .error)) r ⌝ }
 {
-    let p = coding::put_id(buf, at, 0x02, f.id);
-    coding::put_small(buf, p, 0x02, f.error)
+    let p = write_elements::put_id(buf, at, 0x02, f.id);
+    write_elements::put_small(buf, p, 0x02, f.error)
 }
 
 pub fn put_front(buf: &mut [u8], at: usize, f: Front, n: usize) -> usize

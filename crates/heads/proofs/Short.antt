@@ -14,7 +14,7 @@ use Rattle.coding.specs.Leaves.{listing, listed}
 use Rattle.coding.specs.Shown.{shown}
 use Rattle.coding.specs.Shortcut.{Tiny}
 use Rattle.coding.proofs.Reading.{passes}
-use Rattle.coding.proofs.Shortcut.{tiny-read}
+use Rattle.read_elements.proofs.Shortcut.{tiny-read}
 use Rattle.types.specs.Frames.{value}
 use Rattle.heads.proofs.Codes.{list-known}
 

@@ -15,7 +15,7 @@ use Rattle.coding.proofs.Reading.{gives}
 use Rattle.coding.proofs.Rows.{rows-more-at}
 use Rattle.coding.proofs.Lists.{Going, going-start, going-more, list-done, list-fault, list-limit, list-strange, list-none}
 use Rattle.types.specs.declared.Charge.{Charge}
-use Rattle.coding.specs.declared.Empty.{Empty}
+use Rattle.read_elements.specs.declared.Empty.{Empty}
 use Rattle.types.specs.Arguments.{noCharge, listFigure}
 use Rattle.types.specs.Stored.{figureIn, Blank}
 use Rattle.lists.specs.Readers.{whole}

@@ -9,7 +9,7 @@ use lib.Dec.{leb}
 use borrow.Author.Tests.{leb-true}
 use lib.ListN.{length, getD, set, take, drop, replicate, length-set, length-take, length-drop, take-append-drop}
 use lib.Seq.{length-take-le}
-use Rattle.coding.specs.declared.Empty.{Empty}
+use Rattle.read_elements.specs.declared.Empty.{Empty}
 use Rattle.coding.specs.Reader.{part}
 use Rattle.types.specs.declared.Charge.{Charge}
 use Rattle.types.specs.Charges.{flag, noAssociation}

@@ -5,7 +5,7 @@ use mathlib.Core.List.{List}
 use mathlib.Core.Bool.{Bool, _&&_, _||_, cond}
 use lib.ListN.{length}
 use lib.Dec.{leb, eqb}
-use Rattle.coding.specs.declared.Empty.{Empty}
+use Rattle.read_elements.specs.declared.Empty.{Empty}
 use Rattle.coding.specs.declared.Chosen.{Chosen}
 use Rattle.coding.specs.declared.Extent.{Extent}
 use Rattle.coding.specs.Reader.{Reader, choice, listOf, opened, _>>=_, pure}

@@ -45,8 +45,8 @@ fn unit_number_at(s: &[u8], at: usize, end: usize) -> UnitsRead
     requires { ⌜ end ≤ length (now s) ⌝ }
     ensures { λ r. ⌜ (r .fault, r .place, r .value, r .next) ≡ shown noUnits (unitNumber (now (s .entry)) at end) ⌝ }
 {
-    if coding::is_tag(s, at, end, 0x05) {
-        let z = coding::null_at(s, at, end, 0x05);
+    if read_elements::is_tag(s, at, end, 0x05) {
+        let z = read_elements::null_at(s, at, end, 0x05);
         if z.fault != 0 {
             return no_units(z.fault, z.place);
         }
@@ -57,7 +57,7 @@ fn unit_number_at(s: &[u8], at: usize, end: usize) -> UnitsRead
             next: z.next,
         };
     }
-    let n = coding::natural_at(s, at, end, 0x02, 0, 16777215);
+    let n = read_elements::natural_at(s, at, end, 0x02, 0, 16777215);
     if n.fault != 0 {
         return no_units(n.fault, n.place);
     }
@@ -78,7 +78,7 @@ pub fn unit_at(s: &[u8], at: usize, end: usize) -> UnitsRead
     requires { ⌜ end ≤ length (now s) ⌝ }
     ensures { λ r. ⌜ (r .fault, r .place, r .value, r .next) ≡ shown noUnits (unit .read (now (s .entry)) at end) ⌝ }
 {
-    let e = coding::open_at(s, at, end, 0x30);
+    let e = read_elements::open_at(s, at, end, 0x30);
     if e.fault != 0 {
         return no_units(e.fault, e.place);
     }
@@ -86,7 +86,7 @@ pub fn unit_at(s: &[u8], at: usize, end: usize) -> UnitsRead
     if n.fault != 0 {
         return no_units(n.fault, n.place);
     }
-    let k = coding::chosen_at(s, n.next, e.value.stop, 0x02, 1, 16);
+    let k = read_elements::chosen_at(s, n.next, e.value.stop, 0x02, 1, 16);
     if k.fault != 0 {
         return no_units(k.fault, k.place);
     }
@@ -126,7 +126,7 @@ fn units_in(
     numbers: &mut [u32; 32],
     octets: &mut [u8; 192],
     figure: &mut [u8; 48],
-) -> coding::Empty
+) -> read_elements::Empty
     requires { ⌜ end ≤ length (now s) ⌝ }
     requires { ⌜ Blank (now figure) (now numbers) (now octets) ⌝ }
     ensures { λ r. ⌜ whole r (now (figure .exit)) (now (numbers .exit)) (now (octets .exit)) ≡ shown noCharge (inUnits .read (now (s .entry)) at end) ⌝ }
@@ -166,7 +166,7 @@ fn rates_in(
     numbers: &mut [u32; 32],
     octets: &mut [u8; 192],
     figure: &mut [u8; 48],
-) -> coding::Empty
+) -> read_elements::Empty
     requires { ⌜ end ≤ length (now s) ⌝ }
     requires { ⌜ Blank (now figure) (now numbers) (now octets) ⌝ }
     ensures { λ r. ⌜ whole r (now (figure .exit)) (now (numbers .exit)) (now (octets .exit)) ≡ shown noCharge (inRates (now (s .entry)) at end) ⌝ }
@@ -205,12 +205,12 @@ fn rates_at(
     numbers: &mut [u32; 32],
     octets: &mut [u8; 192],
     figure: &mut [u8; 48],
-) -> coding::Empty
+) -> read_elements::Empty
     requires { ⌜ end ≤ length (now s) ⌝ }
     requires { ⌜ Blank (now figure) (now numbers) (now octets) ⌝ }
     ensures { λ r. ⌜ whole r (now (figure .exit)) (now (numbers .exit)) (now (octets .exit)) ≡ shown noCharge (rates .read (now (s .entry)) at end) ⌝ }
 {
-    let e = coding::open_at(s, at, end, 0x30);
+    let e = read_elements::open_at(s, at, end, 0x30);
     if e.fault != 0 {
         return figures::halted(e.fault, e.place);
     }
@@ -255,7 +255,7 @@ fn price_in(
     numbers: &mut [u32; 32],
     octets: &mut [u8; 192],
     figure: &mut [u8; 48],
-) -> coding::Empty
+) -> read_elements::Empty
     requires { ⌜ end ≤ length (now s) ⌝ }
     requires { ⌜ Blank (now figure) (now numbers) (now octets) ⌝ }
     ensures { λ r. ⌜ whole r (now (figure .exit)) (now (numbers .exit)) (now (octets .exit)) ≡ shown noCharge ((amountBy operation) .read (now (s .entry)) at end) ⌝ }
@@ -273,15 +273,15 @@ fn price_in(
 }
 
 // The type of 33 and 34; 35 and 36 have none.
-fn type_at(s: &[u8], at: usize, end: usize, operation: u8) -> coding::NumberRead
+fn type_at(s: &[u8], at: usize, end: usize, operation: u8) -> read_elements::NumberRead
     requires { ⌜ end ≤ length (now s) ⌝ }
     ensures { λ r. ⌜ (r .fault, r .place, r .value, r .next) ≡ shown 0 (typeBy (isSubtotal operation) (now (s .entry)) at end) ⌝ }
     ensures bounded { λ r. ⌜ r .value ≤ 1 ⌝ }
 {
     if is_subtotal(operation) {
-        return coding::natural_at(s, at, end, 0x82, 0, 1);
+        return read_elements::natural_at(s, at, end, 0x82, 0, 1);
     }
-    coding::NumberRead {
+    read_elements::NumberRead {
         fault: 0,
         place: 0,
         value: 0,
@@ -290,15 +290,15 @@ fn type_at(s: &[u8], at: usize, end: usize, operation: u8) -> coding::NumberRead
 }
 
 // Optional billing: 83 to 2 in 33 and 34, 82 to 7 in 35 and 36.
-fn billing_at(s: &[u8], at: usize, end: usize, operation: u8) -> coding::ChosenRead
+fn billing_at(s: &[u8], at: usize, end: usize, operation: u8) -> read_elements::ChosenRead
     requires { ⌜ end ≤ length (now s) ⌝ }
     ensures { λ r. ⌜ (r .fault, r .place, r .value, r .next) ≡ shown (record { given = false; value = 0 }) (billingBy (isSubtotal operation) (now (s .entry)) at end) ⌝ }
     ensures bounded { λ r. ⌜ r .value .value ≤ 7 ⌝ }
 {
     if is_subtotal(operation) {
-        return coding::chosen_at(s, at, end, 0x83, 0, 2);
+        return read_elements::chosen_at(s, at, end, 0x83, 0, 2);
     }
-    coding::chosen_at(s, at, end, 0x82, 0, 7)
+    read_elements::chosen_at(s, at, end, 0x82, 0, 7)
 }
 
 // The 30 that holds A1, the type and the billing.
@@ -310,17 +310,17 @@ fn priced_at(
     numbers: &mut [u32; 32],
     octets: &mut [u8; 192],
     figure: &mut [u8; 48],
-) -> coding::Empty
+) -> read_elements::Empty
     requires { ⌜ end ≤ length (now s) ⌝ }
     requires { ⌜ Blank (now figure) (now numbers) (now octets) ⌝ }
     ensures { λ r. ⌜ whole r (now (figure .exit)) (now (numbers .exit)) (now (octets .exit)) ≡ shown noCharge ((pricedOf operation) .read (now (s .entry)) at end) ⌝ }
     ensures clear { λ _. ⌜ Clear (now (figure .exit)) ⌝ }
 {
-    let e = coding::open_at(s, at, end, 0x30);
+    let e = read_elements::open_at(s, at, end, 0x30);
     if e.fault != 0 {
         return figures::halted(e.fault, e.place);
     }
-    let a = coding::open_at(s, e.value.start, e.value.stop, 0xa1);
+    let a = read_elements::open_at(s, e.value.start, e.value.stop, 0xa1);
     if a.fault != 0 {
         return figures::halted(a.fault, a.place);
     }
@@ -365,28 +365,28 @@ fn settled_at(
     numbers: &mut [u32; 32],
     octets: &mut [u8; 192],
     figure: &mut [u8; 48],
-) -> coding::Empty
+) -> read_elements::Empty
     requires { ⌜ end ≤ length (now s) ⌝ }
     requires { ⌜ Blank (now figure) (now numbers) (now octets) ⌝ }
     ensures { λ r. ⌜ whole r (now (figure .exit)) (now (numbers .exit)) (now (octets .exit)) ≡ shown noCharge ((settledOf operation) .read (now (s .entry)) at end) ⌝ }
     ensures clear { λ _. ⌜ Unassociated (now (figure .exit)) ⌝ }
 {
-    if coding::is_tag(s, at, end, 0x81) {
+    if read_elements::is_tag(s, at, end, 0x81) {
         return figures::free_at(s, at, end, figure);
     }
     priced_at(s, at, end, operation, numbers, octets, figure)
 }
 
 // 35 and 36 have a 30 around the charge and its association; 33 and 34 have none.
-fn frame_at(s: &[u8], at: usize, end: usize, operation: u8) -> coding::Opened
+fn frame_at(s: &[u8], at: usize, end: usize, operation: u8) -> read_elements::Opened
     requires { ⌜ end ≤ length (now s) ⌝ }
     ensures { λ r. ⌜ (r .fault, r .place, r .value, r .next) ≡ shown (record { start = 0; stop = 0 }) (framedBy (isSubtotal operation) (now (s .entry)) at end) ⌝ }
     ensures inside { λ r. ⌜ r .value .stop ≤ end ⌝ }
 {
     if !is_subtotal(operation) {
-        return coding::open_at(s, at, end, 0x30);
+        return read_elements::open_at(s, at, end, 0x30);
     }
-    coding::Opened {
+    read_elements::Opened {
         fault: 0,
         place: 0,
         value: coding::Extent {
@@ -406,7 +406,7 @@ fn figure_at(
     numbers: &mut [u32; 32],
     octets: &mut [u8; 192],
     figure: &mut [u8; 48],
-) -> coding::Empty
+) -> read_elements::Empty
     requires { ⌜ end ≤ length (now s) ⌝ }
     requires { ⌜ Blank (now figure) (now numbers) (now octets) ⌝ }
     ensures { λ r. ⌜ whole r (now (figure .exit)) (now (numbers .exit)) (now (octets .exit)) ≡ shown noCharge ((figureOf operation) .read (now (s .entry)) at end) ⌝ }
@@ -466,7 +466,7 @@ fn is_arranged(s: &[u8], at: usize, end: usize, operation: u8) -> bool
     if operation != 30 {
         return false;
     }
-    coding::is_tag(s, at, end, 0x02)
+    read_elements::is_tag(s, at, end, 0x02)
 }
 
 // The charge into the parts that are lent.
@@ -478,7 +478,7 @@ pub fn charge_into(
     numbers: &mut [u32; 32],
     octets: &mut [u8; 192],
     figure: &mut [u8; 48],
-) -> coding::Empty
+) -> read_elements::Empty
     requires { ⌜ end ≤ length (now s) ⌝ }
     requires { ⌜ Blank (now figure) (now numbers) (now octets) ⌝ }
     ensures { λ r. ⌜ whole r (now (figure .exit)) (now (numbers .exit)) (now (octets .exit)) ≡ shown noCharge ((available operation) .read (now (s .entry)) at end) ⌝ }

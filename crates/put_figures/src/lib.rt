@@ -185,10 +185,10 @@ fn currency_fine(c: Currency) -> bool
     if 10 < n {
         return false;
     }
-    if !coding::below(&octets, n, 10, 1) {
+    if !read_elements::below(&octets, n, 10, 1) {
         return false;
     }
-    coding::below(&octets, 0, n, 0x80)
+    read_elements::below(&octets, 0, n, 0x80)
 }
 
 pub fn money_fine(m: Money) -> bool
@@ -231,7 +231,7 @@ fn digits_fine(digits: [u8; 20], count: u16) -> bool
     if 20 < n {
         return false;
     }
-    if !coding::below(&digits, n, 20, 1) {
+    if !read_elements::below(&digits, n, 20, 1) {
         return false;
     }
     all_digits(&digits, n)
@@ -480,7 +480,7 @@ pub fn sized(n: usize) -> usize
     ensures few { λ r. ⌜ (n + 2 ≤ r) × (r ≤ n + 4) ⌝ }
 {
     if n < 256 {
-        return coding::element_size(n);
+        return write_elements::element_size(n);
     }
     n + 4
 }
@@ -491,7 +491,7 @@ pub fn scaled_size(s: Scaled) -> usize
     ensures { λ r. ⌜ ((tag : ℕ) → r ≡ length ((scaled tag) .write s)) ⌝ }
     ensures few { λ r. ⌜ r ≤ 11 ⌝ }
 {
-    7 + coding::width_of(s.number)
+    7 + write_elements::width_of(s.number)
 }
 
 pub fn money_size(m: Money) -> usize
@@ -500,7 +500,7 @@ pub fn money_size(m: Money) -> usize
     ensures few { λ r. ⌜ r ≤ 23 ⌝ }
 {
     let n = m.currency.count as usize;
-    9 + n + coding::width_of(m.number)
+    9 + n + write_elements::width_of(m.number)
 }
 
 pub fn association_size(a: Association) -> usize
@@ -512,7 +512,7 @@ pub fn association_size(a: Association) -> usize
         return 0;
     }
     if a.kind == 1 {
-        return 2 + coding::id_width(a.id);
+        return 2 + write_elements::id_width(a.id);
     }
     let n = a.count as usize;
     if a.kind == 3 {
@@ -598,10 +598,10 @@ pub fn put_scaled(buf: &mut [u8], at: usize, tag: u8, s: Scaled) -> usize
     requires { ⌜ (s .scale ≤ 6) × (at + length ((scaled tag) .write s) ≤ length (now buf)) ⌝ }
     ensures { λ r. ⌜ Wrote (now (buf .entry)) (now (buf .exit)) at ((scaled tag) .write s) r ⌝ }
 {
-    let w = coding::width_of(s.number);
-    let p = coding::put_lead(buf, at, tag, 5 + w);
-    let q = coding::put_number(buf, p, 0x81, s.number);
-    coding::put_small(buf, q, 0x82, s.scale)
+    let w = write_elements::width_of(s.number);
+    let p = write_elements::put_lead(buf, at, tag, 5 + w);
+    let q = write_elements::put_number(buf, p, 0x81, s.number);
+    write_elements::put_small(buf, q, 0x82, s.scale)
 }
 
 pub fn put_money(buf: &mut [u8], at: usize, m: Money) -> usize
@@ -615,7 +615,7 @@ pub fn put_money(buf: &mut [u8], at: usize, m: Money) -> usize
         number: m.number,
         scale: m.multiplier,
     };
-    let p = coding::put_string(buf, at, 0x81, &octets, n);
+    let p = write_elements::put_string(buf, at, 0x81, &octets, n);
     put_scaled(buf, p, 0xa2, s)
 }
 
@@ -625,10 +625,10 @@ fn put_public(buf: &mut [u8], at: usize, a: Association) -> usize
 {
     let n = a.count as usize;
     let digits = a.digits;
-    let p = coding::put_lead(buf, at, 0xa0, 7 + n);
-    let q = coding::put_lead(buf, p, 0xa1, 5 + n);
-    let t = coding::put_small(buf, q, 0x0a, a.plan);
-    coding::put_string(buf, t, 0x12, &digits, n)
+    let p = write_elements::put_lead(buf, at, 0xa0, 7 + n);
+    let q = write_elements::put_lead(buf, p, 0xa1, 5 + n);
+    let t = write_elements::put_small(buf, q, 0x0a, a.plan);
+    write_elements::put_string(buf, t, 0x12, &digits, n)
 }
 
 fn put_plain(buf: &mut [u8], at: usize, a: Association) -> usize
@@ -638,8 +638,8 @@ fn put_plain(buf: &mut [u8], at: usize, a: Association) -> usize
 {
     let n = a.count as usize;
     let digits = a.digits;
-    let p = coding::put_lead(buf, at, 0xa0, 2 + n);
-    coding::put_string(buf, p, 0x80, &digits, n)
+    let p = write_elements::put_lead(buf, at, 0xa0, 2 + n);
+    write_elements::put_string(buf, p, 0x80, &digits, n)
 }
 
 pub fn put_association(buf: &mut [u8], at: usize, a: Association) -> usize
@@ -650,7 +650,7 @@ pub fn put_association(buf: &mut [u8], at: usize, a: Association) -> usize
         return at;
     }
     if a.kind == 1 {
-        return coding::put_id(buf, at, 0x02, a.id);
+        return write_elements::put_id(buf, at, 0x02, a.id);
     }
     if a.kind == 3 {
         return put_public(buf, at, a);
@@ -663,7 +663,7 @@ fn put_billing(buf: &mut [u8], at: usize, tag: u8, billed: u8, billing: u8) -> u
     ensures { λ r. ⌜ Wrote (now (buf .entry)) (now (buf .exit)) at (billingOctets tag billed billing) r ⌝ }
 {
     if billed == 1 {
-        return coding::put_small(buf, at, tag, billing);
+        return write_elements::put_small(buf, at, tag, billing);
     }
     at
 }
@@ -675,7 +675,7 @@ fn put_marks(buf: &mut [u8], at: usize, f: Figure, operation: u8) -> usize
     if 35 <= operation {
         return put_billing(buf, at, 0x82, f.billed, f.billing);
     }
-    let p = coding::put_small(buf, at, 0x82, f.total);
+    let p = write_elements::put_small(buf, at, 0x82, f.total);
     put_billing(buf, p, 0x83, f.billed, f.billing)
 }
 
@@ -684,8 +684,8 @@ fn put_leads(buf: &mut [u8], at: usize, inner: usize, n: usize) -> usize
     requires { ⌜ (inner < 256) × (n < 256) × (at + length (lead 0x30 inner ++ lead 0xa1 n) ≤ length (now buf)) ⌝ }
     ensures { λ r. ⌜ Wrote (now (buf .entry)) (now (buf .exit)) at (lead 0x30 inner ++ lead 0xa1 n) r ⌝ }
 {
-    let p = coding::put_lead(buf, at, 0x30, inner);
-    coding::put_lead(buf, p, 0xa1, n)
+    let p = write_elements::put_lead(buf, at, 0x30, inner);
+    write_elements::put_lead(buf, p, 0xa1, n)
 }
 
 // What stands before the n octets that the A1 of a figure holds.
@@ -699,7 +699,7 @@ pub fn put_before(buf: &mut [u8], at: usize, f: Figure, operation: u8, n: usize)
     if operation < 35 {
         return put_leads(buf, at, inner, n);
     }
-    let p = coding::put_lead(buf, at, 0x30, sized(inner) + association_size(a));
+    let p = write_elements::put_lead(buf, at, 0x30, sized(inner) + association_size(a));
     put_leads(buf, p, inner, n)
 }
 
@@ -722,10 +722,10 @@ fn put_free(buf: &mut [u8], at: usize, f: Figure, operation: u8) -> usize
 {
     let a = f.association;
     if operation < 35 {
-        return coding::put_null(buf, at, 0x81);
+        return write_elements::put_null(buf, at, 0x81);
     }
-    let p = coding::put_lead(buf, at, 0x30, 2 + association_size(a));
-    let q = coding::put_null(buf, p, 0x81);
+    let p = write_elements::put_lead(buf, at, 0x30, 2 + association_size(a));
+    let q = write_elements::put_null(buf, p, 0x81);
     put_association(buf, q, a)
 }
 
@@ -739,10 +739,10 @@ pub fn put_figure(buf: &mut [u8], at: usize, f: Figure, operation: u8) -> usize
 {
     let m = f.money;
     if f.kind == 0 {
-        return coding::put_null(buf, at, 0x05);
+        return write_elements::put_null(buf, at, 0x05);
     }
     if f.kind == 5 {
-        return coding::put_small(buf, at, 0x02, f.arrangement);
+        return write_elements::put_small(buf, at, 0x02, f.arrangement);
     }
     if f.kind == 1 {
         return put_free(buf, at, f, operation);

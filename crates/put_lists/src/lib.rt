@@ -47,7 +47,7 @@ fn number_size(u: Units) -> usize
     ensures few { λ r. ⌜ (2 ≤ r) × (r ≤ 6) ⌝ }
 {
     if u.known == 1 {
-        return 2 + coding::width_of(u.number);
+        return 2 + write_elements::width_of(u.number);
     }
     2
 }
@@ -76,9 +76,9 @@ fn put_number(buf: &mut [u8], at: usize, u: Units) -> usize
     ensures { λ r. ⌜ Wrote (now (buf .entry)) (now (buf .exit)) at (numberOctets u) r ⌝ }
 {
     if u.known == 1 {
-        return coding::put_number(buf, at, 0x02, u.number);
+        return write_elements::put_number(buf, at, 0x02, u.number);
     }
-    coding::put_null(buf, at, 0x05)
+    write_elements::put_null(buf, at, 0x05)
 }
 
 fn put_type(buf: &mut [u8], at: usize, u: Units) -> usize
@@ -88,7 +88,7 @@ fn put_type(buf: &mut [u8], at: usize, u: Units) -> usize
     if u.kind == 0 {
         return at;
     }
-    coding::put_small(buf, at, 0x02, u.kind)
+    write_elements::put_small(buf, at, 0x02, u.kind)
 }
 
 fn put_unit(buf: &mut [u8], at: usize, u: Units) -> usize
@@ -97,7 +97,7 @@ fn put_unit(buf: &mut [u8], at: usize, u: Units) -> usize
     ensures { λ r. ⌜ Wrote (now (buf .entry)) (now (buf .exit)) at (unit .write u) r ⌝ }
 {
     let n = number_size(u) + type_size(u);
-    let p = coding::put_lead(buf, at, 0x30, n);
+    let p = write_elements::put_lead(buf, at, 0x30, n);
     let q = put_number(buf, p, u);
     put_type(buf, q, u)
 }
@@ -264,7 +264,7 @@ fn put_rates_charge(
 {
     let n = count as usize;
     let size = put_rates::rates_size(numbers, octets, n);
-    let p = coding::put_lead(buf, at, 0x30, size);
+    let p = write_elements::put_lead(buf, at, 0x30, size);
     put_rates::put_rates(buf, p, numbers, octets, n)
 }
 

@@ -303,9 +303,9 @@ fn put_terms(buf: &mut [u8], at: usize, r: Rate) -> usize
         return at;
     }
     if r.kind == 3 {
-        return coding::put_small(buf, at, 0x83, r.detail);
+        return write_elements::put_small(buf, at, 0x83, r.detail);
     }
-    let p = coding::put_small(buf, at, 0x83, r.detail);
+    let p = write_elements::put_small(buf, at, 0x83, r.detail);
     let q = put_figures::put_scaled(buf, p, 0xa4, t);
     put_step(buf, q, r)
 }
@@ -316,7 +316,7 @@ fn put_priced(buf: &mut [u8], at: usize, r: Rate) -> usize
 {
     let m = money_of(r);
     let n = priced_size(r);
-    let p = coding::put_lead(buf, at, 0xa0 + r.kind, n);
+    let p = write_elements::put_lead(buf, at, 0xa0 + r.kind, n);
     let q = put_figures::put_money(buf, p, m);
     put_terms(buf, q, r)
 }
@@ -329,12 +329,12 @@ fn put_price(buf: &mut [u8], at: usize, r: Rate) -> usize
         return put_priced(buf, at, r);
     }
     if r.kind == 4 {
-        return coding::put_small(buf, at, 0x02, r.detail);
+        return write_elements::put_small(buf, at, 0x02, r.detail);
     }
     if r.kind == 5 {
-        return coding::put_null(buf, at, 0x84);
+        return write_elements::put_null(buf, at, 0x84);
     }
-    coding::put_null(buf, at, 0x85)
+    write_elements::put_null(buf, at, 0x85)
 }
 
 fn put_rate(buf: &mut [u8], at: usize, r: Rate) -> usize
@@ -342,8 +342,8 @@ fn put_rate(buf: &mut [u8], at: usize, r: Rate) -> usize
     ensures { λ n. ⌜ Wrote (now (buf .entry)) (now (buf .exit)) at (rate .write r) n ⌝ }
 {
     let n = price_size(r);
-    let p = coding::put_lead(buf, at, 0x30, 3 + n);
-    let q = coding::put_small(buf, p, 0x0a, r.item);
+    let p = write_elements::put_lead(buf, at, 0x30, 3 + n);
+    let q = write_elements::put_small(buf, p, 0x0a, r.item);
     put_price(buf, q, r)
 }
 

@@ -35,7 +35,7 @@ fn step_at(s: &[u8], at: usize, end: usize) -> StepRead
     requires { ⌜ end ≤ length (now s) ⌝ }
     ensures { λ r. ⌜ (r .fault, r .place, r .value, r .next) ≡ shown noStep (stepTime (now (s .entry)) at end) ⌝ }
 {
-    if coding::is_tag(s, at, end, 0xa5) {
+    if read_elements::is_tag(s, at, end, 0xa5) {
         let t = figures::scaled_at(s, at, end, 0xa5);
         if t.fault != 0 {
             return StepRead {
@@ -162,7 +162,7 @@ fn duration_at(s: &[u8], at: usize, end: usize) -> RateRead
     requires { ⌜ end ≤ length (now s) ⌝ }
     ensures { λ r. ⌜ (r .fault, r .place, r .value, r .next) ≡ shown noRate (duration .read (now (s .entry)) at end) ⌝ }
 {
-    let e = coding::open_at(s, at, end, 0xa1);
+    let e = read_elements::open_at(s, at, end, 0xa1);
     if e.fault != 0 {
         return no_rate(e.fault, e.place);
     }
@@ -170,7 +170,7 @@ fn duration_at(s: &[u8], at: usize, end: usize) -> RateRead
     if m.fault != 0 {
         return no_rate(m.fault, m.place);
     }
-    let d = coding::natural_at(s, m.next, e.value.stop, 0x83, 0, 1);
+    let d = read_elements::natural_at(s, m.next, e.value.stop, 0x83, 0, 1);
     if d.fault != 0 {
         return no_rate(d.fault, d.place);
     }
@@ -193,7 +193,7 @@ fn flat_at(s: &[u8], at: usize, end: usize) -> RateRead
     requires { ⌜ end ≤ length (now s) ⌝ }
     ensures { λ r. ⌜ (r .fault, r .place, r .value, r .next) ≡ shown noRate (flatRate .read (now (s .entry)) at end) ⌝ }
 {
-    let e = coding::open_at(s, at, end, 0xa2);
+    let e = read_elements::open_at(s, at, end, 0xa2);
     if e.fault != 0 {
         return no_rate(e.fault, e.place);
     }
@@ -212,7 +212,7 @@ fn volume_at(s: &[u8], at: usize, end: usize) -> RateRead
     requires { ⌜ end ≤ length (now s) ⌝ }
     ensures { λ r. ⌜ (r .fault, r .place, r .value, r .next) ≡ shown noRate (volume .read (now (s .entry)) at end) ⌝ }
 {
-    let e = coding::open_at(s, at, end, 0xa3);
+    let e = read_elements::open_at(s, at, end, 0xa3);
     if e.fault != 0 {
         return no_rate(e.fault, e.place);
     }
@@ -220,7 +220,7 @@ fn volume_at(s: &[u8], at: usize, end: usize) -> RateRead
     if m.fault != 0 {
         return no_rate(m.fault, m.place);
     }
-    let d = coding::natural_at(s, m.next, e.value.stop, 0x83, 0, 2);
+    let d = read_elements::natural_at(s, m.next, e.value.stop, 0x83, 0, 2);
     if d.fault != 0 {
         return no_rate(d.fault, d.place);
     }
@@ -235,7 +235,7 @@ fn coded_at(s: &[u8], at: usize, end: usize) -> RateRead
     requires { ⌜ end ≤ length (now s) ⌝ }
     ensures { λ r. ⌜ (r .fault, r .place, r .value, r .next) ≡ shown noRate (coded .read (now (s .entry)) at end) ⌝ }
 {
-    let n = coding::natural_at(s, at, end, 0x02, 1, 10);
+    let n = read_elements::natural_at(s, at, end, 0x02, 1, 10);
     if n.fault != 0 {
         return no_rate(n.fault, n.place);
     }
@@ -254,7 +254,7 @@ fn plain_rate_at(s: &[u8], at: usize, end: usize, tag: u8, kind: u8) -> RateRead
     requires { ⌜ end ≤ length (now s) ⌝ }
     ensures { λ r. ⌜ (r .fault, r .place, r .value, r .next) ≡ shown noRate ((plainRate tag kind) .read (now (s .entry)) at end) ⌝ }
 {
-    let z = coding::null_at(s, at, end, tag);
+    let z = read_elements::null_at(s, at, end, tag);
     if z.fault != 0 {
         return no_rate(z.fault, z.place);
     }
@@ -266,19 +266,19 @@ fn price_at(s: &[u8], at: usize, end: usize) -> RateRead
     requires { ⌜ end ≤ length (now s) ⌝ }
     ensures { λ r. ⌜ (r .fault, r .place, r .value, r .next) ≡ shown noRate (price .read (now (s .entry)) at end) ⌝ }
 {
-    if coding::is_tag(s, at, end, 0xa1) {
+    if read_elements::is_tag(s, at, end, 0xa1) {
         return duration_at(s, at, end);
     }
-    if coding::is_tag(s, at, end, 0xa2) {
+    if read_elements::is_tag(s, at, end, 0xa2) {
         return flat_at(s, at, end);
     }
-    if coding::is_tag(s, at, end, 0xa3) {
+    if read_elements::is_tag(s, at, end, 0xa3) {
         return volume_at(s, at, end);
     }
-    if coding::is_tag(s, at, end, 0x02) {
+    if read_elements::is_tag(s, at, end, 0x02) {
         return coded_at(s, at, end);
     }
-    if coding::is_tag(s, at, end, 0x84) {
+    if read_elements::is_tag(s, at, end, 0x84) {
         return plain_rate_at(s, at, end, 0x84, 5);
     }
     plain_rate_at(s, at, end, 0x85, 6)
@@ -289,11 +289,11 @@ pub fn rate_at(s: &[u8], at: usize, end: usize) -> RateRead
     requires { ⌜ end ≤ length (now s) ⌝ }
     ensures { λ r. ⌜ (r .fault, r .place, r .value, r .next) ≡ shown noRate (rate .read (now (s .entry)) at end) ⌝ }
 {
-    let e = coding::open_at(s, at, end, 0x30);
+    let e = read_elements::open_at(s, at, end, 0x30);
     if e.fault != 0 {
         return no_rate(e.fault, e.place);
     }
-    let n = coding::natural_at(s, e.value.start, e.value.stop, 0x0a, 0, 4);
+    let n = read_elements::natural_at(s, e.value.start, e.value.stop, 0x0a, 0, 4);
     if n.fault != 0 {
         return no_rate(n.fault, n.place);
     }
@@ -319,7 +319,7 @@ fn keep_text(octets: &mut [u8; 192], at: usize, text: [u8; 10])
     requires { ⌜ at ≤ 182 ⌝ }
     ensures { λ _. ⌜ now (octets .exit) ≡ sets (now (octets .entry)) at (take 10 (pad 10 0 text)) ⌝ }
 {
-    coding::put_octets(octets, at, &text, 10);
+    write_elements::put_octets(octets, at, &text, 10);
 }
 
 // Stores an entry's rows as entry i of a list of rates.

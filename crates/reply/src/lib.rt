@@ -30,14 +30,14 @@ fn identifier_of(octets: &[u8]) -> u16
     if 0xa4 < tag {
         return 0;
     }
-    let e = coding::open_at(octets, 0, n, tag);
+    let e = read_elements::open_at(octets, 0, n, tag);
     if e.fault != 0 {
         return 0;
     }
     if e.next != n {
         return 0;
     }
-    let i = coding::identifier_at(octets, e.value.start, e.value.stop, 0x02);
+    let i = read_elements::identifier_at(octets, e.value.start, e.value.stop, 0x02);
     i.value as u16
 }
 

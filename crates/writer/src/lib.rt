@@ -131,11 +131,11 @@ fn put_record(
     if 251 < m {
         return refuse(11);
     }
-    let whole = coding::element_size(m);
+    let whole = write_elements::element_size(m);
     if buf.len() < whole {
         return refuse(12);
     }
-    let p = coding::put_lead(buf, 0, 0xa0 + f.frame, m);
+    let p = write_elements::put_lead(buf, 0, 0xa0 + f.frame, m);
     let q = put_body(buf, p, f, figure, numbers, rows, n);
     let count = q as u32;
     Written { number: 0, count }

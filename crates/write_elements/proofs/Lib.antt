@@ -1,0 +1,2 @@
+-- What the proofs of the writers cite, beside the laws of the coding.
+mod Bits
