@@ -96,7 +96,8 @@ module _ {M : Type 1} (𝓤 : URA M) (H : Heap 𝓤) (A : Atoms 𝓤) (W : Given
       -- the borrow is opened
       move ! (9 ∷ []) $ fsplit ! $ fsplit3 ! $ drop ! $ move ! (11 ∷ []) $ split ! $ move ! (2 ∷ 3 ∷ 0 ∷ []) $
       opens ! tt R {h = h} b o (λ vs. spelt ! R (Is R) (shows 𝓤 H A R) (λ (d : R .Denot). low d ∷ []) tells fullShare h vs b o $
-      use1 W (‵ (fat fullShare τA b o (low h))) (cell-out (low h)) $ rewrite ! 0 (λ (u : Val). ‵ (fat fullShare τA b o u)) low-h refl $ move ! (1 ∷ []) $ peeks ! R (Is R) (shows 𝓤 H A R) h (low h ∷ []) (λ is. drop ! $
+      use1 W (‵ (fat fullShare τA b o (low h))) (cell-out (low h)) $ rewrite ! 0 (λ (u : Val). ‵ (fat fullShare τA b o u)) low-h refl $ move ! (1 ∷ []) $ peeks ! R
+      (Is R) (shows 𝓤 H A R) h (low h ∷ []) (λ is. drop ! $
       -- [the account's cell; the open borrow; obs; auth; true; what else was passed; _3; …; _2; …; _1; …; room for _0; …]
       assigns ! (of-opd ! (load ! (from ! (hop ! (look ! 10 refl) (fld ! refl (stop !)))) (look-in ! 0 (sub ! 0 refl (whole !))))) (from ! (stop !)) (init ! 6 refl (typed-status is)) $
       move ! (4 ∷ 5 ∷ []) $ use2 W (raw pre) (asked is) $
@@ -105,33 +106,43 @@ module _ {M : Type 1} (𝓤 : URA M) (H : Heap 𝓤) (A : Atoms 𝓤) (W : Given
       -- [the result; true; the account's cell; the open borrow; obs; auth; _3; …]
       use1 W (apart r v) (opened r v) $ learn ! (λ k.
       land ! (from ! (stop !)) (init ! 8 refl (k .1)) $ rewrite ! 8 (λ (u : Val). ‵ (fat fullShare (pairTy τO τS ν) l₂ 0 u)) (k .0) refl $
-      assigns ! (of-opd ! (load ! (from ! (fld ! refl (stop !))) (look-in ! 8 (sub ! 1 refl (whole !))))) (from ! (hop ! (look ! 10 refl) (fld ! refl (stop !)))) (store-in ! 2 (sub ! 0 refl (whole !)) (typed-new r (k .3))) $
+      assigns ! (of-opd ! (load ! (from ! (fld ! refl (stop !))) (look-in ! 8 (sub ! 1 refl (whole !))))) (from ! (hop ! (look ! 10 refl) (fld ! refl (stop !))))
+      (store-in ! 2 (sub ! 0 refl (whole !)) (typed-new r (k .3))) $
       assigns ! (of-opd ! (load ! (from ! (fld ! refl (stop !))) (look-in ! 8 (sub ! 0 refl (whole !))))) (from ! (stop !)) (init ! 12 refl (k .2)) $
       -- the borrow is closed
-      owned ! R (Is R) makes (last r) (accountVal (new r) c₁ c₂ c₃ c₄ ∷ []) (is-last r is (k .3)) $ move ! (3 ∷ []) $ use1 W (‵ (cellAt fullShare (R .mir) (accountVal (new r) c₁ c₂ c₃ c₄ ∷ []) b o)) (cell-in (accountVal (new r) c₁ c₂ c₃ c₄)) $
+      owned ! R (Is R) makes (last r) (accountVal (new r) c₁ c₂ c₃ c₄ ∷ []) (is-last r is (k .3)) $ move ! (3 ∷ []) $ use1 W (‵ (cellAt fullShare (R .mir)
+      (accountVal (new r) c₁ c₂ c₃ c₄ ∷ []) b o)) (cell-in (accountVal (new r) c₁ c₂ c₃ c₄)) $
       move ! (0 ∷ 1 ∷ 4 ∷ 5 ∷ 6 ∷ []) $ closes ! tt R (last r) (accountVal (new r) c₁ c₂ c₃ c₄ ∷ []) b o $
       -- [obs; the borrow; the token; the outcome; true; _3; …]
       returns ! (look ! 11 refl) $ forget ! 5 refl $ forget ! 7 refl $ forget ! 9 refl $ forget ! 11 refl $
       move ! (11 ∷ 12 ∷ []) $ free1 ! $ move ! (9 ∷ 10 ∷ []) $ free1 ! $ move ! (7 ∷ 8 ∷ []) $ free1 ! $ move ! (5 ∷ 6 ∷ []) $ free1 ! $ free0 ! $
       keep ! (0 ∷ 1 ∷ 2 ∷ 3 ∷ []) $ by ! (exits r e)))))))))))
 
-  pub sets : (τB τC : Ty) (vB vC : Val) → Typed τB vB → Typed τC vC → ent 𝓤 pre (C f (s₀ ∷ vB ∷ vC ∷ []) post) → ent 𝓤 (⋆ 𝓤 H A start) (WpFn 𝓤 H C Λ (setsFn τA τS τO τP ν f τB τC) (vptr b o ∷ vB ∷ vC ∷ []) Post)
+  pub sets : (τB τC : Ty) (vB vC : Val) → Typed τB vB → Typed τC vC → ent 𝓤 pre (C f (s₀ ∷ vB ∷ vC ∷ []) post) → ent 𝓤 (⋆ 𝓤 H A start) (WpFn 𝓤 H C Λ
+      (setsFn τA τS τO τP ν f τB τC) (vptr b o ∷ vB ∷ vC ∷ []) Post)
   sets τB τC vB vC typed-b typed-c met =
       qed W start ∵ enter ! C Λ (setsFn τA τS τO τP ν f τB τC) (vptr b o ∷ vB ∷ vC ∷ []) _ $
-      alloc1 ! (λ l₀. alloc1 ! (λ l₁. alloc1 ! (λ l₂. alloc1 ! (λ l₃. alloc1 ! (λ l₄. alloc1 ! (λ l₅. alloc0 ! $ params1 ! $ pass1 ! (init ! 8 refl (tt, tt)) $ pass1 ! (init ! 6 refl typed-b) $ pass1 ! (init ! 4 refl typed-c) $ pass0 ! $
+      alloc1 ! (λ l₀. alloc1 ! (λ l₁. alloc1 ! (λ l₂. alloc1 ! (λ l₃. alloc1 ! (λ l₄. alloc1 ! (λ l₅. alloc0 ! $ params1 ! $ pass1 ! (init ! 8 refl (
+        tt,
+        tt,
+      )) $ pass1 ! (init ! 6 refl typed-b) $ pass1 ! (init ! 4 refl typed-c) $ pass0 ! $
       -- as before, with two locals more
       move ! (13 ∷ []) $ fsplit ! $ fsplit3 ! $ drop ! $ move ! (15 ∷ []) $ split ! $ move ! (2 ∷ 3 ∷ 0 ∷ []) $
       opens ! tt R {h = h} b o (λ vs. spelt ! R (Is R) (shows 𝓤 H A R) (λ (d : R .Denot). low d ∷ []) tells fullShare h vs b o $
-      use1 W (‵ (fat fullShare τA b o (low h))) (cell-out (low h)) $ rewrite ! 0 (λ (u : Val). ‵ (fat fullShare τA b o u)) low-h refl $ move ! (1 ∷ []) $ peeks ! R (Is R) (shows 𝓤 H A R) h (low h ∷ []) (λ is. drop ! $
+      use1 W (‵ (fat fullShare τA b o (low h))) (cell-out (low h)) $ rewrite ! 0 (λ (u : Val). ‵ (fat fullShare τA b o u)) low-h refl $ move ! (1 ∷ []) $ peeks ! R
+      (Is R) (shows 𝓤 H A R) h (low h ∷ []) (λ is. drop ! $
       assigns ! (of-opd ! (load ! (from ! (hop ! (look ! 14 refl) (fld ! refl (stop !)))) (look-in ! 0 (sub ! 0 refl (whole !))))) (from ! (stop !)) (init ! 6 refl (typed-status is)) $
       move ! (4 ∷ 5 ∷ []) $ use2 W (raw pre) (asked is) $
-      calls-from ! fm (raw pre) (s₀ ∷ vB ∷ vC ∷ []) post met (and-then ! (load ! (from ! (stop !)) (look ! 5 refl)) (and-then ! (load ! (from ! (stop !)) (look ! 11 refl)) (and-then ! (load ! (from ! (stop !)) (look ! 9 refl)) (no-more !)))) (λ v.
+      calls-from ! fm (raw pre) (s₀ ∷ vB ∷ vC ∷ []) post met (and-then ! (load ! (from ! (stop !)) (look ! 5 refl)) (and-then ! (load ! (from ! (stop !))
+      (look ! 11 refl)) (and-then ! (load ! (from ! (stop !)) (look ! 9 refl)) (no-more !)))) (λ v.
       use1 W (came v) (posts v) $ await ! tt $ pick ! (λ r. split ! $ move ! (1 ∷ []) $ use1 W (raw (fact 𝓤 (Said r))) (said r) $ heard ! (Said r) (λ e. split ! $ move ! (1 ∷ []) $
       use1 W (apart r v) (opened r v) $ learn ! (λ k.
       land ! (from ! (stop !)) (init ! 8 refl (k .1)) $ rewrite ! 8 (λ (u : Val). ‵ (fat fullShare (pairTy τO τS ν) l₄ 0 u)) (k .0) refl $
-      assigns ! (of-opd ! (load ! (from ! (fld ! refl (stop !))) (look-in ! 8 (sub ! 1 refl (whole !))))) (from ! (hop ! (look ! 14 refl) (fld ! refl (stop !)))) (store-in ! 2 (sub ! 0 refl (whole !)) (typed-new r (k .3))) $
+      assigns ! (of-opd ! (load ! (from ! (fld ! refl (stop !))) (look-in ! 8 (sub ! 1 refl (whole !))))) (from ! (hop ! (look ! 14 refl) (fld ! refl (stop !))))
+      (store-in ! 2 (sub ! 0 refl (whole !)) (typed-new r (k .3))) $
       assigns ! (of-opd ! (load ! (from ! (fld ! refl (stop !))) (look-in ! 8 (sub ! 0 refl (whole !))))) (from ! (stop !)) (init ! 16 refl (k .2)) $
-      owned ! R (Is R) makes (last r) (accountVal (new r) c₁ c₂ c₃ c₄ ∷ []) (is-last r is (k .3)) $ move ! (3 ∷ []) $ use1 W (‵ (cellAt fullShare (R .mir) (accountVal (new r) c₁ c₂ c₃ c₄ ∷ []) b o)) (cell-in (accountVal (new r) c₁ c₂ c₃ c₄)) $
+      owned ! R (Is R) makes (last r) (accountVal (new r) c₁ c₂ c₃ c₄ ∷ []) (is-last r is (k .3)) $ move ! (3 ∷ []) $ use1 W (‵ (cellAt fullShare (R .mir)
+      (accountVal (new r) c₁ c₂ c₃ c₄ ∷ []) b o)) (cell-in (accountVal (new r) c₁ c₂ c₃ c₄)) $
       move ! (0 ∷ 1 ∷ 4 ∷ 5 ∷ 6 ∷ []) $ closes ! tt R (last r) (accountVal (new r) c₁ c₂ c₃ c₄ ∷ []) b o $
       returns ! (look ! 15 refl) $ forget ! 5 refl $ forget ! 7 refl $ forget ! 9 refl $ forget ! 11 refl $ forget ! 13 refl $ forget ! 15 refl $ move ! (15 ∷ 16 ∷ []) $ free1 ! $
       move ! (13 ∷ 14 ∷ []) $ free1 ! $ move ! (11 ∷ 12 ∷ []) $ free1 ! $ move ! (9 ∷ 10 ∷ []) $ free1 ! $ move ! (7 ∷ 8 ∷ []) $ free1 ! $ move ! (5 ∷ 6 ∷ []) $ free1 ! $ free0 ! $

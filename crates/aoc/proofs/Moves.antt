@@ -96,7 +96,8 @@ module _ (n : ℕ) (small : Holds (ltb n (2 ^ bits w8))) (below : n < 2 ^ 8) (ot
     last r = withStatus h (r .status)
 
     exits : (r : Moving) → Said r
-        → ent 𝓤 (⋆ 𝓤 H A (‵ (fobs γ (T.the-row .coded .code (last r))) ∷ ‵ (fbor κ (Body (mem T.the-row) b o γ)) ∷ ‵ (flft κ q) ∷ ‵ (O.the-row .own (r .outcome) (vO (r .outcome) ∷ [])) ∷ [])) (Post (vO (r .outcome)))
+        → ent 𝓤 (⋆ 𝓤 H A (‵ (fobs γ (T.the-row .coded .code (last r))) ∷ ‵ (fbor κ (Body (mem T.the-row) b o γ)) ∷ ‵ (flft κ q) ∷ ‵ (O.the-row .own (r .outcome) (vO
+        (r .outcome) ∷ [])) ∷ [])) (Post (vO (r .outcome)))
     exits r e =
         qed W (‵ (fobs γ (T.the-row .coded .code (last r))) ∷ ‵ (fbor κ (Body (mem T.the-row) b o γ)) ∷ ‵ (flft κ q) ∷ ‵ (O.the-row .own (r .outcome) (vO (r .outcome) ∷ [])) ∷ []) ∵
         suffices ! _ (ends-at 𝓤 H A own.ended stayed (promised 𝓤) W (((κ, tt), (q, tt), tt, x, at), tt) (vO (r .outcome)) (r .outcome) (last r, tt) (tt, tt)) $

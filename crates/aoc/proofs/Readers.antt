@@ -93,13 +93,17 @@ module _ (Q : RattleType) (τ : Ty) (f : Name) (off : Account → Q .Denot) (rul
       opened : (r : Q .Denot) (v : Val) → ent 𝓤 (sem 𝓤 H A (Q .own r (v ∷ []))) (guard 𝓤 (Holds (hasTy τ v) × WT v) (sem 𝓤 H A (Q .own r (v ∷ []))))
       opened r v = qed W (‵ (Q .own r (v ∷ [])) ∷ []) ∵ peeks ! Q (Is Q) (shows 𝓤 H A Q) r (v ∷ []) (λ is. check ! (typed r v is) $ done !)
 
-      exits : (r : Q .Denot) (v : Val) → one h r × rules h r → ent 𝓤 (⋆ 𝓤 H A (‵ (flft κ q) ∷ ‵ (fres γ (T.the-row .coded .code h)) ∷ ‵ (fshr-bor κ (λ s. partAt T.the-row s h b o)) ∷ ‵ (Q .own r (v ∷ [])) ∷ [])) (Post v)
+      exits : (r : Q .Denot) (v : Val) → one h r × rules h r → ent 𝓤 (⋆ 𝓤 H A (‵ (flft κ q) ∷ ‵ (fres γ (T.the-row .coded .code h)) ∷ ‵ (fshr-bor κ
+          (λ s. partAt T.the-row s h b o)) ∷ ‵ (Q .own r (v ∷ [])) ∷ [])) (Post v)
       exits r v e =
           qed W (‵ (flft κ q) ∷ ‵ (fres γ (T.the-row .coded .code h)) ∷ ‵ (fshr-bor κ (λ s. partAt T.the-row s h b o)) ∷ ‵ (Q .own r (v ∷ [])) ∷ []) ∵
           suffices ! _ (ends-at 𝓤 H A (lentEnded Q) (stayed Q) (promised 𝓤) W (((κ, tt), (q, tt), tt, x, at), tt) v r (tt, tt) (tt, tt)) $ says ! e $
           nothing ! $ move ! (1 ∷ 0 ∷ []) $ join ! $ frame ! $ feqI ! (List Val) (vptr b o ∷ []) (vptr b o ∷ []) refl $ fjoin3 ! $ nothing ! $ move ! (1 ∷ 0 ∷ []) $ fjoin ! $ done !
 
-      walk : (C : Calls 𝓤 H) (Λ : Loops 𝓤 H) → FmC 𝓤 H (W .laws) C → Triple 𝓤 (C f) (Reader 𝓤 H A) → ent 𝓤 (onEntry 𝓤 H A (lentEnded Q .signature) (κ, tt) (q, tt) x at) (WpFn 𝓤 H C Λ function (vptr b o ∷ []) Post)
+      walk : (C : Calls 𝓤 H) (Λ : Loops 𝓤 H) → FmC 𝓤 H (W .laws) C → Triple 𝓤 (C f) (Reader 𝓤 H A) → ent 𝓤 (onEntry 𝓤 H A (lentEnded Q .signature) (κ, tt) (
+        q,
+        tt,
+      ) x at) (WpFn 𝓤 H C Λ function (vptr b o ∷ []) Post)
       walk C Λ fm known =
           reads 𝓤 H A W C Λ fm T′.mir τ (pointee (T.the-row .written)) f T.the-row (LL.copy T.the-type T′.the-copy 𝓤 H A W) vA tellsA (typedA 𝓤 H A W)
           b o (λ s v. id⊢ 𝓤 _) (λ s v. id⊢ 𝓤 _) κ q γ h (feq (List Val) (vptr b o ∷ []) (vptr b o ∷ []))
@@ -114,4 +118,5 @@ module _ (Q : RattleType) (τ : Ty) (f : Name) (off : Account → Q .Denot) (rul
     goes = (goes-none-ref 𝓤 H A W 1 (0 ∷ []) tt (plain (λ _. T.the-row)) yes, tt)
 
     pub reader-meets : (𝓣 : Tables 𝓤 H) → Triple 𝓤 (𝓣 .C f) (Reader 𝓤 H A) → Meets 𝓤 H A (lentEnded Q .signature) (WpFn 𝓤 H (𝓣 .C) (𝓣 .Λ) function) (closing 𝓤 H A (lentEnded Q) (promised 𝓤))
-    reader-meets 𝓣 known = walk-meets 𝓤 H A (lentEnded Q) (stayed Q) W goes (promised 𝓤) (WpFn 𝓤 H (𝓣 .C) (𝓣 .Λ) function) (WpFn-mono 𝓤 H (W .laws) 𝓣 function) (walks (𝓣 .C) (𝓣 .Λ) (fmOf 𝓤 H (W .laws) 𝓣) known)
+    reader-meets 𝓣 known = walk-meets 𝓤 H A (lentEnded Q) (stayed Q) W goes (promised 𝓤) (WpFn 𝓤 H (𝓣 .C) (𝓣 .Λ) function) (WpFn-mono 𝓤 H (W .laws) 𝓣 function)
+        (walks (𝓣 .C) (𝓣 .Λ) (fmOf 𝓤 H (W .laws) 𝓣) known)

@@ -59,10 +59,13 @@ module _ {M : Type 1} (𝓤 : URA M) (H : Heap 𝓤) (A : Atoms 𝓤) (W : Given
 
   -- what a result owns says its machine value, and what its outcome owns is kept
   pub taken-apart : (r : Moving) (v : Val) → ent 𝓤 (sem 𝓤 H A (N.the-row .own r (v ∷ [])))
-      (guard 𝓤 ((v ≡ vstruct (vcons (vO (r .outcome)) (vcons (vT (r .status)) vnil))) × (Holds (hasTy N′.mir v) × WT v) × (Holds (hasTy O′.mir (vO (r .outcome))) × WT (vO (r .outcome))) × Is S.the-row (r .status) (vT (r .status) ∷ []))
+      (guard 𝓤 ((v ≡ vstruct (vcons (vO (r .outcome)) (vcons (vT (r .status)) vnil))) × (Holds (hasTy N′.mir v) × WT v) × (Holds (hasTy O′.mir (vO (r .outcome))) ×
+      WT (vO (r .outcome))) × Is S.the-row (r .status) (vT (r .status) ∷ []))
       (sem 𝓤 H A (O.the-row .own (r .outcome) (vO (r .outcome) ∷ []))))
   taken-apart r v =
       qed W (‵ (N.the-row .own r (v ∷ [])) ∷ []) ∵ peeks ! N.the-row (Is N.the-row) (shows 𝓤 H A N.the-row) r (v ∷ []) (λ is.
-      use1 W (given (v ∷ [] ≡ vstruct (vcons (vO (r .outcome)) (vcons (vT (r .status)) vnil)) ∷ []) (‵ (fsep (O.the-row .own (r .outcome) (vO (r .outcome) ∷ [])) (fsep (S.the-row .own (r .status) (vT (r .status) ∷ [])) ftrue)))) (opened r v) $ learn ! (λ w.
-      fsplit ! $ peeks ! O.the-row (Is O.the-row) (shows 𝓤 H A O.the-row) (r .outcome) (vO (r .outcome) ∷ []) (λ go. move ! (1 ∷ []) $ fsplit ! $ peeks ! S.the-row (Is S.the-row) (shows 𝓤 H A S.the-row) (r .status) (vT (r .status) ∷ []) (λ gs. drop ! $ drop ! $
+      use1 W (given (v ∷ [] ≡ vstruct (vcons (vO (r .outcome)) (vcons (vT (r .status)) vnil)) ∷ []) (‵ (fsep (O.the-row .own (r .outcome) (vO (r .outcome) ∷ []))
+      (fsep (S.the-row .own (r .status) (vT (r .status) ∷ [])) ftrue)))) (opened r v) $ learn ! (λ w.
+      fsplit ! $ peeks ! O.the-row (Is O.the-row) (shows 𝓤 H A O.the-row) (r .outcome) (vO (r .outcome) ∷ []) (λ go. move ! (1 ∷ []) $ fsplit ! $ peeks ! S.the-row
+      (Is S.the-row) (shows 𝓤 H A S.the-row) (r .status) (vT (r .status) ∷ []) (λ gs. drop ! $ drop ! $
       check ! (ap only w, LL.lawful N.the-type N′.the-laws 𝓤 H A W .typed r _ is .0, LL.lawful O.the-type O′.the-laws 𝓤 H A W .typed (r .outcome) _ go .0, gs) $ done !))))

@@ -12,7 +12,8 @@ use Rattle.coding.specs.Reader.{Ans, Fault, got, halt, after, extent, nu
 use Rattle.coding.specs.Reader.Fault.{cut}
 use Rattle.coding.specs.Codec.{LengthForm, short, one, two, Walk, here, past, nest}
 use Rattle.coding.proofs.Basic.{picked, unpicked}
-use Rattle.coding.proofs.Search.{Inside, inside, marker-out, marker-not, marker-length, endless-yes, endless-out, endless-octet, form-octet, unfolds, goes-over, goes-through, walk-finds, search-walks}
+use Rattle.coding.proofs.Search.{Inside, inside, marker-out, marker-not, marker-length, endless-yes, endless-out, endless-octet, form-octet, unfolds, goes-over}
+use Rattle.coding.proofs.Search.{goes-through, walk-finds, search-walks}
 use Rattle.coding.proofs.Moved.{search-stable}
 
 both : {A : Type 0} {z : A} (t : Bool) {x y : A} → (t ≡ true → x ≡ z) → (t ≡ false → y ≡ z) → cond t x y ≡ z

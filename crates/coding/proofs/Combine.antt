@@ -12,10 +12,13 @@ use lib.Seq.{getD-take, getD-drop, length-take-le}
 use lib.Dec.{ltb, leb, eqb}
 use borrow.Author.Tests.{ltb-true, ltb-false, leb-true, leb-false, eqb-true, lt-ltb, le-leb, lt-leb, eq-eqb}
 use Rattle.coding.specs.Reader.{got, tagged, choice, opened, closed, constructed, Ruling, ruled, part, primitive, optional, entries, listOf, composite}
-use Rattle.coding.specs.Codec.{lengthOctets, Opens, Spans, definite, Walk, here, Holds, isTag, simple, oneOf, apart, Leaf, Run, prim, cons, nothing, pair, eitherMeans, alt, over, writeAll, all, MeansAll, some·more, maybe, MeansMaybe}
-use Rattle.coding.proofs.Basic.{never, passing, failing, either-way, chain, same-got, picked, unpicked, followed, and-left, and-right, and-both, or-left, or-right, or-no, or-false, not-yes, has-left, has-right, apart-has, holds-left, holds-right, holds-both, holds-part, part-holds, octets-none, octets-both}
+use Rattle.coding.specs.Codec.{lengthOctets, Opens, Spans, definite, Walk, here, Holds, isTag, simple, oneOf, apart, Leaf, Run, prim, cons, nothing, pair, eitherMeans, alt}
+use Rattle.coding.specs.Codec.{over, writeAll, all, MeansAll, some·more, maybe, MeansMaybe}
+use Rattle.coding.proofs.Basic.{never, passing, failing, either-way, chain, same-got, picked, unpicked, followed, and-left, and-right, and-both, or-left, or-right, or-no}
+use Rattle.coding.proofs.Basic.{or-false, not-yes, has-left, has-right, apart-has, holds-left, holds-right, holds-both, holds-part, part-holds, octets-none, octets-both}
 use Rattle.coding.specs.declared.Extent.{Extent}
-use Rattle.coding.proofs.Header.{tagged-yes, tagged-is, opened-sound, opened-complete, opened-forward, opened-written, opened-shortest, opened-only, spans-only, element-octets, spans-simple, spans-complete, spans-tag, spans-range, spans-forward, spans-shortest, opened-walk, spans-walk}
+use Rattle.coding.proofs.Header.{tagged-yes, tagged-is, opened-sound, opened-complete, opened-forward, opened-written, opened-shortest, opened-only, spans-only}
+use Rattle.coding.proofs.Header.{element-octets, spans-simple, spans-complete, spans-tag, spans-range, spans-forward, spans-shortest, opened-walk, spans-walk}
 use Rattle.coding.proofs.Search.{walk-join}
 use Rattle.coding.proofs.Laws.{Octets, clear, LeafLaws, RunLaws}
 

@@ -79,7 +79,8 @@ module _ {A : Type 0} (tags : List ℕ) (tagOf : A → ℕ) (m : Fault → Fault
         let k' : (f t) .Means x s c l = subst (λ (u : ℕ). (f u) .Means x s c l) (sym (spans-tag op)) k in
         let op' : Spans t s a c l n = subst (λ (u : ℕ). Spans u s a c l n) (sym (spans-tag op)) op in
         let walk = F t .walked s c l x k' in
-        followed _ (any-opens tags m w s a e ae (ap (oneOf tags) (spans-tag op) ∙ h) _ (sym (opened-there t s a e ae refl) ∙ spans-complete t s a c l n e ne op' walk) ∙ picked _ _ (eq-eqb n e (omega arith)))
+        followed _ (any-opens tags m w s a e ae (ap (oneOf tags) (spans-tag op) ∙ h) _ (sym (opened-there t s a e ae refl) ∙
+        spans-complete t s a c l n e ne op' walk) ∙ picked _ _ (eq-eqb n e (omega arith)))
         ∙ followed _ (F t .complete s c l l x (omega arith) (omega (arith, g .2)) (ap (λ b. b || not ((f t) .avoid (getD s l 0))) (le-leb l l (omega arith))) k')
         ∙ picked _ _ (eq-eqb l l refl);
     written = λ s a x v b h.

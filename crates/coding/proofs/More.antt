@@ -16,7 +16,8 @@ use Rattle.coding.specs.Contents.{natural, shortest, negative, numberFro
 use Rattle.coding.specs.Codec.{Leaf, Run, Holds, simple, oneOf, apart, all, prim, leafOver, marked, sort, leads}
 use Rattle.coding.specs.Leaves.{digits, width, number, listing, listed, isSome, or0, given}
 use Rattle.coding.specs.declared.Chosen.{Chosen}
-use Rattle.coding.proofs.Basic.{never, either-way, chain, picked, unpicked, followed, and-left, and-right, and-both, or-left, or-right, or-no, or-false, has-left, has-right, holds-left, holds-right, holds-both, octets-both}
+use Rattle.coding.proofs.Basic.{never, either-way, chain, picked, unpicked, followed, and-left, and-right, and-both, or-left, or-right, or-no, or-false, has-left, has-right}
+use Rattle.coding.proofs.Basic.{holds-left, holds-right, holds-both, octets-both}
 use Rattle.coding.proofs.Laws.{Octets, LeafLaws, RunLaws}
 use Rattle.coding.proofs.Header.{tagged-yes}
 use Rattle.coding.proofs.Search.{walk-join}

@@ -28,7 +28,8 @@ by-sign : (P : ℤ → Type 0) (xs : List ℕ) → Octets xs → (negative xs �
 unfolding valueOf
 by-sign P xs os low high = go (negative xs) refl
   where
-    go : (t : Bool) → negative xs ≡ t → P (cond t (cond (ltb (numberFrom 0 xs) (256 ^ length xs)) (negsuc (256 ^ length xs - suc (numberFrom 0 xs))) (pos (numberFrom 0 xs - 256 ^ length xs))) (pos (numberFrom 0 xs)))
+    go : (t : Bool) → negative xs ≡ t → P (cond t (cond (ltb (numberFrom 0 xs) (256 ^ length xs)) (negsuc (256 ^ length xs - suc (numberFrom 0 xs))) (pos
+        (numberFrom 0 xs - 256 ^ length xs))) (pos (numberFrom 0 xs)))
     go false q = low q
     go true q = subst P (sym (picked _ _ (lt-ltb (numberFrom 0 xs) (256 ^ length xs) (number-lt xs os)))) (high q)
 

@@ -1,4 +1,5 @@
--- `aoc::aoc_component` meets its contract: a walk of its MIR, by hand. It makes the event of its kind and passes on to `step_in` all else that it was passed. What `step_in` gives back is what it owes, at that event.
+-- `aoc::aoc_component` meets its contract: a walk of its MIR, by hand. It makes the event of its kind and passes on to `step_in` all else that it was passed. What
+-- `step_in` gives back is what it owes, at that event.
 -- Assumes nothing.
 use mathlib.Core.Path.{_≡_, refl, subst}
 use Prim.Native.Nat.{ℕ}
@@ -72,7 +73,8 @@ Callee 𝓤 H A mem run = tripleOf 𝓤 H A callee.signature (callee.spec 𝓤 H
 retold : {M : Type 1} (𝓤 : URA M) (h : Account) (e e′ : Event) (octets : List ℕ) (t : Stepped) → e ≡ e′ → ent 𝓤 (fact 𝓤 (Took h e octets t)) (fact 𝓤 (Took h e′ octets t))
 retold 𝓤 h e e′ octets t q = subst (λ u. ent 𝓤 (fact 𝓤 (Took h e octets t)) (fact 𝓤 (Took h u octets t))) q (id⊢ 𝓤 _)
 
-module _ {M : Type 1} (𝓤 : URA M) (H : Heap 𝓤) (A : Atoms 𝓤) (W : Given 𝓤 H A) (at-mem : Memory → SProp 𝓤) (run : Routine → Fun 𝓤) (κ κ′ : Lft) (bounds : AllOutlive 2 (own.signature .outlives) (κ, (κ′, tt))) (q q′ : Share) (b o : ℕ) (γ : GName) (h : Account) (s : RefT (List ℕ)) where
+module _ {M : Type 1} (𝓤 : URA M) (H : Heap 𝓤) (A : Atoms 𝓤) (W : Given 𝓤 H A) (at-mem : Memory → SProp 𝓤) (run : Routine → Fun 𝓤) (κ κ′ : Lft)
+    (bounds : AllOutlive 2 (own.signature .outlives) (κ, (κ′, tt))) (q q′ : Share) (b o : ℕ) (γ : GName) (h : Account) (s : RefT (List ℕ)) where
   abbrev vS : Val
   vS = sliceVal (s .ptr) (length (s .now))
 
@@ -102,20 +104,46 @@ module _ {M : Type 1} (𝓤 : URA M) (H : Heap 𝓤) (A : Atoms 𝓤) (W : Given
     abbrev to-callee : Callee 𝓤 H A at-mem run .Ghost
     to-callee = (((κ, (κ′, tt)), (q, (q′, tt)), bounds, x, (vptr b o ∷ [], (vE ∷ [], (vS ∷ [], tt)))), tt)
 
-    goes-in : ent 𝓤 (⋆ 𝓤 H A (tokens ∷ ‵ (owns (MutRef (named 0) κ T.the-row ∷ E.the-row ∷ ShrSlice (named 1) κ′ u8 ∷ []) x (vptr b o ∷ [], (vE ∷ [], (vS ∷ [], tt)))) ∷ [])) (Callee 𝓤 H A at-mem run .pre to-callee)
+    goes-in : ent 𝓤 (⋆ 𝓤 H A (tokens ∷ ‵ (owns (MutRef (named 0) κ T.the-row ∷ E.the-row ∷ ShrSlice (named 1) κ′ u8 ∷ []) x (
+      vptr b o ∷ [],
+      (
+        vE ∷ [],
+        (
+          vS ∷ [],
+          tt,
+        ),
+      ),
+    )) ∷ [])) (Callee 𝓤 H A at-mem run .pre to-callee)
     goes-in = qed W (tokens ∷ ‵ (owns (MutRef (named 0) κ T.the-row ∷ E.the-row ∷ ShrSlice (named 1) κ′ u8 ∷ []) x (vptr b o ∷ [], (vE ∷ [], (vS ∷ [], tt)))) ∷ []) ∵ join ! $ frame ! $ done !
 
     exits : ev ≡ plainEvent 5 → (r : Outcome) (v : Val) (ws : Lasts callee.ended (κ, (κ′, tt)) x) → ent 𝓤 (⋆ 𝓤 H A (‵ (O.the-row .own r (v ∷ [])) ∷ tokens ∷ came-back r ws ∷ [])) (Post v)
     exits e r v ws =
         qed W (‵ (O.the-row .own r (v ∷ [])) ∷ tokens ∷ came-back r ws ∷ []) ∵
-        suffices ! _ (ends-at 𝓤 H A own.ended stayed (own.clauses 𝓤 H A at-mem run) W (((κ, (κ′, tt)), (q, (q′, tt)), bounds, (ref, (s, tt)), (vptr b o ∷ [], (vS ∷ [], tt))), tt) v r (ws .0, ws .1 .1) (tt, (tt, tt))) $
+        suffices ! _ (ends-at 𝓤 H A own.ended stayed (own.clauses 𝓤 H A at-mem run) W (
+          (
+            (κ, (κ′, tt)),
+            (q, (q′, tt)),
+            bounds,
+            (ref, (s, tt)),
+            (
+              vptr b o ∷ [],
+              (vS ∷ [], tt),
+            ),
+          ),
+          tt,
+        ) v r (ws .0, ws .1 .1) (tt, (tt, tt))) $
         move ! (2 ∷ []) $ split ! $ fsplit ! $ move ! (1 ∷ []) $ fsplit ! $ drop ! $ move ! (1 ∷ 0 ∷ []) $ fjoin ! $
         -- [what is said of the last values; the clause at the event that was made; what the outcome owns; the tokens]
-        move ! (1 ∷ []) $ use1 W (raw (own.clauses 𝓤 H A at-mem run (κ, (κ′, tt)) (ref, (s, tt)) .ensures tt r (atExit own.ended (κ, (κ′, tt)) (ref, (s, tt)) (ws .0, ws .1 .1)))) (retold 𝓤 h ev (plainEvent 5) (now s) _ e) $
+        move ! (1 ∷ []) $ use1 W (raw (own.clauses 𝓤 H A at-mem run (κ, (κ′, tt)) (ref, (s, tt)) .ensures tt r (atExit own.ended (κ, (κ′, tt)) (ref, (s, tt)) (
+          ws .0,
+          ws .1 .1,
+        )))) (retold 𝓤 h ev (plainEvent 5) (now s) _ e) $
         move ! (1 ∷ 2 ∷ []) $ join ! $ move ! (2 ∷ 0 ∷ []) $ join ! $ frame ! $ done !
 
-  module _ (C : Calls 𝓤 H) (Λ : Loops 𝓤 H) (fm : FmC 𝓤 H (W .laws) C) (makes : Triple 𝓤 (C #aoc·component-event) (Maker 𝓤 H A at-mem run)) (known : Triple 𝓤 (C #step·step-in) (Callee 𝓤 H A at-mem run)) where
-    walk : Is (ShrSlice (named 1) κ′ u8) s (vS ∷ []) → ent 𝓤 (onEntry 𝓤 H A own.signature (κ, (κ′, tt)) (q, (q′, tt)) (ref, (s, tt)) (vptr b o ∷ [], (vS ∷ [], tt))) (WpFn 𝓤 H C Λ code.function (vptr b o ∷ vS ∷ []) Post)
+  module _ (C : Calls 𝓤 H) (Λ : Loops 𝓤 H) (fm : FmC 𝓤 H (W .laws) C) (makes : Triple 𝓤 (C #aoc·component-event) (Maker 𝓤 H A at-mem run)) (known : Triple 𝓤
+      (C #step·step-in) (Callee 𝓤 H A at-mem run)) where
+    walk : Is (ShrSlice (named 1) κ′ u8) s (vS ∷ []) → ent 𝓤 (onEntry 𝓤 H A own.signature (κ, (κ′, tt)) (q, (q′, tt)) (ref, (s, tt)) (vptr b o ∷ [], (vS ∷ [], tt)))
+        (WpFn 𝓤 H C Λ code.function (vptr b o ∷ vS ∷ []) Post)
     walk is-slice =
         qed W (tokens ∷ passed ∷ []) ∵
         enter ! C Λ code.function (vptr b o ∷ vS ∷ []) _ $
@@ -124,15 +152,20 @@ module _ {M : Type 1} (𝓤 : URA M) (H : Heap 𝓤) (A : Atoms 𝓤) (W : Given
         -- the event is made
         nothing ! $ nothing ! $ use2 W (raw (Maker 𝓤 H A at-mem run .pre ((tt, tt, tt, tt, tt), tt))) (qed W (‵ ftrue ∷ ‵ ftrue ∷ []) ∵ join ! $ frame ! $ done !) $
         calls-at ! fm (Maker 𝓤 H A at-mem run) makes ((tt, tt, tt, tt, tt), tt) (no-more !) (λ vE.
-        use1 W (later (some (λ (e : Event). (‵ ftrue ⊛ ‵ (E.the-row .own e (vE ∷ []))) ⊛ raw (ensured 𝓤 H A maker.ended (maker.clauses 𝓤 H A at-mem run) tt tt tt e)))) (id⊢ 𝓤 _) $ await ! tt $ pick ! (λ ev.
-        split ! $ move ! (1 ∷ []) $ use1 W (raw (fact 𝓤 (ev ≡ plainEvent 5))) (told ev) $ heard ! (ev ≡ plainEvent 5) (λ e. split ! $ move ! (1 ∷ []) $ peeks ! E.the-row (Is E.the-row) (shows 𝓤 H A E.the-row) ev (vE ∷ []) (λ is-event.
+        use1 W (later (some (λ (e : Event). (‵ ftrue ⊛ ‵ (E.the-row .own e (vE ∷ []))) ⊛ raw (ensured 𝓤 H A maker.ended
+        (maker.clauses 𝓤 H A at-mem run) tt tt tt e)))) (id⊢ 𝓤 _) $ await ! tt $ pick ! (λ ev.
+        split ! $ move ! (1 ∷ []) $ use1 W (raw (fact 𝓤 (ev ≡ plainEvent 5))) (told ev) $ heard ! (ev ≡ plainEvent 5) (λ e. split ! $ move !
+        (1 ∷ []) $ peeks ! E.the-row (Is E.the-row) (shows 𝓤 H A E.the-row) ev (vE ∷ []) (λ is-event.
         -- [what the event owns; true; room for _4; …; room for _3; …; _2; …; _1; …; room for _0; …; the tokens; what was passed]
         land ! (from ! (stop !)) (init ! 4 refl (LL.lawful E.the-type E′.the-laws 𝓤 H A W .typed ev _ is-event .0)) $
         assigns ! (addr ! (from ! (hop ! (look ! 8 refl) (stop !)))) (from ! (stop !)) (init ! 2 refl (tt, tt)) $
-        move ! (13 ∷ []) $ fsplit ! $ move ! (2 ∷ 1 ∷ []) $ fjoin ! $ move ! (1 ∷ 0 ∷ []) $ fjoin ! $ move ! (12 ∷ 0 ∷ []) $ use2 W (raw (Callee 𝓤 H A at-mem run .pre (to-callee ev vE))) (goes-in ev vE) $
+        move ! (13 ∷ []) $ fsplit ! $ move ! (2 ∷ 1 ∷ []) $ fjoin ! $ move ! (1 ∷ 0 ∷ []) $ fjoin ! $ move ! (12 ∷ 0 ∷ []) $ use2 W (raw
+        (Callee 𝓤 H A at-mem run .pre (to-callee ev vE))) (goes-in ev vE) $
         -- [what the callee asks for; true; _4; …; _3; …; _2; …; _1; …; room for _0; …]
-        calls-at ! fm (Callee 𝓤 H A at-mem run) known (to-callee ev vE) (and-then ! (load ! (from ! (stop !)) (look ! 2 refl)) (and-then ! (load ! (from ! (stop !)) (look ! 4 refl)) (and-then ! (load ! (from ! (stop !)) (look ! 6 refl)) (no-more !)))) (λ v.
-        use1 W (later (some (λ (r : Outcome). (tokens ⊛ ‵ (O.the-row .own r (v ∷ []))) ⊛ some (λ (ws : Lasts callee.ended (κ, (κ′, tt)) (x ev vE)). came-back ev vE r ws)))) (id⊢ 𝓤 _) $ await ! tt $ pick ! (λ r.
+        calls-at ! fm (Callee 𝓤 H A at-mem run) known (to-callee ev vE) (and-then ! (load ! (from ! (stop !)) (look ! 2 refl)) (and-then ! (load ! (from ! (stop !))
+        (look ! 4 refl)) (and-then ! (load ! (from ! (stop !)) (look ! 6 refl)) (no-more !)))) (λ v.
+        use1 W (later (some (λ (r : Outcome). (tokens ⊛ ‵ (O.the-row .own r (v ∷ []))) ⊛ some (λ (ws : Lasts callee.ended (κ, (κ′, tt))
+        (x ev vE)). came-back ev vE r ws)))) (id⊢ 𝓤 _) $ await ! tt $ pick ! (λ r.
         split ! $ move ! (1 ∷ []) $ pick ! (λ ws. move ! (1 ∷ []) $ split ! $ move ! (1 ∷ []) $ peeks ! O.the-row (Is O.the-row) (shows 𝓤 H A O.the-row) r (v ∷ []) (λ is.
         -- [what the outcome owns; the tokens; what came back; true; _4; …; _3; …; _2; …; _1; …; room for _0; …]
         land ! (from ! (stop !)) (init ! 12 refl (LL.lawful O.the-type O′.the-laws 𝓤 H A W .typed r _ is .0)) $
@@ -145,7 +178,8 @@ module _ {M : Type 1} (𝓤 : URA M) (H : Heap 𝓤) (A : Atoms 𝓤) (W : Given
       → Walks 𝓤 H A own.ended stayed (WpFn 𝓤 H C Λ code.function) (own.clauses 𝓤 H A at-mem run)
   walks C Λ fm makes known = walked 𝓤 H A own.ended stayed (own.clauses 𝓤 H A at-mem run) (WpFn 𝓤 H C Λ code.function)
       (λ κs. (ptr-vals, (slice-vals, tt))) (λ κs. (mut-tells (named 0) (κs .0) T.the-row, (shr-slice-tells (named 1) (κs .1 .0) u8, tt)))
-      (λ κs qs bounds a _ are. via 𝓤 _ (fst∗ 𝓤 _ (emp 𝓤)) (walk 𝓤 H A W at-mem run (κs .0) (κs .1 .0) bounds (qs .0) (qs .1 .0) (a .0 .ptr .0) (a .0 .ptr .1) (a .0 .name) (a .0 .now) (a .1 .0) C Λ fm makes known (are .1 .0)))
+      (λ κs qs bounds a _ are. via 𝓤 _ (fst∗ 𝓤 _ (emp 𝓤)) (walk 𝓤 H A W at-mem run (κs .0) (κs .1 .0) bounds (qs .0) (qs .1 .0) (a .0 .ptr .0) (a .0 .ptr .1)
+      (a .0 .name) (a .0 .now) (a .1 .0) C Λ fm makes known (are .1 .0)))
 
   goes : AllGo 𝓤 H A W 2 (own.signature .params) (own.ended .kept) stayed
   goes = (goes-gave-ref 𝓤 H A W 2 0 tt (plain (λ _. T.the-row)), (goes-dropped 𝓤 H A W 2 (shrSliceOf (1 ∷ []) tt (plain (λ _. u8))) yes (λ κs x f. refl), tt))

@@ -85,7 +85,8 @@ tellsI = LL.tells Ids.the-type Ids′.the-laws
 abbrev Callee : {M : Type 1} (𝓤 : URA M) (H : Heap 𝓤) (A : Atoms 𝓤) (at-mem : Memory → SProp 𝓤) (run : Routine → Fun 𝓤) → Contract 𝓤
 Callee 𝓤 H A at-mem run = tripleOf 𝓤 H A callee.signature (callee.spec 𝓤 H A at-mem run)
 
-module _ {M : Type 1} (𝓤 : URA M) (H : Heap 𝓤) (A : Atoms 𝓤) (W : Given 𝓤 H A) (at-mem : Memory → SProp 𝓤) (run : Routine → Fun 𝓤) (κ : Lft) (q : Share) (b o : ℕ) (γ : GName) (h : Account) (asked : Services) (ids : Three) where
+module _ {M : Type 1} (𝓤 : URA M) (H : Heap 𝓤) (A : Atoms 𝓤) (W : Given 𝓤 H A) (at-mem : Memory → SProp 𝓤) (run : Routine → Fun 𝓤) (κ : Lft) (q : Share) (b o : ℕ)
+    (γ : GName) (h : Account) (asked : Services) (ids : Three) where
   abbrev x : RefT Account × (Services × (Three × Unit {0}))
   x = (record { ptr = (b, o); name = γ; now = h }, (asked, (ids, tt)))
 
@@ -116,7 +117,8 @@ module _ {M : Type 1} (𝓤 : URA M) (H : Heap 𝓤) (A : Atoms 𝓤) (W : Given
   last r = withStatus h (r .status)
 
   exits : Is Set.the-row asked (vV asked ∷ []) → Is Ids.the-row ids (vI ids ∷ []) → (r : Moving) → Said r
-      → ent 𝓤 (⋆ 𝓤 H A (‵ (fobs γ (T.the-row .coded .code (last r))) ∷ ‵ (fbor κ (Body (mem T.the-row) b o γ)) ∷ ‵ (flft κ q) ∷ ‵ (O.the-row .own (r .outcome) (vO (r .outcome) ∷ [])) ∷ [])) (Post (vO (r .outcome)))
+      → ent 𝓤 (⋆ 𝓤 H A (‵ (fobs γ (T.the-row .coded .code (last r))) ∷ ‵ (fbor κ (Body (mem T.the-row) b o γ)) ∷ ‵ (flft κ q) ∷ ‵ (O.the-row .own (r .outcome) (vO
+      (r .outcome) ∷ [])) ∷ [])) (Post (vO (r .outcome)))
   exits is-v is-i r e =
       qed W (‵ (fobs γ (T.the-row .coded .code (last r))) ∷ ‵ (fbor κ (Body (mem T.the-row) b o γ)) ∷ ‵ (flft κ q) ∷ ‵ (O.the-row .own (r .outcome) (vO (r .outcome) ∷ [])) ∷ []) ∵
       suffices ! _ (ends-at 𝓤 H A own.ended stayed (own.clauses 𝓤 H A at-mem run) W (((κ, tt), (q, tt), tt, x, at), tt) (vO (r .outcome)) (r .outcome) (last r, (tt, (tt, tt))) (tt, (tt, (tt, tt)))) $
@@ -138,10 +140,12 @@ module _ {M : Type 1} (𝓤 : URA M) (H : Heap 𝓤) (A : Atoms 𝓤) (W : Given
       Set′.mir Ids′.mir (vV asked) (vI ids) (LL.lawful Set.the-type Set′.the-laws 𝓤 H A W .typed asked _ is-v .0) (LL.lawful Ids.the-type Ids′.the-laws 𝓤 H A W .typed ids _ is-i .0) (known to-callee)
 
 module _ {M : Type 1} (𝓤 : URA M) (H : Heap 𝓤) (A : Atoms 𝓤) (W : Given 𝓤 H A) (at-mem : Memory → SProp 𝓤) (run : Routine → Fun 𝓤) where
-  walks : (C : Calls 𝓤 H) (Λ : Loops 𝓤 H) → FmC 𝓤 H (W .laws) C → Triple 𝓤 (C #aoc·set-up) (Callee 𝓤 H A at-mem run) → Walks 𝓤 H A own.ended stayed (WpFn 𝓤 H C Λ code.function) (own.clauses 𝓤 H A at-mem run)
+  walks : (C : Calls 𝓤 H) (Λ : Loops 𝓤 H) → FmC 𝓤 H (W .laws) C → Triple 𝓤 (C #aoc·set-up) (Callee 𝓤 H A at-mem run) → Walks 𝓤 H A own.ended stayed
+      (WpFn 𝓤 H C Λ code.function) (own.clauses 𝓤 H A at-mem run)
   walks C Λ fm known = walked 𝓤 H A own.ended stayed (own.clauses 𝓤 H A at-mem run) (WpFn 𝓤 H C Λ code.function)
       (λ κs. (ptr-vals, ((λ (d : Services). vV d ∷ []), ((λ (d : Three). vI d ∷ []), tt)))) (λ κs. (mut-tells (named 0) (κs .0) T.the-row, (tellsV, (tellsI, tt))))
-      (λ κs qs bounds a _ are. via 𝓤 _ (fst∗ 𝓤 _ (emp 𝓤)) (walk 𝓤 H A W at-mem run (κs .0) (qs .0) (a .0 .ptr .0) (a .0 .ptr .1) (a .0 .name) (a .0 .now) (a .1 .0) (a .1 .1 .0) C Λ fm known (are .1 .0) (are .1 .1 .0)))
+      (λ κs qs bounds a _ are. via 𝓤 _ (fst∗ 𝓤 _ (emp 𝓤)) (walk 𝓤 H A W at-mem run (κs .0) (qs .0) (a .0 .ptr .0) (a .0 .ptr .1) (a .0 .name) (a .0 .now) (a .1 .0)
+      (a .1 .1 .0) C Λ fm known (are .1 .0) (are .1 .1 .0)))
 
   goes : AllGo 𝓤 H A W 1 (own.signature .params) (own.ended .kept) stayed
   goes = (goes-ref 𝓤 H A W 1 0 tt (plain (λ _. T.the-row)), (goes-none 𝓤 H A W 1 (λ _. Set.the-row) yes (λ κs x f. refl), (goes-none 𝓤 H A W 1 (λ _. Ids.the-row) yes (λ κs x f. refl), tt)))

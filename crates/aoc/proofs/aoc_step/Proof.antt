@@ -1,4 +1,5 @@
--- `aoc::aoc_step` meets its contract: a walk of its MIR, by hand. It passes on to `step_in` all that it was passed, and promises what `step_in` promises. So what it has at its start is what `step_in` asks for, and what `step_in` gives back is what it owes: neither an account nor a clause is looked into.
+-- `aoc::aoc_step` meets its contract: a walk of its MIR, by hand. It passes on to `step_in` all that it was passed, and promises what `step_in` promises. So what it has
+-- at its start is what `step_in` asks for, and what `step_in` gives back is what it owes: neither an account nor a clause is looked into.
 -- Assumes nothing.
 use mathlib.Core.Path.{_≡_, refl}
 use Prim.Native.Nat.{ℕ}
@@ -67,7 +68,8 @@ tellsE = LL.tells E.the-type E′.the-laws
 abbrev Callee : {M : Type 1} (𝓤 : URA M) (H : Heap 𝓤) (A : Atoms 𝓤) (mem : Memory → SProp 𝓤) (run : Routine → Fun 𝓤) → Contract 𝓤
 Callee 𝓤 H A mem run = tripleOf 𝓤 H A callee.signature (callee.spec 𝓤 H A mem run)
 
-module _ {M : Type 1} (𝓤 : URA M) (H : Heap 𝓤) (A : Atoms 𝓤) (W : Given 𝓤 H A) (at-mem : Memory → SProp 𝓤) (run : Routine → Fun 𝓤) (κ κ′ : Lft) (bounds : AllOutlive 2 (own.signature .outlives) (κ, (κ′, tt))) (q q′ : Share) (b o : ℕ) (γ : GName) (h : Account) (ev : Event) (s : RefT (List ℕ)) where
+module _ {M : Type 1} (𝓤 : URA M) (H : Heap 𝓤) (A : Atoms 𝓤) (W : Given 𝓤 H A) (at-mem : Memory → SProp 𝓤) (run : Routine → Fun 𝓤) (κ κ′ : Lft)
+    (bounds : AllOutlive 2 (own.signature .outlives) (κ, (κ′, tt))) (q q′ : Share) (b o : ℕ) (γ : GName) (h : Account) (ev : Event) (s : RefT (List ℕ)) where
   abbrev vS : Val
   vS = sliceVal (s .ptr) (length (s .now))
 
@@ -111,12 +113,14 @@ module _ {M : Type 1} (𝓤 : URA M) (H : Heap 𝓤) (A : Atoms 𝓤) (W : Given
     walk is-event is-slice =
         qed W (tokens ∷ passed ∷ []) ∵
         enter ! C Λ code.function (vptr b o ∷ vE ev ∷ vS ∷ []) _ $
-        alloc1 ! (λ l₀. alloc1 ! (λ l₁. alloc1 ! (λ l₂. alloc1 ! (λ l₃. alloc1 ! (λ l₄. alloc0 ! $ params1 ! $ pass1 ! (init ! 6 refl (tt, tt)) $ pass1 ! (init ! 4 refl (LL.lawful E.the-type E′.the-laws 𝓤 H A W .typed ev _ is-event .0)) $
+        alloc1 ! (λ l₀. alloc1 ! (λ l₁. alloc1 ! (λ l₂. alloc1 ! (λ l₃. alloc1 ! (λ l₄. alloc0 ! $ params1 ! $ pass1 ! (init ! 6 refl (tt, tt)) $ pass1 !
+        (init ! 4 refl (LL.lawful E.the-type E′.the-laws 𝓤 H A W .typed ev _ is-event .0)) $
         pass1 ! (init ! 2 refl (shr-slice-lawful 𝓤 H A W (named 1) κ′ u8 .typed s (vS ∷ []) is-slice .0)) $ pass0 ! $
         assigns ! (addr ! (from ! (hop ! (look ! 6 refl) (stop !)))) (from ! (stop !)) (init ! 0 refl (tt, tt)) $
         move ! (10 ∷ 11 ∷ []) $ use2 W (raw (Callee 𝓤 H A at-mem run .pre to-callee)) goes-in $
         -- [what the callee asks for; _4; …; _3; …; _2; …; _1; …; room for _0; …]
-        calls-at ! fm (Callee 𝓤 H A at-mem run) known to-callee (and-then ! (load ! (from ! (stop !)) (look ! 1 refl)) (and-then ! (load ! (from ! (stop !)) (look ! 5 refl)) (and-then ! (load ! (from ! (stop !)) (look ! 3 refl)) (no-more !)))) (λ v.
+        calls-at ! fm (Callee 𝓤 H A at-mem run) known to-callee (and-then ! (load ! (from ! (stop !)) (look ! 1 refl)) (and-then ! (load ! (from ! (stop !))
+        (look ! 5 refl)) (and-then ! (load ! (from ! (stop !)) (look ! 3 refl)) (no-more !)))) (λ v.
         use1 W (later (some (λ (r : Outcome). (tokens ⊛ ‵ (O.the-row .own r (v ∷ []))) ⊛ some (λ (ws : Lasts callee.ended (κ, (κ′, tt)) x). came-back r ws)))) (id⊢ 𝓤 _) $ await ! tt $ pick ! (λ r.
         split ! $ move ! (1 ∷ []) $ pick ! (λ ws. move ! (1 ∷ []) $ split ! $ move ! (1 ∷ []) $ peeks ! O.the-row (Is O.the-row) (shows 𝓤 H A O.the-row) r (v ∷ []) (λ is.
         -- [what the outcome owns; the tokens; what came back; _4; …; _3; …; _2; …; _1; …; room for _0; …]
@@ -126,17 +130,31 @@ module _ {M : Type 1} (𝓤 : URA M) (H : Heap 𝓤) (A : Atoms 𝓤) (W : Given
         by ! (exits r v ws))))))))))
 
 module _ {M : Type 1} (𝓤 : URA M) (H : Heap 𝓤) (A : Atoms 𝓤) (W : Given 𝓤 H A) (at-mem : Memory → SProp 𝓤) (run : Routine → Fun 𝓤) where
-  walks : (C : Calls 𝓤 H) (Λ : Loops 𝓤 H) → FmC 𝓤 H (W .laws) C → Triple 𝓤 (C #step·step-in) (Callee 𝓤 H A at-mem run) → Walks 𝓤 H A own.ended stayed (WpFn 𝓤 H C Λ code.function) (own.clauses 𝓤 H A at-mem run)
+  walks : (C : Calls 𝓤 H) (Λ : Loops 𝓤 H) → FmC 𝓤 H (W .laws) C → Triple 𝓤 (C #step·step-in) (Callee 𝓤 H A at-mem run) → Walks 𝓤 H A own.ended stayed
+      (WpFn 𝓤 H C Λ code.function) (own.clauses 𝓤 H A at-mem run)
   walks C Λ fm known = walked 𝓤 H A own.ended stayed (own.clauses 𝓤 H A at-mem run) (WpFn 𝓤 H C Λ code.function)
       (λ κs. (ptr-vals, ((λ (d : Event). vE d ∷ []), (slice-vals, tt)))) (λ κs. (mut-tells (named 0) (κs .0) T.the-row, (tellsE, (shr-slice-tells (named 1) (κs .1 .0) u8, tt))))
-      (λ κs qs bounds a _ are. via 𝓤 _ (fst∗ 𝓤 _ (emp 𝓤)) (walk 𝓤 H A W at-mem run (κs .0) (κs .1 .0) bounds (qs .0) (qs .1 .0) (a .0 .ptr .0) (a .0 .ptr .1) (a .0 .name) (a .0 .now) (a .1 .0) (a .1 .1 .0) C Λ fm known (are .1 .0) (are .1 .1 .0)))
+      (λ κs qs bounds a _ are. via 𝓤 _ (fst∗ 𝓤 _ (emp 𝓤)) (walk 𝓤 H A W at-mem run (κs .0) (κs .1 .0) bounds (qs .0) (qs .1 .0) (a .0 .ptr .0) (a .0 .ptr .1)
+      (a .0 .name) (a .0 .now) (a .1 .0) (a .1 .1 .0) C Λ fm known (are .1 .0) (are .1 .1 .0)))
 
   goes : AllGo 𝓤 H A W 2 (own.signature .params) (own.ended .kept) stayed
-  goes = (goes-gave-ref 𝓤 H A W 2 0 tt (plain (λ _. T.the-row)), (goes-dropped 𝓤 H A W 2 (plain (λ _. E.the-row)) yes (λ κs x f. refl), (goes-dropped 𝓤 H A W 2 (shrSliceOf (1 ∷ []) tt (plain (λ _. u8))) yes (λ κs x f. refl), tt)))
+  goes = (
+    goes-gave-ref 𝓤 H A W 2 0 tt (plain (λ _. T.the-row)),
+    (
+      goes-dropped 𝓤 H A W 2 (plain (λ _. E.the-row)) yes (λ κs x f. refl),
+      (
+        goes-dropped 𝓤 H A W 2
+            (shrSliceOf (1 ∷ []) tt (plain (λ _. u8))) yes (λ κs x f. refl),
+        tt,
+      ),
+    ),
+  )
 
-meets : {M : Type 1} (𝓤 : URA M) (H : Heap 𝓤) (A : Atoms 𝓤) → Given 𝓤 H A → (at-mem : Memory → SProp 𝓤) (run : Routine → Fun 𝓤) (𝓣 : Tables 𝓤 H) → Triple 𝓤 (𝓣 .C #step·step-in) (Callee 𝓤 H A at-mem run)
+meets : {M : Type 1} (𝓤 : URA M) (H : Heap 𝓤) (A : Atoms 𝓤) → Given 𝓤 H A → (at-mem : Memory → SProp 𝓤) (run : Routine → Fun 𝓤) (𝓣 : Tables 𝓤 H) → Triple 𝓤
+    (𝓣 .C #step·step-in) (Callee 𝓤 H A at-mem run)
     → Meets 𝓤 H A own.signature (WpFn 𝓤 H (𝓣 .C) (𝓣 .Λ) code.function) (own.spec 𝓤 H A at-mem run)
-meets 𝓤 H A W at-mem run 𝓣 known = walk-meets 𝓤 H A own.ended stayed W (goes 𝓤 H A W at-mem run) (own.clauses 𝓤 H A at-mem run) (WpFn 𝓤 H (𝓣 .C) (𝓣 .Λ) code.function) (WpFn-mono 𝓤 H (W .laws) 𝓣 code.function)
+meets 𝓤 H A W at-mem run 𝓣 known = walk-meets 𝓤 H A own.ended stayed W (goes 𝓤 H A W at-mem run) (own.clauses 𝓤 H A at-mem run) (WpFn 𝓤 H (𝓣 .C)
+    (𝓣 .Λ) code.function) (WpFn-mono 𝓤 H (W .laws) 𝓣 code.function)
     (walks 𝓤 H A W at-mem run (𝓣 .C) (𝓣 .Λ) (fmOf 𝓤 H (W .laws) 𝓣) known)
 
 pub aoc-step-spec : {M : Type 1} → stated.statement M

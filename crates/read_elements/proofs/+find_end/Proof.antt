@@ -63,7 +63,14 @@ find-end-add-t10 : (t : ℕ) → find-end-lts.Need-add-t10 (
   numbered-at-reads.Asked,
   numbered-at-reads.Learnt,
 ) (find-end-at t) find-end.Post
-find-end-add-t10 t c = omega (arith, marker-is (c .before .before .before .before .args .s .now) (c .before .before .before .before .args .at) (c .before .before .before .before .args .end) (sym (c .before .is-marker .ensures) ∙ c .if2 .taken), c .before .before .before .before .pre .1)
+find-end-add-t10 t c =
+    let c3 = c .before .before .before in
+    omega (
+      arith,
+      marker-is (c3 .before .args .s .now) (c3 .before .args .at)
+          (c3 .before .args .end) (sym (c .before .is-marker .ensures) ∙ c .if2 .taken),
+      c3 .before .pre .1,
+    )
 
 -- src/lib.rt:179:9
 find-end-returns-2 : (t : ℕ) → find-end-lts.Need-returns-2 (
@@ -76,7 +83,10 @@ find-end-returns-2 : (t : ℕ) → find-end-lts.Need-returns-2 (
   numbered-at-reads.Asked,
   numbered-at-reads.Learnt,
 ) (find-end-at t) find-end.Post
-find-end-returns-2 t c = find-here (c .before .before .before .before .args .s .now) (c .before .before .before .before .args .at) (c .before .before .before .before .args .end) (sym (c .before .is-marker .ensures) ∙ c .if2 .taken)
+find-end-returns-2 t c =
+    let c3 = c .before .before .before in
+    find-here (c3 .before .args .s .now) (c3 .before .args .at)
+    (c3 .before .args .end) (sym (c .before .is-marker .ensures) ∙ c .if2 .taken)
 
 -- src/lib.rt:186:26
 find-end-add-is-endless : (t : ℕ) → find-end-lts.Need-add-is-endless (
@@ -102,7 +112,9 @@ find-end-is-endless-requires : (t : ℕ) → find-end-lts.Need-is-endless-requir
   numbered-at-reads.Asked,
   numbered-at-reads.Learnt,
 ) (find-end-at t) find-end.Post
-find-end-is-endless-requires t c κs = (c .before .before .before .before .pre .1, omega arith)
+find-end-is-endless-requires t c κs =
+    let c3 = c .before .before .before in
+    (c3 .before .pre .1, omega arith)
 
 -- src/lib.rt:187:33
 find-end-add-find-end : (t : ℕ) → find-end-lts.Need-add-find-end (
@@ -115,7 +127,15 @@ find-end-add-find-end : (t : ℕ) → find-end-lts.Need-add-find-end (
   numbered-at-reads.Asked,
   numbered-at-reads.Learnt,
 ) (find-end-at t) find-end.Post
-find-end-add-find-end t c = omega (arith, (endless-is (c .before .before .before .before .before .before .args .s .now) (c .before .before .before .before .before .before .args .at) (c .before .before .before .before .before .before .args .at + 1) (c .before .before .before .before .before .before .args .end) (sym (c .before .is-endless .ensures) ∙ c .if3 .taken) .0), c .before .before .before .before .before .before .pre .1)
+find-end-add-find-end t c =
+    let c3 = c .before .before .before in let c6 = c3 .before .before .before in
+    omega (
+      arith,
+      (endless-is (c6 .args .s .now)
+          (c6 .args .at) (c6 .args .at + 1)
+          (c6 .args .end) (sym (c .before .is-endless .ensures) ∙ c .if3 .taken) .0),
+      c6 .pre .1,
+    )
 
 -- src/lib.rt:187:13
 find-end-find-end-requires : (t : ℕ) → find-end-lts.Need-find-end-requires (
@@ -128,7 +148,18 @@ find-end-find-end-requires : (t : ℕ) → find-end-lts.Need-find-end-requires (
   numbered-at-reads.Asked,
   numbered-at-reads.Learnt,
 ) (find-end-at t) find-end.Post
-find-end-find-end-requires t c κs = (omega (arith, c .before .before .before .before .before .before .pre .0, (endless-is (c .before .before .before .before .before .before .args .s .now) (c .before .before .before .before .before .before .args .at) (c .before .before .before .before .before .before .args .at + 1) (c .before .before .before .before .before .before .args .end) (sym (c .before .is-endless .ensures) ∙ c .if3 .taken) .0)), c .before .before .before .before .before .before .pre .1)
+find-end-find-end-requires t c κs =
+    let c3 = c .before .before .before in let c6 = c3 .before .before .before in (
+      omega (
+        arith,
+        c6 .pre .0,
+        (endless-is
+            (c6 .args .s .now) (c6 .args .at)
+            (c6 .args .at + 1) (c6 .args .end) (sym
+            (c .before .is-endless .ensures) ∙ c .if3 .taken) .0),
+      ),
+      c6 .pre .1,
+    )
 
 -- src/lib.rt:189:13
 find-end-returns-3 : (t : ℕ) → find-end-lts.Need-returns-3 (
@@ -141,7 +172,13 @@ find-end-returns-3 : (t : ℕ) → find-end-lts.Need-returns-3 (
   numbered-at-reads.Asked,
   numbered-at-reads.Learnt,
 ) (find-end-at t) find-end.Post
-find-end-returns-3 t c = find-nest-fault (c .before .before .before .before .before .before .before .before .before .args .s .now) (c .before .before .before .before .before .before .before .before .before .args .at) (c .before .before .before .before .before .before .before .before .before .args .end) (sym (c .before .before .before .before .before .before .is-marker .ensures) ∙ c .before .before .before .before .before .if2 .left) (sym (c .before .before .before .before .is-endless .ensures) ∙ c .before .before .before .if3 .taken) (c .before .before .find-end .ensures) (c .if4 .taken)
+find-end-returns-3 t c =
+    let c3 = c .before .before .before in let c6 = c3 .before .before .before in let c9 = c6 .before .before .before in
+    find-nest-fault (c9 .args .s .now)
+    (c9 .args .at)
+    (c9 .args .end) (sym
+    (c6 .is-marker .ensures) ∙ c3 .before .before .if2 .left) (sym
+    (c3 .before .is-endless .ensures) ∙ c3 .if3 .taken) (c .before .before .find-end .ensures) (c .if4 .taken)
 
 -- src/lib.rt:192:9
 find-end-find-end-requires-2 : (t : ℕ) → find-end-lts.Need-find-end-requires-2 (
@@ -154,7 +191,19 @@ find-end-find-end-requires-2 : (t : ℕ) → find-end-lts.Need-find-end-requires
   numbered-at-reads.Asked,
   numbered-at-reads.Learnt,
 ) (find-end-at t) find-end.Post
-find-end-find-end-requires-2 t c κs = (let q = found-moves (c .before .before .before .before .before .before .before .before .before .args .s .now) (c .before .before .before .before .before .before .before .before .before .args .at + 2) (c .before .before .before .before .before .before .before .before .before .args .end) (c .before .before .find-end .ensures) (c .if4 .left) in omega (arith, c .before .before .before .before .before .before .before .before .before .pre .0, q .0, q .1, q .2), c .before .before .before .before .before .before .before .before .before .pre .1)
+find-end-find-end-requires-2 t c κs =
+    let c3 = c .before .before .before in let c6 = c3 .before .before .before in let c9 = c6 .before .before .before in (
+      let q = found-moves (c9 .args .s .now)
+          (c9 .args .at + 2)
+          (c9 .args .end) (c .before .before .find-end .ensures) (c .if4 .left) in omega (
+            arith,
+            c9 .pre .0,
+            q .0,
+            q .1,
+            q .2,
+          ),
+      c9 .pre .1,
+    )
 
 -- src/lib.rt:192:9
 find-end-returns-4 : (t : ℕ) → find-end-lts.Need-returns-4 (
@@ -167,7 +216,14 @@ find-end-returns-4 : (t : ℕ) → find-end-lts.Need-returns-4 (
   numbered-at-reads.Asked,
   numbered-at-reads.Learnt,
 ) (find-end-at t) find-end.Post
-find-end-returns-4 t c = find-nest (c .before .before .before .before .before .before .before .before .before .before .args .s .now) (c .before .before .before .before .before .before .before .before .before .before .args .at) (c .before .before .before .before .before .before .before .before .before .before .args .end) (sym (c .before .before .before .before .before .before .before .is-marker .ensures) ∙ c .before .before .before .before .before .before .if2 .left) (sym (c .before .before .before .before .before .is-endless .ensures) ∙ c .before .before .before .before .if3 .taken) (c .before .before .before .find-end .ensures) (c .before .if4 .left) (c .find-end2 .ensures)
+find-end-returns-4 t c =
+    let c3 = c .before .before .before in let c6 = c3 .before .before .before in let c9 = c6 .before .before .before in
+    find-nest (c9 .before .args .s .now)
+    (c9 .before .args .at)
+    (c9 .before .args .end) (sym
+    (c6 .before .is-marker .ensures) ∙ c6 .if2 .left) (sym
+    (c3 .before .before .is-endless .ensures) ∙ c3 .before .if3 .taken) (c3 .find-end .ensures)
+    (c .before .if4 .left) (c .find-end2 .ensures)
 
 -- src/lib.rt:194:32
 find-end-add-numbered-at : (t : ℕ) → find-end-lts.Need-add-numbered-at (
@@ -180,7 +236,9 @@ find-end-add-numbered-at : (t : ℕ) → find-end-lts.Need-add-numbered-at (
   numbered-at-reads.Asked,
   numbered-at-reads.Learnt,
 ) (find-end-at t) find-end.Post
-find-end-add-numbered-at t c = omega (arith, c .before .before .before .before .if1 .left)
+find-end-add-numbered-at t c =
+    let c3 = c .before .before .before in
+    omega (arith, c3 .before .if1 .left)
 
 -- src/lib.rt:194:9
 find-end-numbered-at-requires : (t : ℕ) → find-end-lts.Need-numbered-at-requires (
@@ -193,7 +251,9 @@ find-end-numbered-at-requires : (t : ℕ) → find-end-lts.Need-numbered-at-requ
   numbered-at-reads.Asked,
   numbered-at-reads.Learnt,
 ) (find-end-at t) find-end.Post
-find-end-numbered-at-requires t c κs = c .before .before .before .before .before .before .pre .1
+find-end-numbered-at-requires t c κs =
+    let c3 = c .before .before .before in let c6 = c3 .before .before .before in
+    c6 .pre .1
 
 -- src/lib.rt:196:9
 find-end-returns-5 : (t : ℕ) → find-end-lts.Need-returns-5 (
@@ -206,7 +266,13 @@ find-end-returns-5 : (t : ℕ) → find-end-lts.Need-returns-5 (
   numbered-at-reads.Asked,
   numbered-at-reads.Learnt,
 ) (find-end-at t) find-end.Post
-find-end-returns-5 t c = find-fault (c .before .before .before .before .before .before .before .before .before .args .s .now) (c .before .before .before .before .before .before .before .before .before .args .at) (c .before .before .before .before .before .before .before .before .before .args .end) (sym (c .before .before .before .before .before .before .is-marker .ensures) ∙ c .before .before .before .before .before .if2 .left) (record { start = 0; stop = 0 }) (sym (c .before .before .before .before .is-endless .ensures) ∙ c .before .before .before .if3 .left) (c .before .before .numbered-at .ensures .0) (c .if5 .taken)
+find-end-returns-5 t c =
+    let c3 = c .before .before .before in let c6 = c3 .before .before .before in let c9 = c6 .before .before .before in
+    find-fault (c9 .args .s .now)
+    (c9 .args .at)
+    (c9 .args .end) (sym
+    (c6 .is-marker .ensures) ∙ c3 .before .before .if2 .left) (record { start = 0; stop = 0 })
+    (sym (c3 .before .is-endless .ensures) ∙ c3 .if3 .left) (c .before .before .numbered-at .ensures .0) (c .if5 .taken)
 
 -- src/lib.rt:204:5
 find-end-find-end-requires-3 : (t : ℕ) → find-end-lts.Need-find-end-requires-3 (
@@ -219,7 +285,19 @@ find-end-find-end-requires-3 : (t : ℕ) → find-end-lts.Need-find-end-requires
   numbered-at-reads.Asked,
   numbered-at-reads.Learnt,
 ) (find-end-at t) find-end.Post
-find-end-find-end-requires-3 t c κs = (let q = stepped-moves (c .before .before .before .before .before .before .before .before .before .args .s .now) (c .before .before .before .before .before .before .before .before .before .args .at) (c .before .before .before .before .before .before .before .before .before .args .end) (record { start = 0; stop = 0 }) (c .before .before .numbered-at .ensures .0) (c .if5 .left) in omega (arith, c .before .before .before .before .before .before .before .before .before .pre .0, q .0, q .1), c .before .before .before .before .before .before .before .before .before .pre .1)
+find-end-find-end-requires-3 t c κs =
+    let c3 = c .before .before .before in let c6 = c3 .before .before .before in let c9 = c6 .before .before .before in (
+      let q = stepped-moves (c9 .args .s .now)
+          (c9 .args .at)
+          (c9 .args .end) (record { start = 0; stop = 0 })
+          (c .before .before .numbered-at .ensures .0) (c .if5 .left) in omega (
+            arith,
+            c9 .pre .0,
+            q .0,
+            q .1,
+          ),
+      c9 .pre .1,
+    )
 
 -- src/lib.rt:166:1
 find-end-returns-6 : (t : ℕ) → find-end-lts.Need-returns-6 (
@@ -232,7 +310,14 @@ find-end-returns-6 : (t : ℕ) → find-end-lts.Need-returns-6 (
   numbered-at-reads.Asked,
   numbered-at-reads.Learnt,
 ) (find-end-at t) find-end.Post
-find-end-returns-6 t c = find-over (c .before .before .before .before .before .before .before .before .before .before .args .s .now) (c .before .before .before .before .before .before .before .before .before .before .args .at) (c .before .before .before .before .before .before .before .before .before .before .args .end) (sym (c .before .before .before .before .before .before .before .is-marker .ensures) ∙ c .before .before .before .before .before .before .if2 .left) (record { start = 0; stop = 0 }) (sym (c .before .before .before .before .before .is-endless .ensures) ∙ c .before .before .before .before .if3 .left) (c .before .before .before .numbered-at .ensures .0) (c .before .if5 .left) (c .find-end3 .ensures)
+find-end-returns-6 t c =
+    let c3 = c .before .before .before in let c6 = c3 .before .before .before in let c9 = c6 .before .before .before in
+    find-over (c9 .before .args .s .now)
+    (c9 .before .args .at)
+    (c9 .before .args .end) (sym
+    (c6 .before .is-marker .ensures) ∙ c6 .if2 .left)
+    (record { start = 0; stop = 0 }) (sym (c3 .before .before .is-endless .ensures) ∙ c3 .before .if3 .left)
+    (c3 .numbered-at .ensures .0) (c .before .if5 .left) (c .find-end3 .ensures)
 
 pub +find-end-spec : {M : Type 1} → statement M
 +find-end-spec = close μ-find-end λ t. find-end-lts.spec (

@@ -25,8 +25,9 @@ shared-slice-read-if1 c = omega arith
 
 returns : tie.Need-returns Inv-loop μ-loop
 returns c =
-    let a = c .before .before .before .before .args in
-    let l = c .before .before .before .loop in
+    let c3 = c .before .before .before in
+    let a = c3 .before .args in
+    let l = c3 .loop in
     sym (l .inv .2 ∙ every-stop (λ x. ltb x (a .limit)) (a .s .now) (l .i) (a .to) (omega arith) (omega arith) (le-ltb _ (a .limit) (omega arith)))
 
 add-i : tie.Need-add-i Inv-loop μ-loop
@@ -37,8 +38,9 @@ loop-less c = omega arith
 
 loop-again : tie.Need-loop-again Inv-loop μ-loop
 loop-again c =
-    let a = c .before .before .before .before .args in
-    let l = c .before .before .before .loop in
+    let c3 = c .before .before .before in
+    let a = c3 .before .args in
+    let l = c3 .loop in
     (omega arith, omega arith, l .inv .2 ∙ every-step (λ x. ltb x (a .limit)) (a .s .now) (l .i) (a .to) (omega arith) (omega arith) (lt-ltb _ (a .limit) (omega arith)))
 
 returns-2 : tie.Need-returns-2 Inv-loop μ-loop

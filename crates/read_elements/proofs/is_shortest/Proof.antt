@@ -23,23 +23,26 @@ returns-2 c =
 returns-3 : tie.Need-returns-3
 unfolding shortest
 returns-3 c =
-    let a = c .before .before .before .before .before in
+    let c3 = c .before .before .before in
+    let a = c3 .before .before in
     let h : a .args .start + 1 < a .args .stop = omega arith in
-    rw (part-cons _ _ _ (c .before .before .before .before .if1 .left) (a .pre), part-cons _ _ _ h (a .pre)) (rw (c .if3 .taken))
+    rw (part-cons _ _ _ (c3 .before .if1 .left) (a .pre), part-cons _ _ _ h (a .pre)) (rw (c .if3 .taken))
 
 returns-4 : tie.Need-returns-4
 unfolding shortest
 returns-4 c =
-    let a = c .before .before .before .before .before .before in
+    let c3 = c .before .before .before in let c6 = c3 .before .before .before in
+    let a = c6 in
     let h : a .args .start + 1 < a .args .stop = omega arith in
-    rw (part-cons _ _ _ (c .before .before .before .before .before .if1 .left) (a .pre), part-cons _ _ _ h (a .pre)) (rw (c .if4 .taken))
+    rw (part-cons _ _ _ (c3 .before .before .if1 .left) (a .pre), part-cons _ _ _ h (a .pre)) (rw (c .if4 .taken))
 
 returns-5 : tie.Need-returns-5
 unfolding shortest
 returns-5 c =
-    let a = c .before .before .before .before .before .before in
+    let c3 = c .before .before .before in let c6 = c3 .before .before .before in
+    let a = c6 in
     let h : a .args .start + 1 < a .args .stop = omega arith in
-    rw (part-cons _ _ _ (c .before .before .before .before .before .if1 .left) (a .pre), part-cons _ _ _ h (a .pre))
+    rw (part-cons _ _ _ (c3 .before .before .if1 .left) (a .pre), part-cons _ _ _ h (a .pre))
     (simp (ne-eqb _ _ (c .before .if3 .left), ne-eqb _ _ (c .if4 .left)))
 
 pub is-shortest-spec : {M : Type 1} → statement M

@@ -16,13 +16,15 @@ add-span-at c =
 
 returns : tie.Need-returns
 returns c =
-    let a = c .before .before .before .before .args in
+    let c3 = c .before .before .before in
+    let a = c3 .before .args in
     let h = sym (c .before .before .is-endless .ensures) ∙ c .before .if1 .taken in
     (c .span-at .ensures .0 ∙ ap (shown (record { start = 0; stop = 0 })) (sym (length-endless (a .s .now) (a .tag) (a .at) (a .end) h)), c .span-at .ensures .1)
 
 returns-2 : tie.Need-returns-2
 returns-2 c =
-    let a = c .before .before .before .before .args in
+    let c3 = c .before .before .before in
+    let a = c3 .before .args in
     let h = sym (c .before .before .is-endless .ensures) ∙ c .before .if1 .left in
     (c .numbered-at .ensures .0 ∙ ap (shown (record { start = 0; stop = 0 })) (sym (length-numbered (a .s .now) (a .tag) (a .at) (a .end) h)), c .numbered-at .ensures .1)
 

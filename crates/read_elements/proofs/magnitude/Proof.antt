@@ -36,8 +36,9 @@ loop-less c = omega arith
 
 loop-again : tie.Need-loop-again Inv-loop μ-loop
 loop-again c =
-    let l = c .before .before .before .loop in
-    let a = c .before .before .before .before .before .args in
+    let c3 = c .before .before .before in
+    let l = c3 .loop in
+    let a = c3 .before .before .args in
     let p = part-more (a .s .now) (a .start) (l .i) (l .inv .0) (omega arith) in
     (omega arith, omega arith, rw (p, number-more) (omega arith))
 

@@ -20,13 +20,14 @@ returns c =
 returns-2 : tie.Need-returns-2
 unfolding natural verdict
 returns-2 c =
-    let d = c .before .before .before .before .before in
+    let c3 = c .before .before .before in
+    let d = c3 .before .before in
     let a = d .before .before in
     let N = numberFrom 0 (part (a .args .s .now) (a .args .start) (a .args .stop)) in
     let h : N < a .args .low = omega arith in (
       simp (
-        sym (d .is-shortest .ensures) ∙ c .before .before .before .before .if1 .taken,
-        sym (c .before .before .before .is-negative .ensures) ∙ c .before .before .if2 .left,
+        sym (d .is-shortest .ensures) ∙ c3 .before .if1 .taken,
+        sym (c3 .is-negative .ensures) ∙ c .before .before .if2 .left,
         lt-leb _ _ h,
       ),
       omega arith,
@@ -35,14 +36,15 @@ returns-2 c =
 returns-3 : tie.Need-returns-3
 unfolding natural verdict
 returns-3 c =
-    let d = c .before .before .before .before .before .before in
+    let c3 = c .before .before .before in let c6 = c3 .before .before .before in
+    let d = c6 in
     let a = d .before .before in
     let N = numberFrom 0 (part (a .args .s .now) (a .args .start) (a .args .stop)) in
     let h : a .args .low ≤ N = omega arith in
     let k : a .args .high < N = omega arith in (
       simp (
-        sym (d .is-shortest .ensures) ∙ c .before .before .before .before .before .if1 .taken,
-        sym (c .before .before .before .before .is-negative .ensures) ∙ c .before .before .before .if2 .left,
+        sym (d .is-shortest .ensures) ∙ c3 .before .before .if1 .taken,
+        sym (c3 .before .is-negative .ensures) ∙ c3 .if2 .left,
         le-leb _ _ h,
         lt-leb _ _ k,
       ),
@@ -52,15 +54,16 @@ returns-3 c =
 returns-4 : tie.Need-returns-4
 unfolding natural verdict
 returns-4 c =
-    let d = c .before .before .before .before .before .before in
+    let c3 = c .before .before .before in let c6 = c3 .before .before .before in
+    let d = c6 in
     let a = d .before .before in
     let N = numberFrom 0 (part (a .args .s .now) (a .args .start) (a .args .stop)) in
     let h : a .args .low ≤ N = omega arith in
     let k : N ≤ a .args .high = omega arith in
     let e : c .before .before .magnitude .result ≡ N = omega arith in (
       simp (
-        sym (d .is-shortest .ensures) ∙ c .before .before .before .before .before .if1 .taken,
-        sym (c .before .before .before .before .is-negative .ensures) ∙ c .before .before .before .if2 .left,
+        sym (d .is-shortest .ensures) ∙ c3 .before .before .if1 .taken,
+        sym (c3 .before .is-negative .ensures) ∙ c3 .if2 .left,
         le-leb _ _ h,
         le-leb _ _ k,
       ) (rw e),

@@ -17,16 +17,18 @@ returns c = search reading
 returns-2 : tie.Need-returns-2
 unfolding prim nullLeaf primitive
 returns-2 c =
-    let a = c .before .before .before .before .before .before .args in
-    let o = c .before .before .before .before .open-long in
+    let c3 = c .before .before .before in let c6 = c3 .before .before .before in
+    let a = c6 .args in
+    let o = c3 .before .open-long in
     let e = null-some (a .s .now) (o .result .value .start) (o .result .value .stop) (omega arith) (omega arith) in
     step _ _ _ _ (o .ensures .0) (c .before .before .if1 .left) (fails _ _ _ _ e (λ h. omega arith))
 
 returns-3 : tie.Need-returns-3
 unfolding prim nullLeaf primitive
 returns-3 c =
-    let a = c .before .before .before .before .before .before .args in
-    let v = c .before .before .before .before .open-long .result .value in
+    let c3 = c .before .before .before in let c6 = c3 .before .before .before in
+    let a = c6 .args in
+    let v = c3 .before .open-long .result .value in
     let e = null-none (a .s .now) (v .start) (v .stop) (omega arith) in
     search reading
 

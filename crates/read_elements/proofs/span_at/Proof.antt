@@ -8,12 +8,14 @@ use Rattle.read_elements.proofs.span_at.Tie as tie
 
 returns : tie.Need-returns
 returns c =
-    let a = c .before .before .before .before .before .args in
-    rw (c .halted .ensures) (span-fault (a .s .now) (a .tag) (a .start) (a .end) (record { start = 0; stop = 0 }) (c .before .before .before .find-end .ensures) (c .before .if1 .taken), omega arith)
+    let c3 = c .before .before .before in
+    let a = c3 .before .before .args in
+    rw (c .halted .ensures) (span-fault (a .s .now) (a .tag) (a .start) (a .end) (record { start = 0; stop = 0 }) (c3 .find-end .ensures) (c .before .if1 .taken), omega arith)
 
 returns-2 : tie.Need-returns-2
 returns-2 c =
-    let a = c .before .before .before .before .args in
+    let c3 = c .before .before .before in
+    let a = c3 .before .args in
     let e = c .before .before .find-end .ensures in
     let m = found-moves (a .s .now) (a .start) (a .end) e (c .if1 .left) in
     (span-got (a .s .now) (a .tag) (a .start) (a .end) (record { start = 0; stop = 0 }) e (c .if1 .left), (m .0, omega (arith, m .1, m .2)))

@@ -81,14 +81,16 @@ abbrev change-name : List ℕ
 change-name = 97 ∷ 99 ∷ 99 ∷ 111 ∷ 117 ∷ 110 ∷ 116 ∷ 58 ∷ 58 ∷ 67 ∷ 104 ∷ 97 ∷ 110 ∷ 103 ∷ 101 ∷ []
 
 module _ {M : Type 1} (𝓤 : URA M) (H : Heap 𝓤) (A : Atoms 𝓤) (W : Given 𝓤 H A) where
-  typed-account : (h : Account) → Is T.the-row h (vA h ∷ []) → Holds (hasTy (accountTy S′.mir F′.mir account-name) (accountVal (vT (h .status)) (vF (h .rate)) (vF (h .running)) (vF (h .dfinal)) (vF (h .efinal))))
+  typed-account : (h : Account) → Is T.the-row h (vA h ∷ []) → Holds (hasTy (accountTy S′.mir F′.mir account-name) (accountVal (vT (h .status)) (vF (h .rate)) (vF
+      (h .running)) (vF (h .dfinal)) (vF (h .efinal))))
       × WT (accountVal (vT (h .status)) (vF (h .rate)) (vF (h .running)) (vF (h .dfinal)) (vF (h .efinal)))
   unfolding vA vT vF
   typed-account h g = LL.lawful T.the-type T′.the-laws 𝓤 H A W .typed h _ g .0
 
   -- what a change owns says its machine value, and is what its four fields own
   opened : (r : Change) (v : Val) → ent 𝓤 (sem 𝓤 H A (N.the-row .own r (v ∷ []))) (guard 𝓤 (v ∷ [] ≡ changeVal (vO (r .outcome)) (r .place) (vT (r .status)) (vF (r .charge)) ∷ [])
-      (sem 𝓤 H A (fsep (O.the-row .own (r .outcome) (vO (r .outcome) ∷ [])) (fsep (u16 .own (r .place) (vint w16 (r .place) ∷ [])) (fsep (S.the-row .own (r .status) (vT (r .status) ∷ [])) (fsep (F.the-row .own (r .charge) (vF (r .charge) ∷ [])) ftrue))))))
+      (sem 𝓤 H A (fsep (O.the-row .own (r .outcome) (vO (r .outcome) ∷ [])) (fsep (u16 .own (r .place) (vint w16 (r .place) ∷ [])) (fsep (S.the-row .own (r .status)
+      (vT (r .status) ∷ [])) (fsep (F.the-row .own (r .charge) (vF (r .charge) ∷ [])) ftrue))))))
   unfolding vO vT vF
   opened r v = own-open 𝓤 H A W N.the-type N′.the-laws (r .outcome, (r .place, (r .status, (r .charge, tt)))) v
 
@@ -98,15 +100,18 @@ module _ {M : Type 1} (𝓤 : URA M) (H : Heap 𝓤) (A : Atoms 𝓤) (W : Given
 
   abbrev Typed : Change → Val → Type 0
   Typed r v = (v ≡ changeVal (vO (r .outcome)) (r .place) (vT (r .status)) (vF (r .charge))) × (Holds (hasTy (changeTy O′.mir S′.mir F′.mir change-name) v) × WT v)
-      × (Holds (hasTy O′.mir (vO (r .outcome))) × WT (vO (r .outcome))) × (Holds (hasTy S′.mir (vT (r .status))) × WT (vT (r .status))) × (Holds (hasTy F′.mir (vF (r .charge))) × WT (vF (r .charge))) × Fine r
+      × (Holds (hasTy O′.mir (vO (r .outcome))) × WT (vO (r .outcome))) × (Holds (hasTy S′.mir (vT (r .status))) × WT (vT (r .status))) × (Holds (hasTy F′.mir (vF
+      (r .charge))) × WT (vF (r .charge))) × Fine r
 
   taken-apart : (r : Change) (v : Val) → ent 𝓤 (sem 𝓤 H A (N.the-row .own r (v ∷ []))) (guard 𝓤 (Typed r v) (sem 𝓤 H A (O.the-row .own (r .outcome) (vO (r .outcome) ∷ []))))
   taken-apart r v =
       qed W (‵ (N.the-row .own r (v ∷ [])) ∷ []) ∵ peeks ! N.the-row (Is N.the-row) (shows 𝓤 H A N.the-row) r (v ∷ []) (λ is.
       use1 W (given (v ∷ [] ≡ changeVal (vO (r .outcome)) (r .place) (vT (r .status)) (vF (r .charge)) ∷ [])
-      (‵ (fsep (O.the-row .own (r .outcome) (vO (r .outcome) ∷ [])) (fsep (u16 .own (r .place) (vint w16 (r .place) ∷ [])) (fsep (S.the-row .own (r .status) (vT (r .status) ∷ [])) (fsep (F.the-row .own (r .charge) (vF (r .charge) ∷ [])) ftrue)))))) (opened r v) $ learn ! (λ w.
+      (‵ (fsep (O.the-row .own (r .outcome) (vO (r .outcome) ∷ [])) (fsep (u16 .own (r .place) (vint w16 (r .place) ∷ [])) (fsep (S.the-row .own (r .status) (vT
+      (r .status) ∷ [])) (fsep (F.the-row .own (r .charge) (vF (r .charge) ∷ [])) ftrue)))))) (opened r v) $ learn ! (λ w.
       fsplit ! $ peeks ! O.the-row (Is O.the-row) (shows 𝓤 H A O.the-row) (r .outcome) (vO (r .outcome) ∷ []) (λ go. move ! (1 ∷ []) $ fsplit ! $ drop ! $ fsplit ! $
-      peeks ! S.the-row (Is S.the-row) (shows 𝓤 H A S.the-row) (r .status) (vT (r .status) ∷ []) (λ gs. drop ! $ fsplit ! $ peeks ! F.the-row (Is F.the-row) (shows 𝓤 H A F.the-row) (r .charge) (vF (r .charge) ∷ []) (λ gf. drop ! $ drop ! $
+      peeks ! S.the-row (Is S.the-row) (shows 𝓤 H A S.the-row) (r .status) (vT (r .status) ∷ []) (λ gs. drop ! $ fsplit ! $ peeks ! F.the-row (Is F.the-row)
+      (shows 𝓤 H A F.the-row) (r .charge) (vF (r .charge) ∷ []) (λ gf. drop ! $ drop ! $
       check ! (
         ap only w,
         LL.lawful N.the-type N′.the-laws 𝓤 H A W .typed r _ is .0,
@@ -120,7 +125,8 @@ module _ {M : Type 1} (𝓤 : URA M) (H : Heap 𝓤) (A : Atoms 𝓤) (W : Given
 abbrev ByValue : {M : Type 1} (𝓤 : URA M) (H : Heap 𝓤) (A : Atoms 𝓤) (at-mem : Memory → SProp 𝓤) (run : Routine → Fun 𝓤) → Contract 𝓤
 ByValue 𝓤 H A at-mem run = tripleOf 𝓤 H A step.signature (step.spec 𝓤 H A at-mem run)
 
-module _ {M : Type 1} (𝓤 : URA M) (H : Heap 𝓤) (A : Atoms 𝓤) (W : Given 𝓤 H A) (at-mem : Memory → SProp 𝓤) (run : Routine → Fun 𝓤) (κ κ′ : Lft) (q q′ : Share) (b o : ℕ) (γ : GName) (h : Account) (ev : Event) (s : RefT (List ℕ)) where
+module _ {M : Type 1} (𝓤 : URA M) (H : Heap 𝓤) (A : Atoms 𝓤) (W : Given 𝓤 H A) (at-mem : Memory → SProp 𝓤) (run : Routine → Fun 𝓤) (κ κ′ : Lft) (q q′ : Share)
+    (b o : ℕ) (γ : GName) (h : Account) (ev : Event) (s : RefT (List ℕ)) where
   abbrev vS : Val
   vS = sliceVal (s .ptr) (length (s .now))
 
@@ -149,13 +155,17 @@ module _ {M : Type 1} (𝓤 : URA M) (H : Heap 𝓤) (A : Atoms 𝓤) (W : Given
   is-old : Is T.the-row h (vA h ∷ []) → Is T.the-row h (old ∷ [])
   is-old g = rw (parts h) at g
 
-  goes-step : Is T.the-row h (vA h ∷ []) → ent 𝓤 (⋆ 𝓤 H A ((‵ (flft κ′ q′) ⊛ ‵ ftrue) ∷ ‵ (owns (E.the-row ∷ ShrSlice (named 1) κ′ u8 ∷ []) (ev, (s, tt)) (vE ev ∷ [], (vS ∷ [], tt))) ∷ [])) (sep 𝓤 (ByValue 𝓤 H A at-mem run .pre to-step) (sem 𝓤 H A Sl))
+  goes-step : Is T.the-row h (vA h ∷ []) → ent 𝓤 (⋆ 𝓤 H A ((‵ (flft κ′ q′) ⊛ ‵ ftrue) ∷ ‵ (owns (E.the-row ∷ ShrSlice (named 1) κ′ u8 ∷ []) (ev, (s, tt))
+      (vE ev ∷ [], (vS ∷ [], tt))) ∷ [])) (sep 𝓤 (ByValue 𝓤 H A at-mem run .pre to-step) (sem 𝓤 H A Sl))
   goes-step g =
       qed W ((‵ (flft κ′ q′) ⊛ ‵ ftrue) ∷ ‵ (owns (E.the-row ∷ ShrSlice (named 1) κ′ u8 ∷ []) (ev, (s, tt)) (vE ev ∷ [], (vS ∷ [], tt))) ∷ []) ∵
       move ! (1 ∷ []) $ fsplit ! $ move ! (1 ∷ []) $ fsplit ! $ use1 W (‵ Sl ⊛ ‵ Sl) (shr-slice-copy 𝓤 H A W (named 1) κ′ u8 .twice s (vS ∷ [])) $ split ! $
       -- [the slice; the slice; true; the event; the tokens]
       move ! (0 ∷ 2 ∷ []) $ fjoin ! $ move ! (2 ∷ 0 ∷ []) $ fjoin ! $ owned ! T.the-row (Is T.the-row) (LL.makes T.the-type T′.the-plain 𝓤 H A) h _ (is-old g) $ fjoin ! $ move ! (2 ∷ 0 ∷ []) $
-      use2 W (raw (ByValue 𝓤 H A at-mem run .pre to-step)) (qed W ((‵ (flft κ′ q′) ⊛ ‵ ftrue) ∷ ‵ (owns (T.the-row ∷ E.the-row ∷ ShrSlice (named 0) κ′ u8 ∷ []) (h, (ev, (s, tt))) (old ∷ [], (vE ev ∷ [], (vS ∷ [], tt)))) ∷ []) ∵ join ! $ frame ! $ done !) $ frame ! $ done !
+      use2 W (raw (ByValue 𝓤 H A at-mem run .pre to-step)) (qed W ((‵ (flft κ′ q′) ⊛ ‵ ftrue) ∷ ‵ (owns (T.the-row ∷ E.the-row ∷ ShrSlice (named 0) κ′ u8 ∷ []) (
+        h,
+        (ev, (s, tt)),
+      ) (old ∷ [], (vE ev ∷ [], (vS ∷ [], tt)))) ∷ []) ∵ join ! $ frame ! $ done !) $ frame ! $ done !
 
   abbrev Said : Change → Type 0
   Said r = r ≡ changeOf h ev (now s)
@@ -181,10 +191,13 @@ module _ {M : Type 1} (𝓤 : URA M) (H : Heap 𝓤) (A : Atoms 𝓤) (W : Given
   result-none r e n₁ n₂ n₃ n₄ = stored-none-T h ev (now s) r e n₁ n₂ n₃ n₄
 
   exits : (r : Change) (k : ℕ) → Result r k → Is E.the-row ev (vE ev ∷ [])
-      → ent 𝓤 (⋆ 𝓤 H A (‵ (fobs γ (T.the-row .coded .code (last r k))) ∷ ‵ (fbor κ (Body (mem T.the-row) b o γ)) ∷ ‵ (flft κ q) ∷ ‵ (flft κ′ q′) ∷ ‵ Sl ∷ ‵ (O.the-row .own (r .outcome) (vO (r .outcome) ∷ [])) ∷ [])) (Post (vO (r .outcome)))
+      → ent 𝓤 (⋆ 𝓤 H A (‵ (fobs γ (T.the-row .coded .code (last r k))) ∷ ‵ (fbor κ (Body (mem T.the-row) b o γ)) ∷ ‵ (flft κ q) ∷ ‵ (flft κ′ q′) ∷ ‵ Sl ∷ ‵
+      (O.the-row .own (r .outcome) (vO (r .outcome) ∷ [])) ∷ [])) (Post (vO (r .outcome)))
   exits r k e is-event =
-      qed W (‵ (fobs γ (T.the-row .coded .code (last r k))) ∷ ‵ (fbor κ (Body (mem T.the-row) b o γ)) ∷ ‵ (flft κ q) ∷ ‵ (flft κ′ q′) ∷ ‵ Sl ∷ ‵ (O.the-row .own (r .outcome) (vO (r .outcome) ∷ [])) ∷ []) ∵
-      suffices ! _ (ends-at 𝓤 H A step-in.ended stayed (step-in.clauses 𝓤 H A at-mem run) W (((κ, (κ′, tt)), (q, (q′, tt)), tt, x, at), tt) (vO (r .outcome)) (r .outcome) (last r k, (tt, (tt, tt))) (tt, (tt, (tt, tt)))) $
+      qed W (‵ (fobs γ (T.the-row .coded .code (last r k))) ∷ ‵ (fbor κ (Body (mem T.the-row) b o γ)) ∷ ‵ (flft κ q) ∷ ‵ (flft κ′ q′) ∷ ‵ Sl ∷ ‵ (O.the-row .own
+      (r .outcome) (vO (r .outcome) ∷ [])) ∷ []) ∵
+      suffices ! _ (ends-at 𝓤 H A step-in.ended stayed (step-in.clauses 𝓤 H A at-mem run) W (((κ, (κ′, tt)), (q, (q′, tt)), tt, x, at), tt) (vO (r .outcome))
+      (r .outcome) (last r k, (tt, (tt, tt))) (tt, (tt, (tt, tt)))) $
       says ! (promised h ev (now s) (record { outcome = r .outcome; account = last r k }) e) $
       nothing ! $ move ! (4 ∷ 0 ∷ []) $ join ! $ move ! (3 ∷ 0 ∷ []) $ join ! $ frame ! $
       feqI ! (List Val) (vptr b o ∷ []) (vptr b o ∷ []) refl $ fjoin3 ! $
@@ -202,11 +215,32 @@ module _ {M : Type 1} (𝓤 : URA M) (H : Heap 𝓤) (A : Atoms 𝓤) (W : Given
 
   last-3 : (r : Change) → Is T.the-row h (vA h ∷ []) → Fine 𝓤 H A W r → Is T.the-row (last r 3) (accountVal (vT (r .status)) (vF (h .rate)) (vF (h .running)) (vF (r .charge)) (vF (h .efinal)) ∷ [])
   unfolding vA vT vF
-  last-3 r g f = LL.owes T.the-type T′.the-laws (last r 3) (f .0, (LL.owed T.the-type T′.the-laws h _ g .1 .0, (LL.owed T.the-type T′.the-laws h _ g .1 .1 .0, (f .1, LL.owed T.the-type T′.the-laws h _ g .1 .1 .1 .1))))
+  last-3 r g f = LL.owes T.the-type T′.the-laws (last r 3) (
+    f .0,
+    (
+      LL.owed T.the-type T′.the-laws h _ g .1 .0,
+      (
+        LL.owed T.the-type T′.the-laws h _ g .1 .1 .0,
+        (
+          f .1,
+          LL.owed T.the-type T′.the-laws h _ g .1 .1 .1 .1,
+        ),
+      ),
+    ),
+  )
 
   last-4 : (r : Change) → Is T.the-row h (vA h ∷ []) → Fine 𝓤 H A W r → Is T.the-row (last r 4) (accountVal (vT (r .status)) (vF (h .rate)) (vF (h .running)) (vF (h .dfinal)) (vF (r .charge)) ∷ [])
   unfolding vA vT vF
-  last-4 r g f = LL.owes T.the-type T′.the-laws (last r 4) (f .0, (LL.owed T.the-type T′.the-laws h _ g .1 .0, (LL.owed T.the-type T′.the-laws h _ g .1 .1 .0, (LL.owed T.the-type T′.the-laws h _ g .1 .1 .1 .0, (f .1, tt)))))
+  last-4 r g f = LL.owes T.the-type T′.the-laws (last r 4) (
+    f .0,
+    (
+      LL.owed T.the-type T′.the-laws h _ g .1 .0,
+      (
+        LL.owed T.the-type T′.the-laws h _ g .1 .1 .0,
+        (LL.owed T.the-type T′.the-laws h _ g .1 .1 .1 .0, (f .1, tt)),
+      ),
+    ),
+  )
 
   last-0 : (r : Change) → Is T.the-row h (vA h ∷ []) → Fine 𝓤 H A W r → Is T.the-row (last r 0) (accountVal (vT (r .status)) (vF (h .rate)) (vF (h .running)) (vF (h .dfinal)) (vF (h .efinal)) ∷ [])
   unfolding vA vT vF
@@ -217,7 +251,8 @@ module _ {M : Type 1} (𝓤 : URA M) (H : Heap 𝓤) (A : Atoms 𝓤) (W : Given
         → ent 𝓤 (onEntry 𝓤 H A step-in.signature (κ, (κ′, tt)) (q, (q′, tt)) x at) (WpFn 𝓤 H C Λ code.function (vptr b o ∷ vE ev ∷ vS ∷ []) Post)
     walk is-event is-slice =
         lent 𝓤 H A W C Λ fm S′.mir F′.mir E′.mir O′.mir (pointee (T.the-row .written)) account-name change-name #step·step T.the-row vA tellsA (LL.makes T.the-type T′.the-plain 𝓤 H A)
-        b o (W .laws .raw-at fullShare (accountTy S′.mir F′.mir account-name) b o) (W .laws .at-raw fullShare (accountTy S′.mir F′.mir account-name) b o) κ κ′ q q′ γ h (vT (h .status)) (vF (h .rate)) (vF (h .running)) (vF (h .dfinal)) (vF (h .efinal)) (parts h) (typed-account 𝓤 H A W h)
+        b o (W .laws .raw-at fullShare (accountTy S′.mir F′.mir account-name) b o) (W .laws .at-raw fullShare
+        (accountTy S′.mir F′.mir account-name) b o) κ κ′ q q′ γ h (vT (h .status)) (vF (h .rate)) (vF (h .running)) (vF (h .dfinal)) (vF (h .efinal)) (parts h) (typed-account 𝓤 H A W h)
         (vE ev) vS (LL.lawful E.the-type E′.the-laws 𝓤 H A W .typed ev _ is-event .0) (shr-slice-lawful 𝓤 H A W (named 1) κ′ u8 .typed s (vS ∷ []) is-slice .0)
         (feq (List Val) (vptr b o ∷ []) (vptr b o ∷ [])) (owns (E.the-row ∷ ShrSlice (named 1) κ′ u8 ∷ []) (ev, (s, tt)) (vE ev ∷ [], (vS ∷ [], tt))) Sl
         Change (λ r. vO (r .outcome)) (λ r. vT (r .status)) (λ r. vF (r .charge)) (λ r. r .place) (λ r v. N.the-row .own r (v ∷ [])) (λ r. O.the-row .own (r .outcome) (vO (r .outcome) ∷ []))
@@ -230,14 +265,17 @@ module _ {M : Type 1} (𝓤 : URA M) (H : Heap 𝓤) (A : Atoms 𝓤) (W : Given
       → Walks 𝓤 H A step-in.ended stayed (WpFn 𝓤 H C Λ code.function) (step-in.clauses 𝓤 H A at-mem run)
   step-in-walks C Λ fm known = walked 𝓤 H A step-in.ended stayed (step-in.clauses 𝓤 H A at-mem run) (WpFn 𝓤 H C Λ code.function)
       (λ κs. (ptr-vals, ((λ (d : Event). vE d ∷ []), (slice-vals, tt)))) (λ κs. (mut-tells (named 0) (κs .0) T.the-row, (tellsE, (shr-slice-tells (named 1) (κs .1 .0) u8, tt))))
-      (λ κs qs bounds a _ are. via 𝓤 _ (fst∗ 𝓤 _ (emp 𝓤)) (walk 𝓤 H A W at-mem run (κs .0) (κs .1 .0) (qs .0) (qs .1 .0) (a .0 .ptr .0) (a .0 .ptr .1) (a .0 .name) (a .0 .now) (a .1 .0) (a .1 .1 .0) C Λ fm known (are .1 .0) (are .1 .1 .0)))
+      (λ κs qs bounds a _ are. via 𝓤 _ (fst∗ 𝓤 _ (emp 𝓤)) (walk 𝓤 H A W at-mem run (κs .0) (κs .1 .0) (qs .0) (qs .1 .0) (a .0 .ptr .0) (a .0 .ptr .1) (a .0 .name)
+      (a .0 .now) (a .1 .0) (a .1 .1 .0) C Λ fm known (are .1 .0) (are .1 .1 .0)))
 
   goes : AllGo 𝓤 H A W 2 (step-in.signature .params) (step-in.ended .kept) stayed
   goes = (goes-ref 𝓤 H A W 2 0 tt (plain (λ _. T.the-row)), (goes-none 𝓤 H A W 2 (λ _. E.the-row) yes (λ κs x f. refl), (goes-none-slice 𝓤 H A W 2 (1 ∷ []) tt (plain (λ _. u8)) yes, tt)))
 
-step-in-meets : {M : Type 1} (𝓤 : URA M) (H : Heap 𝓤) (A : Atoms 𝓤) → Given 𝓤 H A → (at-mem : Memory → SProp 𝓤) (run : Routine → Fun 𝓤) (𝓣 : Tables 𝓤 H) → Triple 𝓤 (𝓣 .C #step·step) (ByValue 𝓤 H A at-mem run)
+step-in-meets : {M : Type 1} (𝓤 : URA M) (H : Heap 𝓤) (A : Atoms 𝓤) → Given 𝓤 H A → (at-mem : Memory → SProp 𝓤) (run : Routine → Fun 𝓤) (𝓣 : Tables 𝓤 H) → Triple 𝓤
+    (𝓣 .C #step·step) (ByValue 𝓤 H A at-mem run)
     → Meets 𝓤 H A step-in.signature (WpFn 𝓤 H (𝓣 .C) (𝓣 .Λ) code.function) (step-in.spec 𝓤 H A at-mem run)
-step-in-meets 𝓤 H A W at-mem run 𝓣 known = walk-meets 𝓤 H A step-in.ended stayed W (goes 𝓤 H A W at-mem run) (step-in.clauses 𝓤 H A at-mem run) (WpFn 𝓤 H (𝓣 .C) (𝓣 .Λ) code.function) (WpFn-mono 𝓤 H (W .laws) 𝓣 code.function)
+step-in-meets 𝓤 H A W at-mem run 𝓣 known = walk-meets 𝓤 H A step-in.ended stayed W (goes 𝓤 H A W at-mem run) (step-in.clauses 𝓤 H A at-mem run) (WpFn 𝓤 H (𝓣 .C)
+    (𝓣 .Λ) code.function) (WpFn-mono 𝓤 H (W .laws) 𝓣 code.function)
     (step-in-walks 𝓤 H A W at-mem run (𝓣 .C) (𝓣 .Λ) (fmOf 𝓤 H (W .laws) 𝓣) known)
 
 pub step-in-spec : {M : Type 1} → stated.statement M

@@ -18,7 +18,8 @@ use prog.Wp.{Heap, Calls, Loops, WpFn, Tables}
 use ghost.Atoms.{Atoms, sem}
 use contract.Monad.{Fun, fact}
 use contract.Running.{givenOf, tables, tablesOf}
-use types.Kit.{Given, Item, ‵, raw, some, later, _⊛_, ⋆, _$_, _∵_, !, qed, by, move, keep, drop, use1, use2, use3, split, join, fsplit, fjoin, fpick, fpack, pick, rewrite, suffices, frame, await, done}
+use types.Kit.{Given, Item, ‵, raw, some, later, _⊛_, ⋆, _$_, _∵_, !, qed, by, move, keep, drop, use1, use2, use3, split, join, fsplit, fjoin, fpick, fpack, pick, rewrite}
+use types.Kit.{suffices, frame, await, done}
 use types.Tokens.{lft-new, lft-end}
 use types.Run.{look, init, forget, stop, from, load, addr, of-opd, and-then, no-more, assigns, land, returns, enter, alloc1, alloc0, params1, pass1, pass0, free1, free0}
 use types.Part.{agg}
@@ -86,7 +87,8 @@ module _ {M : Type 1} (𝓤 : URA M) (H : Heap 𝓤) (A : Atoms 𝓤) (W : Given
   part-in : (d : Account) (l : ℕ) → ent 𝓤 (⋆ 𝓤 H A (‵ (fat fullShare T′.mir l 0 (vA d)) ∷ ‵ (T.the-row .own d (vA d ∷ [])) ∷ [])) (sem 𝓤 H A (partAt T.the-row fullShare d l 0))
   unfolding partOf
   part-in d l =
-      qed W (‵ (fat fullShare T′.mir l 0 (vA d)) ∷ ‵ (T.the-row .own d (vA d ∷ [])) ∷ []) ∵ use1 W (‵ (cellAt fullShare (T.the-row .mir) (vA d ∷ []) l 0)) (W .laws .at-raw fullShare T′.mir l 0 (vA d)) $
+      qed W (‵ (fat fullShare T′.mir l 0 (vA d)) ∷ ‵ (T.the-row .own d (vA d ∷ [])) ∷ []) ∵ use1 W (‵ (cellAt fullShare (T.the-row .mir) (vA d ∷ []) l 0))
+      (W .laws .at-raw fullShare T′.mir l 0 (vA d)) $
       fjoin ! $ fpack ! (List Val) (λ vs. fsep (cellAt fullShare (T.the-row .mir) vs l 0) (T.the-row .own d vs)) (vA d ∷ []) $ done !
 
   part-out : (d : Account) (l : ℕ) → ent 𝓤 (sem 𝓤 H A (partAt T.the-row fullShare d l 0)) (sep 𝓤 (sem 𝓤 H A (fat fullShare T′.mir l 0 (vA d))) (sem 𝓤 H A (T.the-row .own d (vA d ∷ []))))
@@ -101,7 +103,8 @@ module _ {M : Type 1} (𝓤 : URA M) (H : Heap 𝓤) (A : Atoms 𝓤) (W : Given
   typed-both : (r : Outcome) (d : Account) → Is O.the-row r (vO r ∷ []) → Is T.the-row d (vA d ∷ []) → Holds (hasTy D′.mir (both r d)) × WT (both r d)
   typed-both r d f g = LL.lawful D.the-type D′.the-laws 𝓤 H A W .typed (stepped r d) _ (is-both r d f g) .0
 
-module _ {M : Type 1} (𝓤 : URA M) (H : Heap 𝓤) (A : Atoms 𝓤) (W : Given 𝓤 H A) (at-mem : Memory → SProp 𝓤) (run : Routine → Fun 𝓤) (κ : Lft) (q : Share) (h : Account) (ev : Event) (s : RefT (List ℕ)) where
+module _ {M : Type 1} (𝓤 : URA M) (H : Heap 𝓤) (A : Atoms 𝓤) (W : Given 𝓤 H A) (at-mem : Memory → SProp 𝓤) (run : Routine → Fun 𝓤) (κ : Lft) (q : Share)
+    (h : Account) (ev : Event) (s : RefT (List ℕ)) where
   abbrev vS : Val
   vS = sliceVal (s .ptr) (length (s .now))
 
@@ -124,8 +127,10 @@ module _ {M : Type 1} (𝓤 : URA M) (H : Heap 𝓤) (A : Atoms 𝓤) (W : Given
   exits : (r : Outcome) (d : Account) → Kept r d → Is O.the-row r (vO r ∷ []) → Is T.the-row d (vA d ∷ []) → ent 𝓤 (⋆ 𝓤 H A (tokens ∷ [])) (Post (both r d))
   exits r d e f g =
       qed W (tokens ∷ []) ∵
-      suffices ! _ (ends-at 𝓤 H A own.ended stayed (own.clauses 𝓤 H A at-mem run) W (((κ, tt), (q, tt), tt, (h, (ev, (s, tt))), at), tt) (both r d) (stepped r d) (tt, (tt, (tt, tt))) (tt, (tt, (tt, tt)))) $
-      suffices ! _ (assoc∗ 𝓤 (onExit 𝓤 H A own.ended stayed (κ, tt) (q, tt) at (both r d) (stepped r d) (h, (ev, (s, tt))) (tt, (tt, (tt, tt)))) (fact 𝓤 (stepped r d ≡ steppedOf h ev (now s))) (fact 𝓤 (Rules r d))) $ says ! (e .1) $ says ! (e .0) $ frame ! $
+      suffices ! _ (ends-at 𝓤 H A own.ended stayed (own.clauses 𝓤 H A at-mem run) W (((κ, tt), (q, tt), tt, (h, (ev, (s, tt))), at), tt) (both r d) (stepped r d)
+      (tt, (tt, (tt, tt))) (tt, (tt, (tt, tt)))) $
+      suffices ! _ (assoc∗ 𝓤 (onExit 𝓤 H A own.ended stayed (κ, tt) (q, tt) at (both r d) (stepped r d) (h, (ev, (s, tt))) (tt, (tt, (tt, tt)))) (fact 𝓤
+      (stepped r d ≡ steppedOf h ev (now s))) (fact 𝓤 (Rules r d))) $ says ! (e .1) $ says ! (e .0) $ frame ! $
       owned ! D.the-row (Is D.the-row) (LL.makes D.the-type D′.the-plain 𝓤 H A) (stepped r d) _ (is-both r d f g) $
       nothing ! $ nothing ! $ fjoin ! $ nothing ! $ fjoin ! $ nothing ! $ fjoin ! $ done !
 
@@ -165,18 +170,23 @@ module _ {M : Type 1} (𝓤 : URA M) (H : Heap 𝓤) (A : Atoms 𝓤) (W : Given
         -- the account is lent for a new lifetime
         move ! (17 ∷ []) $ fsplit ! $ move ! (8 ∷ 0 ∷ []) $ use2 W (‵ (partAt T.the-row fullShare h l₄ 0)) (part-in 𝓤 H A W h l₄) $
         lft-new ! tt (λ α. move ! (1 ∷ []) $
-        use1 W (later (some (λ (δ : GName). ‵ (MutRef (named 0) (α ∷ []) T.the-row .own (ref α l₄ δ) (vptr l₄ 0 ∷ [])) ⊛ ‵ (flent (α ∷ []) (Body (mem T.the-row) l₄ 0 δ))))) (lends-ref 𝓤 H A W T.the-row (named 0) (α ∷ []) h l₄ 0) $
+        use1 W (later (some (λ (δ : GName). ‵ (MutRef (named 0) (α ∷ []) T.the-row .own (ref α l₄ δ) (vptr l₄ 0 ∷ [])) ⊛ ‵ (flent (α ∷ []) (Body
+        (mem T.the-row) l₄ 0 δ))))) (lends-ref 𝓤 H A W T.the-row (named 0) (α ∷ []) h l₄ 0) $
         await ! tt $ pick ! (λ δ. split ! $
         -- [the reference; the lender's part; the new token; what else was passed; _7; …; _6; …; _5; …; …; _3; …]
         move ! (0 ∷ 3 ∷ []) $ fjoin ! $ move ! (2 ∷ 18 ∷ []) $ join ! $ use2 W (raw (Callee 𝓤 H A at-mem run .pre (to-callee α l₄ δ))) (goes-in α l₄ δ) $
-        calls-at ! fm (Callee 𝓤 H A at-mem run) known (to-callee α l₄ δ) (and-then ! (load ! (from ! (stop !)) (look ! 4 refl)) (and-then ! (load ! (from ! (stop !)) (look ! 11 refl)) (and-then ! (load ! (from ! (stop !)) (look ! 9 refl)) (no-more !)))) (λ v.
-        use1 W (later (some (λ (r : Outcome). (lent α l₄ δ ⊛ ‵ (O.the-row .own r (v ∷ []))) ⊛ some (λ (ws : Lasts callee.ended (α ∷ [], (κ, tt)) (x α l₄ δ)). came-back α l₄ δ r ws)))) (id⊢ 𝓤 _) $ await ! tt $ pick ! (λ r.
+        calls-at ! fm (Callee 𝓤 H A at-mem run) known (to-callee α l₄ δ) (and-then ! (load ! (from ! (stop !)) (look ! 4 refl)) (and-then ! (load ! (from ! (stop !))
+        (look ! 11 refl)) (and-then ! (load ! (from ! (stop !)) (look ! 9 refl)) (no-more !)))) (λ v.
+        use1 W (later (some (λ (r : Outcome). (lent α l₄ δ ⊛ ‵ (O.the-row .own r (v ∷ []))) ⊛ some (λ (ws : Lasts callee.ended (α ∷ [], (κ, tt))
+        (x α l₄ δ)). came-back α l₄ δ r ws)))) (id⊢ 𝓤 _) $ await ! tt $ pick ! (λ r.
         split ! $ move ! (1 ∷ []) $ pick ! (λ ws. move ! (1 ∷ []) $ split ! $ move ! (1 ∷ []) $ peeks ! O.the-row (Is O.the-row) (shows 𝓤 H A O.the-row) r (v ∷ []) (λ is.
         -- [what the outcome owns; the tokens; what came back; the lender's part; _7; …; _6; …; _5; …; …; _3; …]
-        land ! (from ! (stop !)) (init ! 8 refl (LL.lawful O.the-type O′.the-laws 𝓤 H A W .typed r _ is .0)) $ rewrite ! 8 (λ (u : Val). ‵ (fat fullShare O′.mir l₅ 0 u)) (ap only (tellsO r _ is)) refl $
+        land ! (from ! (stop !)) (init ! 8 refl (LL.lawful O.the-type O′.the-laws 𝓤 H A W .typed r _ is .0)) $ rewrite ! 8 (λ (u : Val). ‵
+        (fat fullShare O′.mir l₅ 0 u)) (ap only (tellsO r _ is)) refl $
         drop ! $ move ! (1 ∷ []) $ split ! $ fsplit ! $ move ! (1 ∷ []) $ drop ! $ move ! (1 ∷ []) $ use1 W (raw (fact 𝓤 (Kept r (ws .0)))) (id⊢ 𝓤 _) $ heard ! (Kept r (ws .0)) (λ e.
         -- [the last account is said; the tokens; the lender's part; _7; …]: the lifetime is over, and the account is taken back
-        move ! (1 ∷ []) $ split ! $ lft-end ! tt $ move ! (0 ∷ 3 ∷ 2 ∷ []) $ use3 W (later (‵ (partAt T.the-row fullShare (ws .0) l₄ 0))) (ref-back 𝓤 H A W T.the-row (α ∷ []) δ (ws .0) l₄ 0) $ await ! tt $
+        move ! (1 ∷ []) $ split ! $ lft-end ! tt $ move ! (0 ∷ 3 ∷ 2 ∷ []) $ use3 W (later (‵ (partAt T.the-row fullShare (ws .0) l₄ 0))) (ref-back 𝓤 H A W T.the-row
+        (α ∷ []) δ (ws .0) l₄ 0) $ await ! tt $
         use1 W (‵ (fat fullShare T′.mir l₄ 0 (vA (ws .0))) ⊛ ‵ (T.the-row .own (ws .0) (vA (ws .0) ∷ []))) (part-out 𝓤 H A W (ws .0) l₄) $ split ! $
         move ! (1 ∷ []) $ peeks ! T.the-row (Is T.the-row) (shows 𝓤 H A T.the-row) (ws .0) (vA (ws .0) ∷ []) (λ is-last. drop ! $
         -- [_4; the tokens; _7; …; _6; …; _5; …; …; _3; …; _2; …; _1; …; room for _0; …]
@@ -189,13 +199,20 @@ module _ {M : Type 1} (𝓤 : URA M) (H : Heap 𝓤) (A : Atoms 𝓤) (W : Given
         keep ! (0 ∷ []) $ by ! (exits r (ws .0) e (subst (λ (u : Val). Is O.the-row r (u ∷ [])) (ap only (tellsO r _ is)) is) is-last)))))))))))))))))
 
 module _ {M : Type 1} (𝓤 : URA M) (H : Heap 𝓤) (A : Atoms 𝓤) (W : Given 𝓤 H A) (at-mem : Memory → SProp 𝓤) (run : Routine → Fun 𝓤) where
-  walks : (C : Calls 𝓤 H) (Λ : Loops 𝓤 H) → FmC 𝓤 H (W .laws) C → Triple 𝓤 (C #step·step-in) (Callee 𝓤 H A at-mem run) → Walks 𝓤 H A own.ended stayed (WpFn 𝓤 H C Λ code.function) (own.clauses 𝓤 H A at-mem run)
+  walks : (C : Calls 𝓤 H) (Λ : Loops 𝓤 H) → FmC 𝓤 H (W .laws) C → Triple 𝓤 (C #step·step-in) (Callee 𝓤 H A at-mem run) → Walks 𝓤 H A own.ended stayed
+      (WpFn 𝓤 H C Λ code.function) (own.clauses 𝓤 H A at-mem run)
   walks C Λ fm known = walked 𝓤 H A own.ended stayed (own.clauses 𝓤 H A at-mem run) (WpFn 𝓤 H C Λ code.function)
       (λ κs. ((λ (d : Account). vA d ∷ []), ((λ (d : Event). vE d ∷ []), (slice-vals, tt)))) (λ κs. (tellsA, (tellsE, (shr-slice-tells (named 0) (κs .0) u8, tt))))
       (λ κs qs bounds a _ are. via 𝓤 _ (fst∗ 𝓤 _ (emp 𝓤)) (walk 𝓤 H A W at-mem run (κs .0) (qs .0) (a .0) (a .1 .0) (a .1 .1 .0) C Λ fm known (are .0) (are .1 .0) (are .1 .1 .0)))
 
   goes : AllGo 𝓤 H A W 1 (own.signature .params) (own.ended .kept) stayed
-  goes = (goes-dropped 𝓤 H A W 1 (plain (λ _. T.the-row)) yes (λ κs x f. refl), (goes-dropped 𝓤 H A W 1 (plain (λ _. E.the-row)) yes (λ κs x f. refl), (goes-dropped 𝓤 H A W 1 (shrSliceOf (0 ∷ []) tt (plain (λ _. u8))) yes (λ κs x f. refl), tt)))
+  goes = (
+    goes-dropped 𝓤 H A W 1 (plain (λ _. T.the-row)) yes (λ κs x f. refl),
+    (
+      goes-dropped 𝓤 H A W 1 (plain (λ _. E.the-row)) yes (λ κs x f. refl),
+      (goes-dropped 𝓤 H A W 1 (shrSliceOf (0 ∷ []) tt (plain (λ _. u8))) yes (λ κs x f. refl), tt),
+    ),
+  )
 
   meets : (𝓣 : Tables 𝓤 H) → Triple 𝓤 (𝓣 .C #step·step-in) (Callee 𝓤 H A at-mem run) → Meets 𝓤 H A own.signature (WpFn 𝓤 H (𝓣 .C) (𝓣 .Λ) code.function) (own.spec 𝓤 H A at-mem run)
   meets 𝓣 known = walk-meets 𝓤 H A own.ended stayed W goes (own.clauses 𝓤 H A at-mem run) (WpFn 𝓤 H (𝓣 .C) (𝓣 .Λ) code.function) (WpFn-mono 𝓤 H (W .laws) 𝓣 code.function)

@@ -13,13 +13,19 @@ put-one-requires : tie.Need-put-one-requires
 put-one-requires c κs = let a = c .before .before .before .args in omega (arith, ap length (id-low (a .tag) (a .id) (omega arith)))
 
 returns : tie.Need-returns
-returns c = let a = c .before .before .before .before .before .before .args in wrote-as (sym (id-low (a .tag) (a .id) (omega arith))) (c .before .before .put-one .ensures)
+returns c =
+    let c3 = c .before .before .before in let c6 = c3 .before .before .before in
+    let a = c6 .args in wrote-as (sym (id-low (a .tag) (a .id) (omega arith))) (c .before .before .put-one .ensures)
 
 put-one-requires-2 : tie.Need-put-one-requires-2
-put-one-requires-2 c κs = let a = c .before .before .before .before .args in omega (arith, ap length (id-high (a .tag) (a .id) (omega arith) (omega arith)))
+put-one-requires-2 c κs =
+    let c3 = c .before .before .before in
+    let a = c3 .before .args in omega (arith, ap length (id-high (a .tag) (a .id) (omega arith) (omega arith)))
 
 returns-2 : tie.Need-returns-2
-returns-2 c = let a = c .before .before .before .before .before .before .before .args in wrote-as (sym (id-high (a .tag) (a .id) (omega arith) (omega arith))) (c .before .before .put-one2 .ensures)
+returns-2 c =
+    let c3 = c .before .before .before in let c6 = c3 .before .before .before in
+    let a = c6 .before .args in wrote-as (sym (id-high (a .tag) (a .id) (omega arith) (omega arith))) (c .before .before .put-one2 .ensures)
 
 slice-write-buf : tie.Need-slice-write-buf
 slice-write-buf c = let a = c .before .before .before .args in omega (arith, ap length (id-two (a .tag) (a .id) (omega arith) (omega arith)))
@@ -39,4 +45,5 @@ returns-3 c = let a = c .before .before .before .args in wrote-as (sym (id-two (
 pub put-id-spec : {M : Type 1} → statement M
 put-id-spec =
     tie.close
-    (tie.spec (search needs) put-one-requires (search needs) returns (search needs) put-one-requires-2 (search needs) returns-2 slice-write-buf (search needs) slice-write-buf-2 (search needs) (search needs) slice-write-buf-3 (search needs) (search needs) slice-write-buf-4 (search needs) (search needs) returns-3)
+    (tie.spec (search needs) put-one-requires (search needs) returns (search needs) put-one-requires-2 (search needs) returns-2 slice-write-buf
+    (search needs) slice-write-buf-2 (search needs) (search needs) slice-write-buf-3 (search needs) (search needs) slice-write-buf-4 (search needs) (search needs) returns-3)

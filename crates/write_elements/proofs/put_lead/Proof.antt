@@ -29,4 +29,5 @@ returns-2 c = wrote-as (sym (lead-long (c .before .args .tag) (c .before .args .
 pub put-lead-spec : {M : Type 1} → statement M
 put-lead-spec =
     tie.close
-    (tie.spec slice-write-buf (search needs) (search needs) slice-write-buf-2 (search needs) (search needs) returns (search needs) slice-write-buf-3 (search needs) (search needs) slice-write-buf-4 (search needs) (search needs) returns-2)
+    (tie.spec slice-write-buf (search needs) (search needs) slice-write-buf-2 (search needs) (search needs) returns (search needs) slice-write-buf-3 (search needs)
+    (search needs) slice-write-buf-4 (search needs) (search needs) returns-2)

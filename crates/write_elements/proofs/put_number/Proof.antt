@@ -14,16 +14,18 @@ put-lead-requires c κs =
 
 put-digits-requires : tie.Need-put-digits-requires
 put-digits-requires c κs =
-    let n = c .before .before .before .before .before .before .before .args .n in
-    let tag = c .before .before .before .before .before .before .before .args .tag in
-    let w = c .before .before .before .before .before .width-of in
-    let p = c .before .before .before .put-lead in
+    let c3 = c .before .before .before in let c6 = c3 .before .before .before in
+    let n = c6 .before .args .n in
+    let tag = c6 .before .args .tag in
+    let w = c3 .before .before .width-of in
+    let p = c3 .put-lead in
     omega (arith, width-range n, number-length tag n, w .ensures, p .ensures .place, lead-length-short tag (w .result) (omega (arith, width-range n, w .ensures)))
 
 returns : tie.Need-returns
 returns c =
-    let s = c .before .before .before .before .before .before .before .before in
-    wrote-number _ _ _ (s .width-of .ensures) (c .before .before .before .before .before .before .put-lead .ensures) (c .before .before .put-digits .ensures)
+    let c3 = c .before .before .before in let c6 = c3 .before .before .before in
+    let s = c6 .before .before in
+    wrote-number _ _ _ (s .width-of .ensures) (c6 .put-lead .ensures) (c .before .before .put-digits .ensures)
 
 pub put-number-spec : {M : Type 1} → statement M
 put-number-spec =
