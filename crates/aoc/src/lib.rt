@@ -10,9 +10,9 @@ ghost use lib.Dec.{eqb};
 ghost use mir.Syntax.{w16};
 ghost use mir.Val.{toZ};
 ghost use Rattle.types.specs.Frames.{readOf};
-ghost use Rattle.component.specs.Whole.{wholeAnswer};
-ghost use Rattle.writer.specs.Handed.{handed};
-ghost use Rattle.writer.specs.Outcome.{writeOf, leftOf};
+ghost use Rattle.read.specs.Whole.{wholeAnswer};
+ghost use Rattle.write.specs.Handed.{handed};
+ghost use Rattle.write.specs.Outcome.{writeOf, leftOf};
 ghost use Rattle.reply.specs.Reply.{replyOf, replyLeft};
 ghost use Rattle.pass.specs.Pass.{passOf, wholeNext};
 ghost use Rattle.values.specs.Amounts.{powers};
@@ -39,31 +39,31 @@ pub extern "C" fn aoc_read_into(
     figure: &mut [u8; 48],
     numbers: &mut [u32; 32],
     rows: &mut [u8; 192],
-) -> component::Refusal
+) -> read::Refusal
     ensures { λ r. ⌜ wholeAnswer r (now (front .exit)) (now (figure .exit)) (now (numbers .exit)) (now (rows .exit)) ≡ readOf (now (octets .entry)) ⌝ }
 {
-    component::read_into(octets, front, figure, numbers, rows)
+    read::read_into(octets, front, figure, numbers, rows)
 }
 
 #[no_mangle]
 pub extern "C" fn aoc_write_from(
-    f: fronts::Front,
-    o: put_figures::Outline,
+    f: write_heads::Front,
+    o: write_figures::Outline,
     number: u32,
     currency: &[u8; 10],
     digits: &[u8; 20],
     numbers: &[u32; 32],
     rows: &[u8; 192],
     buf: &mut [u8],
-) -> writer::Written
+) -> write::Written
     ensures { λ w. ⌜ w ≡ writeOf (handed f o number (now (currency .entry)) (now (digits .entry)) (now (numbers .entry)) (now (rows .entry))) (length (now (buf .entry))) ⌝ }
     ensures left { λ w. ⌜ now (buf .exit) ≡ leftOf (handed f o number (now (currency .entry)) (now (digits .entry)) (now (numbers .entry)) (now (rows .entry))) (now (buf .entry)) ⌝ }
 {
-    writer::write_from(f, o, number, currency, digits, numbers, rows, buf)
+    write::write_from(f, o, number, currency, digits, numbers, rows, buf)
 }
 
 #[no_mangle]
-pub extern "C" fn aoc_reply(octets: &[u8], buf: &mut [u8]) -> writer::Written
+pub extern "C" fn aoc_reply(octets: &[u8], buf: &mut [u8]) -> write::Written
     ensures { λ r. ⌜ r ≡ replyOf (now (octets .entry)) (length (now (buf .entry))) ⌝ }
     ensures left { λ r. ⌜ now (buf .exit) ≡ replyLeft (now (octets .entry)) (now (buf .entry)) ⌝ }
 {

@@ -10,12 +10,12 @@ use Rattle.types.specs.declared.Record.{Record}
 use Rattle.types.specs.declared.Charge.{Charge}
 use Rattle.types.specs.Arguments.{chargeOf}
 use Rattle.types.specs.Frames.{component, carries}
-use Rattle.fronts.specs.Fronts.{frontFine, frontBy}
-use Rattle.put_figures.proofs.Truth.{operations}
-use Rattle.writer.specs.declared.Written.{Written}
-use Rattle.writer.specs.Outcome.{done, no, writeOf}
-use Rattle.writer.specs.Parts.{fineOf}
-use Rattle.writer.proofs.Valid.{valid-parts}
+use Rattle.write_heads.specs.Fronts.{frontFine, frontBy}
+use Rattle.write_figures.proofs.Truth.{operations}
+use Rattle.write.specs.declared.Written.{Written}
+use Rattle.write.specs.Outcome.{done, no, writeOf}
+use Rattle.write.specs.Parts.{fineOf}
+use Rattle.write.proofs.Valid.{valid-parts}
 
 -- 10 is the refusal of a record that is not valid, and of no other
 refused-10 : (r : Record) (room : ℕ) → not (eqb (writeOf r room .number) 10) ≡ component .valid r

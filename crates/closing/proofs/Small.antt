@@ -9,11 +9,11 @@ use Rattle.types.specs.declared.Money.{Money}
 use Rattle.types.specs.declared.Charge.{Charge}
 use Rattle.types.specs.Charges.{noMoney, money}
 use Rattle.types.specs.Arguments.{sameMoney, isKind, chargeOf}
-use Rattle.put_figures.specs.Fine.{marksFine, moneyFine, associationFine, figureFine, entriesFine}
-use Rattle.put_figures.proofs.Truth.{truth}
-use Rattle.put_figures.proofs.Tests.{no-money-is}
-use Rattle.put_figures.proofs.Sizes.{money-room}
-use Rattle.put_figures.proofs.Valid.{charge-fine}
+use Rattle.write_figures.specs.Fine.{marksFine, moneyFine, associationFine, figureFine, entriesFine}
+use Rattle.write_figures.proofs.Truth.{truth}
+use Rattle.write_figures.proofs.Tests.{no-money-is}
+use Rattle.write_figures.proofs.Sizes.{money-room}
+use Rattle.write_figures.proofs.Valid.{charge-fine}
 use Rattle.closing.specs.Range.{closingService, operationOf, inRange}
 
 -- an argument of 33 to 36

@@ -47,7 +47,7 @@ fn argument_fine(c: Charge, operation: u8) -> bool
         charge: c,
     };
     let mut none: [u8; 0] = [];
-    let w = writer::write(invoke, &mut none);
+    let w = write::write(invoke, &mut none);
     w.number != 10
 }
 

@@ -13,8 +13,8 @@ use Rattle.coding.proofs.Laws.{Octets}
 use Rattle.types.specs.declared.Answer.{Answer}
 use Rattle.types.specs.Frames.{component, readOf, accepted}
 use Rattle.types.proofs.Theorems.{refusal, no-offset, read-fits}
-use Rattle.writer.specs.declared.Written.{Written}
-use Rattle.writer.specs.Outcome.{writeOf, leftOf, done}
+use Rattle.write.specs.declared.Written.{Written}
+use Rattle.write.specs.Outcome.{writeOf, leftOf, done}
 use Rattle.lines.specs.Text.{hexText, refusedText}
 use Rattle.lines.specs.Lines.{textFor}
 

@@ -27,14 +27,14 @@ fn answer_to(octets: &[u8], out: &mut [u8; 65536], from: usize) -> usize
     ensures { λ r. ⌜ Wrote (now (out .entry)) (now (out .exit)) from (textFor (now (octets .entry))) r ⌝ }
     ensures { λ r. ⌜ r ≤ from + 762 ⌝ }
 {
-    let a = component::read(octets);
+    let a = read::read(octets);
     let number = a.number;
     if number != 0 {
         return output::put_refused(number, out, from);
     }
     let value = a.value;
     let mut form = [0u8; 254];
-    let w = writer::write(value, &mut form);
+    let w = write::write(value, &mut form);
     let refusal = w.number;
     if refusal != 0 {
         return output::put_refused(refusal, out, from);

@@ -8,7 +8,7 @@ use borrow.Author.Tests.{eqb-true}
 use Rattle.types.specs.declared.Charge.{Charge}
 use Rattle.types.specs.Frames.{readOf}
 use Rattle.values.specs.Sets.{has}
-use Rattle.same.specs.Same.{sameOf}
+use Rattle.same_final.specs.Same.{sameOf}
 use Rattle.phases.specs.declared.Event.{Event}
 use Rattle.phases.specs.declared.Outcome.{Outcome}
 use Rattle.phases.specs.Phases.{Idle, Ended, Suspended, Setup, Component, S, outcome, noService, clashes, allowed}

@@ -9,8 +9,8 @@ use native.Mathlib.Omega.{arith}
 use borrow.Author.Tests.{not-true, not-false, leb-true, le-leb, lt-leb}
 use Rattle.types.specs.Frames.{readOf}
 use Rattle.types.proofs.Theorems.{refusal}
-use Rattle.same.specs.Same.{each}
-use Rattle.same.proofs.Each.{each-fails}
+use Rattle.same_final.specs.Same.{each}
+use Rattle.same_final.proofs.Each.{each-fails}
 use Rattle.outcomes.specs.Outcome.{among, refusals, isRefusal}
 use Rattle.phases.proofs.Choice.{by-test, by-number, never, first-of, second-of}
 

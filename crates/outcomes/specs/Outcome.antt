@@ -9,7 +9,7 @@ use Rattle.types.specs.declared.Answer.{Answer}
 use Rattle.types.specs.Frames.{readOf}
 use Rattle.values.specs.declared.Services.{Services}
 use Rattle.values.specs.Sets.{has}
-use Rattle.same.specs.Same.{sameOf}
+use Rattle.same_final.specs.Same.{sameOf}
 use Rattle.phases.specs.declared.Event.{Event}
 use Rattle.phases.specs.declared.Outcome.{Outcome}
 use Rattle.phases.specs.Phases.{Establishment, Active, Clearing, Suspended, Setup, Component, allowed, S, D, E, outcome, noService, clashes}

@@ -270,7 +270,7 @@ pub fn final_outcome(
         numbers: *numbers,
         octets: *rows,
     };
-    if same::same(first, Charge { figure, entries }) {
+    if same_final::same(first, Charge { figure, entries }) {
         return Outcome {
             number: 28,
             service,

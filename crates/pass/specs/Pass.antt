@@ -10,7 +10,7 @@ use Rattle.types.specs.declared.Answer.{Answer}
 use Rattle.types.specs.Frames.{accepted, refused, noRecord, readOf}
 use Rattle.facility.specs.Element.{elementOf}
 use Rattle.facility.specs.Parts.{startsOf, firstOr}
-use Rattle.component.specs.Whole.{wholeAnswer}
+use Rattle.read.specs.Whole.{wholeAnswer}
 use Rattle.pass.specs.declared.Next.{Next}
 
 -- What a place of an element gives: a component's answer and the place after it; at the end the mark, and nothing else; else a refusal.

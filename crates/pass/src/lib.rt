@@ -11,7 +11,7 @@ ghost use Rattle.pass.specs.Places.{afterIn, emptyAt};
 pub struct Next {
     pub after: usize,
     pub ended: usize,
-    pub answer: component::Refusal,
+    pub answer: read::Refusal,
 }
 
 fn wide(x: u8) -> usize
@@ -46,7 +46,7 @@ fn without(ended: usize, number: u32) -> Next
     Next {
         after: 0,
         ended,
-        answer: component::Refusal { number, offset: 0 },
+        answer: read::Refusal { number, offset: 0 },
     }
 }
 
@@ -106,7 +106,7 @@ pub fn next_into(
         *rows = [0; 192];
         return without(f.ended, f.number);
     }
-    let answer = component::read_into(&octets[place..after], front, figure, numbers, rows);
+    let answer = read::read_into(&octets[place..after], front, figure, numbers, rows);
     Next {
         after,
         ended: 0,

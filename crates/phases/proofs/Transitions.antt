@@ -7,8 +7,8 @@ use lib.Dec.{eqb, leb}
 use lib.ListN.{getD}
 use native.Mathlib.Omega.{arith}
 use borrow.Author.Tests.{eqb-true, leb-true}
-use Rattle.same.specs.Same.{each}
-use Rattle.same.proofs.Each.{each-fails}
+use Rattle.same_final.specs.Same.{each}
+use Rattle.same_final.proofs.Each.{each-fails}
 use Rattle.phases.specs.Phases.{Idle, Ended, Setup, Released, Component, Transition, goes, transitions, isFor, allowedBy, leadsBy, allowed, leadsTo}
 use Rattle.phases.specs.Parts.{nextPhase}
 use Rattle.phases.proofs.Choice.{by-test, first-of, second-of, implied, never}

@@ -12,7 +12,7 @@ use lib.Ieee.Back.{round-whole, unsigned-back}
 use lib.Ieee.Scale.{round-same}
 use Rattle.types.specs.declared.Charge.{Charge}
 use Rattle.values.proofs.Bounded.{bounded}
-use Rattle.same.specs.Same.{thousandths}
+use Rattle.same_final.specs.Same.{thousandths}
 use Rattle.closing.specs.Range.{inRange}
 use Rattle.closing.proofs.Small.{small}
 use Rattle.price.specs.Price.{asDouble, quotientOf}

@@ -21,7 +21,7 @@ use Rattle.coding.proofs.Frames.{any-got}
 use Rattle.types.specs.declared.Record.{Record}
 use Rattle.types.specs.Frames.{outside, numberOf, rejects, callerOf, invoke, returnResult, returnError, reject, frame, component, answered, readWhole, readOf}
 use Rattle.types.proofs.Places.{Plain, Ends, Lengths, pick, length-ends, prim-placed, identifier-blames}
-use Rattle.heads.proofs.Entered.{tags}
+use Rattle.read_heads.proofs.Entered.{tags}
 use Rattle.reply.specs.Reply.{firstOf, identifierRead, valueOr0, identifierOf, isSilent, isNamed, replyBy, replyTo}
 
 -- ---- the faults before the identifier give no number whose reply names the component

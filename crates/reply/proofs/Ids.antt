@@ -17,9 +17,9 @@ use Rattle.coding.proofs.Basic.{picked}
 use Rattle.coding.proofs.Header.{tagged-yes}
 use Rattle.coding.proofs.Frames.{any-lacks, any-strange, any-told, any-over, any-enters}
 use Rattle.types.specs.Frames.{outside}
-use Rattle.heads.specs.Heads.{outsideCode}
-use Rattle.heads.proofs.Codes.{outside-code}
-use Rattle.heads.proofs.Entered.{tags}
+use Rattle.read_heads.specs.Heads.{outsideCode}
+use Rattle.read_heads.proofs.Codes.{outside-code}
+use Rattle.read_heads.proofs.Entered.{tags}
 use Rattle.reply.specs.Reply.{valueOr0, identifierOf}
 
 pub no-first : (s : List ℕ) → length s ≡ 0 → 0 ≡ getD s 0 0

@@ -27,12 +27,12 @@ use Rattle.types.specs.Arguments.{noCharge}
 use Rattle.types.specs.Frames.{component, outside, rejects, readOf, accepted}
 use Rattle.types.proofs.ArgumentLaws.{chargeEqual}
 use Rattle.types.proofs.Theorems.{reads-back}
-use Rattle.fronts.specs.Fronts.{frontFine, frontOctets, idOctets, problemFine}
-use Rattle.writer.specs.Parts.{frontOf, bodyOf}
-use Rattle.writer.proofs.Valid.{valid-parts}
-use Rattle.writer.proofs.Octets.{write-parts}
-use Rattle.writer.specs.Outcome.{done, no, writeOf}
-use Rattle.heads.proofs.Entered.{tags, entered-ends}
+use Rattle.write_heads.specs.Fronts.{frontFine, frontOctets, idOctets, problemFine}
+use Rattle.write.specs.Parts.{frontOf, bodyOf}
+use Rattle.write.proofs.Valid.{valid-parts}
+use Rattle.write.proofs.Octets.{write-parts}
+use Rattle.write.specs.Outcome.{done, no, writeOf}
+use Rattle.read_heads.proofs.Entered.{tags, entered-ends}
 use Rattle.reply.specs.Reply.{valueOr0, identifierOf, firstOf, isSilent, replyBy, replyTo, replyOf}
 
 -- a reject of a problem that there is, to NULL or to an identifier

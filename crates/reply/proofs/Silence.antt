@@ -9,8 +9,8 @@ use lib.Dec.{eqb}
 use borrow.Author.Tests.{eq-eqb, ne-eqb}
 use Rattle.types.specs.declared.Record.{Record}
 use Rattle.types.specs.Frames.{readOf}
-use Rattle.writer.specs.declared.Written.{Written}
-use Rattle.writer.specs.Outcome.{done, writeOf, leftOf}
+use Rattle.write.specs.declared.Written.{Written}
+use Rattle.write.specs.Outcome.{done, writeOf, leftOf}
 use Rattle.reply.specs.Reply.{firstOf, identifierOf, isSilent, replyBy, replyTo, replyOf, replyLeft}
 
 module _ (s : List ℕ) where

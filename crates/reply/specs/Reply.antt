@@ -12,8 +12,8 @@ use Rattle.coding.specs.Codec.{prim, oneOf}
 use Rattle.coding.specs.Leaves.{identifier}
 use Rattle.types.specs.declared.Record.{Record}
 use Rattle.types.specs.Frames.{outside, rejects, readOf}
-use Rattle.writer.specs.declared.Written.{Written}
-use Rattle.writer.specs.Outcome.{done, writeOf, leftOf}
+use Rattle.write.specs.declared.Written.{Written}
+use Rattle.write.specs.Outcome.{done, writeOf, leftOf}
 
 -- the first octet, or 0 where there is none
 abbrev pub firstOf : List ℕ → ℕ

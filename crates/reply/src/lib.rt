@@ -15,7 +15,7 @@ fn first_of(octets: &[u8]) -> u8
 }
 
 // The identifier of a component whose contents can be entered; 0 where none can be read.
-// It opens the component by itself: `heads::enter` stays with one caller, and is compiled into it.
+// It opens the component by itself: `read_heads::enter` stays with one caller, and is compiled into it.
 fn identifier_of(octets: &[u8]) -> u16
     ensures { λ r. ⌜ r ≡ identifierOf (now (octets .entry)) ⌝ }
 {
@@ -100,7 +100,7 @@ fn reject_for(number: u32, first: u8, id: u16) -> types::Record
 }
 
 // Writes the reject that a component's refusal calls for into a lent buffer; where none is due, 0 octets.
-pub fn reply(octets: &[u8], buf: &mut [u8]) -> writer::Written
+pub fn reply(octets: &[u8], buf: &mut [u8]) -> write::Written
     ensures { λ r. ⌜ r ≡ replyOf (now (octets .entry)) (length (now (buf .entry))) ⌝ }
     ensures left { λ r. ⌜ now (buf .exit) ≡ replyLeft (now (octets .entry)) (now (buf .entry)) ⌝ }
 {
@@ -108,7 +108,7 @@ pub fn reply(octets: &[u8], buf: &mut [u8]) -> writer::Written
     let mut figure: [u8; 48] = [0; 48];
     let mut numbers: [u32; 32] = [0; 32];
     let mut rows: [u8; 192] = [0; 192];
-    let a = component::read_into(octets, &mut front, &mut figure, &mut numbers, &mut rows);
+    let a = read::read_into(octets, &mut front, &mut figure, &mut numbers, &mut rows);
     let number = a.number;
     if number == 0 {
         return nothing();
@@ -118,13 +118,13 @@ pub fn reply(octets: &[u8], buf: &mut [u8]) -> writer::Written
         return nothing();
     }
     let r = reject_for(number, first, identifier_of(octets));
-    writer::write(r, buf)
+    write::write(r, buf)
 }
 
-fn nothing() -> writer::Written
+fn nothing() -> write::Written
     ensures { λ r. ⌜ r ≡ record { number = 0; count = 0 } ⌝ }
 {
-    writer::Written {
+    write::Written {
         number: 0,
         count: 0,
     }

@@ -72,7 +72,7 @@ fn taken(a: Account, octets: &[u8]) -> Change
     let mut stored: [u8; 48] = [0; 48];
     let mut numbers: [u32; 32] = [0; 32];
     let mut rows: [u8; 192] = [0; 192];
-    let answer = component::read_into(octets, &mut front, &mut stored, &mut numbers, &mut rows);
+    let answer = read::read_into(octets, &mut front, &mut stored, &mut numbers, &mut rows);
     let t = a.status;
     if answer.number != 0 {
         return plain(answer.number as u8, t);

@@ -52,7 +52,7 @@ fn within(low: u8, n: u8, high: u8) -> bool
 fn is_figure(octets: &[u8]) -> bool
     ensures { λ r. ⌜ r ≡ isFigure (readOf (now (octets .entry)) .value) ⌝ }
 {
-    let a = component::read(octets);
+    let a = read::read(octets);
     if a.value.frame != 1 {
         return false;
     }

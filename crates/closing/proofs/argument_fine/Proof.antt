@@ -2,7 +2,7 @@ use mathlib.Core.Path.{ap, _∙_}
 use mathlib.Core.Bool.{not}
 use borrow.Author.Needs.{needs}
 use lib.Dec.{eqb}
-use Rattle.writer.specs.declared.Written.{Written}
+use Rattle.write.specs.declared.Written.{Written}
 use Rattle.closing.proofs.Asked.{asked}
 use Rattle.closing.proofs.argument_fine.Statement.{statement}
 use Rattle.closing.proofs.argument_fine.Tie as tie

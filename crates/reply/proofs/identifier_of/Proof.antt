@@ -1,7 +1,7 @@
 -- `reply::identifier_of` meets its contract, at each test that stops it and where the identifier is read.
 use borrow.Author.Needs.{needs}
 use native.Mathlib.Omega.{arith}
-use Rattle.heads.proofs.Entered.{tag-below, tag-above, tag-among}
+use Rattle.read_heads.proofs.Entered.{tag-below, tag-above, tag-among}
 use Rattle.reply.proofs.Ids.{id-empty, id-strange, id-shut, id-over, id-found}
 use Rattle.reply.proofs.identifier_of.Statement.{statement}
 use Rattle.reply.proofs.identifier_of.Tie as tie

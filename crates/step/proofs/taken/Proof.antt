@@ -9,8 +9,8 @@ use Rattle.types.specs.declared.Answer.{Answer}
 use Rattle.types.specs.declared.Figure.{Figure}
 use Rattle.types.specs.Stored.{two, figureIn}
 use Rattle.types.specs.Frames.{readOf}
-use Rattle.component.specs.declared.Refusal.{Refusal}
-use Rattle.component.specs.Whole.{wholeAnswer}
+use Rattle.read.specs.declared.Refusal.{Refusal}
+use Rattle.read.specs.Whole.{wholeAnswer}
 use Rattle.step.proofs.Steps.{taken-refused, taken-unkept, taken-kept}
 use Rattle.outcomes.proofs.Refusals.{number-fits}
 use Rattle.step.proofs.taken.Statement.{statement}

@@ -1,6 +1,0 @@
-use Rattle.coding.proofs.Tests.{tests}
-use Rattle.fronts.proofs.is_called.Statement.{statement}
-use Rattle.fronts.proofs.is_called.Tie as tie
-
-pub is-called-spec : {M : Type 1} → statement M
-is-called-spec = tie.close (tie.spec (λ c. search tests) (λ c. search tests) (λ c. search tests) (λ c. search tests))

@@ -1,7 +1,0 @@
-use Rattle.coding.proofs.Tests.{tests}
-use Rattle.fronts.proofs.Fine.{one-two}
-use Rattle.fronts.proofs.is_charged.Statement.{statement}
-use Rattle.fronts.proofs.is_charged.Tie as tie
-
-pub is-charged-spec : {M : Type 1} → statement M
-is-charged-spec = tie.close (tie.spec (λ c. search (tests, one-two)) (λ c. search (tests, one-two)) (λ c. search (tests, one-two)) (λ c. search (tests, one-two)))

@@ -1,6 +1,0 @@
-use Rattle.coding.proofs.Tests.{tests}
-use Rattle.fronts.proofs.problem_fine.Statement.{statement}
-use Rattle.fronts.proofs.problem_fine.Tie as tie
-
-pub problem-fine-spec : {M : Type 1} → statement M
-problem-fine-spec = tie.close (tie.spec (λ c. search tests) (λ c. search tests) (λ c. search tests) (λ c. search tests) (λ c. search tests))

@@ -1,7 +1,0 @@
--- `heads::outer` meets its contract.
-use Rattle.coding.proofs.Tests.{tests}
-use Rattle.heads.proofs.outer.Statement.{statement}
-use Rattle.heads.proofs.outer.Tie as tie
-
-pub outer-spec : {M : Type 1} → statement M
-outer-spec = tie.close (tie.spec (λ c. search tests) (λ c. search tests) (λ c. search tests) (λ c. search tests) (λ c. search tests) (λ c. search tests))

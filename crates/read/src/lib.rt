@@ -1,0 +1,240 @@
+// Components: read whole.
+//
+// What is read is stored in a record's parts, which are lent: its front of 8 octets, its figure of 48 and its list's two arrays.
+ghost use mathlib.Core.Path.{_≡_};
+ghost use mathlib.Core.Bool.{true};
+ghost use mathlib.Core.List.{List};
+ghost use Prim.Native.Nat.{ℕ, _≤_, _%_};
+ghost use lib.ListN.{length, replicate};
+ghost use Rattle.coding.specs.Reader.Ans.{halt};
+ghost use Rattle.coding.specs.Shown.{shown};
+ghost use Rattle.types.specs.Arguments.{noCharge, chargeOf};
+ghost use Rattle.types.specs.Frames.{request, carrying, accepted, refusedAt, offsetOf, answered, readOf};
+ghost use Rattle.types.specs.Stored.{Blank, storedCharge, recordIn};
+ghost use Rattle.read_heads.specs.Heads.{faultBy, headRecord, tailOf};
+ghost use Rattle.read_lists.specs.Readers.{whole};
+ghost use Rattle.read.specs.Whole.{wholeAnswer};
+ghost use Rattle.read.specs.Ways.{isRequest, held, plainAnswer, carriedBy, endsWell, Ended};
+
+// 0 where a component is accepted; or the refusal's number, with 40 to 45 the offset of the octet at which reading stopped.
+#[repr(C)]
+pub struct Refusal {
+    pub number: u32,
+    pub offset: u32,
+}
+
+const NONE: Refusal = Refusal {
+    number: 0,
+    offset: 0,
+};
+
+// The offset that is given with a number: that of the place with 40 to 45. It has one octet.
+fn offset_of(number: u8, place: usize) -> u32
+    ensures { λ r. ⌜ r ≡ offsetOf number place % 256 ⌝ }
+{
+    if number < 40 {
+        return 0;
+    }
+    (place % 256) as u32
+}
+
+// The number and the offset of a fault at a place.
+fn refused(fault: u8, place: usize) -> Refusal
+    ensures { λ r. ⌜ refusedAt (r .number) (r .offset) ≡ held (answered (halt (faultBy fault) place)) ⌝ }
+{
+    let number = read_heads::number_of(fault);
+    let offset = offset_of(number, place);
+    Refusal {
+        number: number as u32,
+        offset,
+    }
+}
+
+// ---- the front, in zeros
+
+// Of an argument or result: the rest of its front is zero.
+fn keep_front(front: &mut [u8; 8], h: read_heads::Head, detail: u8)
+    requires { ⌜ now front ≡ replicate 8 0 ⌝ }
+    ensures { λ _. ⌜ ((f n r : List ℕ) → recordIn (now (front .exit)) f n r ≡ carriedBy h detail (storedCharge f n r)) ⌝ }
+{
+    front[0] = h.frame;
+    front[2] = (h.id % 256) as u8;
+    front[3] = (h.id / 256) as u8;
+    front[4] = h.operation;
+    front[7] = detail;
+}
+
+// Of an error or a reject, which have neither argument nor result.
+fn keep_head(front: &mut [u8; 8], h: read_heads::Head)
+    requires { ⌜ now front ≡ replicate 8 0 ⌝ }
+    ensures { λ _. ⌜ plainAnswer (record { number = 0; offset = 0 }) (now (front .exit)) ≡ accepted (headRecord h) ⌝ }
+{
+    front[0] = h.frame;
+    front[1] = h.unnamed;
+    front[2] = (h.id % 256) as u8;
+    front[3] = (h.id / 256) as u8;
+    front[4] = h.operation;
+    front[5] = h.error;
+    front[6] = h.problem;
+    front[7] = h.detail;
+}
+
+// ---- arguments and results
+
+// An invoke of operation 30.
+fn is_request(h: read_heads::Head) -> bool
+    ensures { λ r. ⌜ r ≡ isRequest h ⌝ }
+{
+    if h.frame != 1 {
+        return false;
+    }
+    if h.operation != 30 {
+        return false;
+    }
+    true
+}
+
+// The refusal of an argument or result: a fault in it, or what is left over.
+fn ended(h: read_heads::Head, fault: u8, place: usize, next: usize) -> Refusal
+    ensures { λ r. ⌜ Ended r h fault place next ⌝ }
+{
+    if fault != 0 {
+        return refused(read_heads::inner(fault), place);
+    }
+    if next != h.stop {
+        return refused(41, next);
+    }
+    if h.next != h.end {
+        return refused(41, h.next);
+    }
+    NONE
+}
+
+// Whether there is none. The fault is asked too: no reader's contract says that every fault has a number.
+fn ends_well(fault: u8, number: u32) -> bool
+    ensures { λ r. ⌜ r ≡ endsWell fault number ⌝ }
+{
+    if fault != 0 {
+        return false;
+    }
+    number == 0
+}
+
+// The argument of operation 30.
+fn asked(s: &[u8], h: read_heads::Head, front: &mut [u8; 8]) -> Refusal
+    requires { ⌜ (h .stop ≤ length (now s)) × (isRequest h ≡ true) ⌝ }
+    requires { ⌜ now front ≡ replicate 8 0 ⌝ }
+    ensures { λ r. ⌜ plainAnswer r (now (front .exit)) ≡ held (answered (tailOf (request (h .id)) h (now (s .entry)))) ⌝ }
+{
+    let n = read_elements::natural_at(s, h.at, h.stop, 0x0a, 0, 2);
+    let r = ended(h, n.fault, n.place, n.next);
+    if ends_well(n.fault, r.number) {
+        keep_front(front, h, n.value as u8);
+    }
+    r
+}
+
+// A charge: 05 00, or by its operation.
+fn charge_at(
+    s: &[u8],
+    at: usize,
+    end: usize,
+    operation: u8,
+    numbers: &mut [u32; 32],
+    rows: &mut [u8; 192],
+    figure: &mut [u8; 48],
+) -> read_elements::Empty
+    requires { ⌜ end ≤ length (now s) ⌝ }
+    requires { ⌜ Blank (now figure) (now numbers) (now rows) ⌝ }
+    ensures { λ r. ⌜ whole r (now (figure .exit)) (now (numbers .exit)) (now (rows .exit)) ≡ shown noCharge ((chargeOf operation) .read (now (s .entry)) at end) ⌝ }
+{
+    if read_elements::is_tag(s, at, end, 0x05) {
+        return read_elements::null_at(s, at, end, 0x05);
+    }
+    read_lists::charge_into(s, at, end, operation, numbers, rows, figure)
+}
+
+// An argument or result that holds a charge. A refusal leaves nothing of it, whatever was read before.
+fn carried(
+    s: &[u8],
+    h: read_heads::Head,
+    front: &mut [u8; 8],
+    figure: &mut [u8; 48],
+    numbers: &mut [u32; 32],
+    rows: &mut [u8; 192],
+) -> Refusal
+    requires { ⌜ h .stop ≤ length (now s) ⌝ }
+    requires { ⌜ (now front ≡ replicate 8 0) × Blank (now figure) (now numbers) (now rows) ⌝ }
+    ensures { λ r. ⌜ wholeAnswer r (now (front .exit)) (now (figure .exit)) (now (numbers .exit)) (now (rows .exit)) ≡ held (answered (tailOf (carrying (h .frame) (h .id) (h .operation)) h (now (s .entry)))) ⌝ }
+{
+    let f = charge_at(s, h.at, h.stop, h.operation, numbers, rows, figure);
+    let r = ended(h, f.fault, f.place, f.next);
+    if ends_well(f.fault, r.number) {
+        keep_front(front, h, 0);
+        return r;
+    }
+    *figure = [0; 48];
+    *numbers = [0; 32];
+    *rows = [0; 192];
+    r
+}
+
+// Reads a component into a record's parts, whatever they hold: zeros where it is refused.
+pub fn read_into(
+    octets: &[u8],
+    front: &mut [u8; 8],
+    figure: &mut [u8; 48],
+    numbers: &mut [u32; 32],
+    rows: &mut [u8; 192],
+) -> Refusal
+    ensures { λ r. ⌜ wholeAnswer r (now (front .exit)) (now (figure .exit)) (now (numbers .exit)) (now (rows .exit)) ≡ readOf (now (octets .entry)) ⌝ }
+{
+    *front = [0; 8];
+    *figure = [0; 48];
+    *numbers = [0; 32];
+    *rows = [0; 192];
+    let h = read_heads::head_of(octets);
+    if h.frame == 0 {
+        return refused(h.fault, h.at);
+    }
+    if 3 <= h.frame {
+        keep_head(front, h);
+        return NONE;
+    }
+    if is_request(h) {
+        return asked(octets, h, front);
+    }
+    carried(octets, h, front, figure, numbers, rows)
+}
+
+// Reads a component whole: its record, or the number by which it is refused and zeros.
+pub fn read(octets: &[u8]) -> types::Answer
+    ensures { λ r. ⌜ r ≡ readOf (now (octets .entry)) ⌝ }
+{
+    let mut front: [u8; 8] = [0; 8];
+    let mut figure: [u8; 48] = [0; 48];
+    let mut numbers: [u32; 32] = [0; 32];
+    let mut rows: [u8; 192] = [0; 192];
+    let r = read_into(octets, &mut front, &mut figure, &mut numbers, &mut rows);
+    let f = types::figure_of(&figure);
+    types::Answer {
+        number: r.number,
+        offset: r.offset,
+        value: types::Record {
+            frame: front[0],
+            unnamed: front[1],
+            id: types::number16(front[2], front[3]),
+            operation: front[4],
+            error: front[5],
+            problem: front[6],
+            detail: front[7],
+            charge: types::Charge {
+                figure: f,
+                entries: types::Entries {
+                    numbers,
+                    octets: rows,
+                },
+            },
+        },
+    }
+}

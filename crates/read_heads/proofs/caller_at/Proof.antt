@@ -1,0 +1,14 @@
+use borrow.Author.Needs.{needs}
+use mathlib.Core.Path.{refl}
+use Rattle.coding.specs.Codec.{alt}
+use Rattle.coding.proofs.Reading.{reading}
+use Rattle.types.specs.Frames.{caller}
+use Rattle.read_heads.proofs.caller_at.Statement.{statement}
+use Rattle.read_heads.proofs.caller_at.Tie as tie
+
+pub caller-at-spec : {M : Type 1} → statement M
+unfolding caller alt
+caller-at-spec =
+    tie.close
+    (tie.spec (search needs) (search needs) (λ c. (search reading, λ tag detail. refl)) (λ c. (search reading, λ tag detail. refl)) (search needs)
+    (λ c. (search reading, λ tag detail. refl)) (search needs) (λ c. (search reading, λ tag detail. refl)))

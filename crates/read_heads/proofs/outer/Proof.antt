@@ -1,0 +1,7 @@
+-- `read_heads::outer` meets its contract.
+use Rattle.coding.proofs.Tests.{tests}
+use Rattle.read_heads.proofs.outer.Statement.{statement}
+use Rattle.read_heads.proofs.outer.Tie as tie
+
+pub outer-spec : {M : Type 1} → statement M
+outer-spec = tie.close (tie.spec (λ c. search tests) (λ c. search tests) (λ c. search tests) (λ c. search tests) (λ c. search tests) (λ c. search tests))

@@ -1,0 +1,66 @@
+-- What stores into the parts of a charge make of it.
+-- Assumes nothing.
+use Prim.Native.Nat.{ℕ, _+_, _*_, _≤_}
+use native.Mathlib.Omega.{arith}
+use mathlib.Core.Path.{_≡_, refl, ap, subst, _∙_}
+use mathlib.Core.Bool.{Bool, true}
+use mathlib.Core.List.{List, _++_}
+use lib.Dec.{leb}
+use borrow.Author.Tests.{leb-true}
+use lib.ListN.{length, getD, set, take, drop, replicate, length-set, length-take, length-drop, take-append-drop}
+use lib.Seq.{length-take-le}
+use Rattle.read_elements.specs.declared.Empty.{Empty}
+use Rattle.coding.specs.Reader.{part}
+use Rattle.types.specs.declared.Charge.{Charge}
+use Rattle.types.specs.Charges.{flag, noAssociation}
+use Rattle.types.specs.Arguments.{plain, moneyFigure, noCharge, totalled, associated}
+use Rattle.types.specs.Stored.{moneyIn, associationIn, figureIn, storedCharge, Blank, stored}
+use Rattle.types.proofs.Stored.{by-octets, kind-stored, totalled-stored, unassociated-stored, money-long, money-figure, money-unassociated, beside-figure}
+use Rattle.read_figures.specs.Beside.{Unassociated, SameBeside}
+use Rattle.read_figures.proofs.Answers.{arrived}
+use Rattle.read_lists.specs.Readers.{whole, Clear}
+
+-- ---- no association is stored yet
+
+pub blank-clear : {figure numbers octets : List ℕ} → Blank figure numbers octets → Clear figure
+unfolding part
+blank-clear b = rw (b .figure-blank) (refl, refl)
+
+pub money-clear : (figure : List ℕ) → drop 16 figure ≡ replicate 32 0 → Clear figure
+money-clear figure h = (money-long figure h, money-unassociated figure h)
+
+pub stored-clear : (figure : List ℕ) (i x : ℕ) → leb 42 i ≡ true → Clear figure → Clear (set figure i x)
+stored-clear figure i x h u = (length-set figure i x ∙ u .0, unassociated-stored figure i x (leb-true 42 i h) ∙ u .1)
+
+pub ruleset clear = (blank-clear, money-clear, stored-clear)
+
+unassociated : (s : List ℕ) → Unassociated s → associationIn s ≡ noAssociation
+unfolding part
+unassociated s u =
+    let l : 42 ≤ length s = omega (arith, length-take 26 (drop 16 s), length-drop 16 s, ap length u) in
+    subst (λ (t : List ℕ). Unassociated t → associationIn t ≡ noAssociation) (take-append-drop 42 s)
+    (by-octets 42 (λ (m : List ℕ). Unassociated (m ++ drop 42 s) → associationIn (m ++ drop 42 s) ≡ noAssociation) (λ f. ap
+    (λ (l : List ℕ). record { id = getD l 0 0 + 256 * getD l 1 0; count = getD l 2 0 + 256 * getD l 3 0; kind = getD l 4 0; plan = getD l 5 0; digits = drop 6 l }))
+    (take 42 s) (length-take-le 42 s l)) u
+
+-- ---- what was stored last, and the charge that it makes
+
+module _ (s numbers octets : List ℕ) {r : Empty} {v : ℕ × ℕ × Charge × ℕ} where
+  -- a charge without a list
+  pub plain-stored : {b : List ℕ} → Blank b numbers octets → (r .fault, r .place, stored noCharge (r .fault) (plain (figureIn s)), r .next) ≡ v → whole r s numbers octets ≡ v
+  plain-stored b h = rw (b .numbers-blank, b .rows-blank) h
+
+  module _ {n : ℕ} (at : r ≡ record { fault = 0; place = 0; next = n }) where
+    pub money-stored : {b : List ℕ} → Blank b numbers octets → drop 16 s ≡ replicate 32 0 → (0, 0, plain (moneyFigure (moneyIn s)), n) ≡ v → whole r (set s 42 2) numbers octets ≡ v
+    money-stored b m h = arrived _ _ at (rw (kind-stored 2 s (money-long s m), money-figure s m, b .numbers-blank, b .rows-blank) h)
+
+    pub totals-stored : (g : Bool) (t d b : ℕ) → Clear s → d ≡ flag g → (0, 0, totalled t (flag g) b (storedCharge s numbers octets), n) ≡ v →
+        whole r (set (set (set s 43 t) 44 d) 45 b) numbers octets ≡ v
+    totals-stored g t d b l e h = arrived _ _ at (rw (totalled-stored s t d b (l .0), e) h)
+
+    pub association-stored : (u : List ℕ) → SameBeside s u → (0, 0, associated (associationIn u) (storedCharge s numbers octets), n) ≡ v → whole r u numbers octets ≡ v
+    association-stored u b h = arrived _ _ at (rw (beside-figure s u (b .0) (b .1)) h)
+
+    pub none-stored : Unassociated s → (0, 0, associated noAssociation (storedCharge s numbers octets), n) ≡ v → whole r s numbers octets ≡ v
+    unfolding figureIn
+    none-stored u h = arrived _ _ at (rw (← unassociated s u) at h)

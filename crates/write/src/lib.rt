@@ -1,0 +1,205 @@
+// Components: written in their shortest form. All is decided before a single octet is stored.
+use types::Figure;
+use write_figures::Outline;
+ghost use mathlib.Core.Path.{_≡_};
+ghost use mathlib.Core.Bool.{true, false, _||_, cond};
+ghost use Prim.Native.Nat.{_+_, _≤_, _<_};
+ghost use lib.ListN.{length};
+ghost use lib.Dec.{eqb};
+ghost use Rattle.coding.specs.Written.{Wrote};
+ghost use Rattle.write_heads.specs.Fronts.{frontFine, charged};
+ghost use Rattle.write.specs.Outcome.{no, writeOf, leftOf};
+ghost use Rattle.write_lists.specs.Octets.{withList};
+ghost use Rattle.write.specs.Handed.{handed};
+ghost use Rattle.write.specs.Parts.{recordOf, fineOf, chargeOctets, bodyOf};
+
+// What writing answers: 0 and the octets written, or the refusal's number and 0.
+#[repr(C)]
+pub struct Written {
+    pub number: u32,
+    pub count: u32,
+}
+
+fn refuse(number: u32) -> Written
+    ensures { λ r. ⌜ r ≡ no number ⌝ }
+{
+    Written { number, count: 0 }
+}
+
+// Whether a charge of a kind may stand beside a front: any where one follows, none where none does.
+fn may_hold(f: write_heads::Front, kind: u8) -> bool
+    ensures { λ r. ⌜ r ≡ charged f || eqb kind 0 ⌝ }
+{
+    if write_heads::is_charged(f) {
+        return true;
+    }
+    kind == 0
+}
+
+// The operation by which a charge is tested: its own, or, where none follows, one to which no charge at all is fine.
+fn tested_by(f: write_heads::Front) -> u8
+    requires { ⌜ frontFine f ≡ true ⌝ }
+    ensures { λ r. ⌜ r ≡ cond (charged f) (f .operation) 32 ⌝ }
+    ensures known { λ r. ⌜ (30 ≤ r) × (r ≤ 36) ⌝ }
+{
+    if write_heads::is_charged(f) {
+        return f.operation;
+    }
+    32
+}
+
+// Whether a record may be written.
+fn record_fine(
+    f: write_heads::Front,
+    figure: Figure,
+    currency: &[u8; 10],
+    digits: &[u8; 20],
+    numbers: &[u32; 32],
+    rows: &[u8; 192],
+) -> bool
+    requires { ⌜ (now currency ≡ figure .money .currency .octets) × (now digits ≡ figure .association .digits) ⌝ }
+    ensures { λ r. ⌜ r ≡ fineOf f (withList figure (now (numbers .entry)) (now (rows .entry))) ⌝ }
+    ensures long { λ _. ⌜ length (now (rows .entry)) ≡ 192 ⌝ }
+{
+    // As slices the arrays show their lengths to the proof.
+    let places: &[u32] = numbers;
+    let octets: &[u8] = rows;
+    if !write_heads::front_fine(f) {
+        return false;
+    }
+    if !may_hold(f, figure.kind) {
+        return false;
+    }
+    write_lists::charge_fine(figure, currency, digits, numbers, rows, tested_by(f))
+}
+
+// The octets of a charge that follows.
+fn charge_size(
+    f: write_heads::Front,
+    figure: Figure,
+    numbers: &[u32; 32],
+    rows: &[u8; 192],
+) -> usize
+    requires { ⌜ (fineOf f (withList figure (now numbers) (now rows)) ≡ true) × (length (now rows) ≡ 192) ⌝ }
+    ensures { λ r. ⌜ r ≡ length (chargeOctets f (withList figure (now (numbers .entry)) (now (rows .entry)))) ⌝ }
+{
+    if write_heads::is_charged(f) {
+        return write_lists::charge_size(figure, numbers, rows, f.operation);
+    }
+    0
+}
+
+// A frame's contents, after the lead. Its charge takes n octets.
+fn put_body(
+    buf: &mut [u8],
+    at: usize,
+    f: write_heads::Front,
+    figure: Figure,
+    numbers: &[u32; 32],
+    rows: &[u8; 192],
+    n: usize,
+) -> usize
+    requires { ⌜ (fineOf f (withList figure (now numbers) (now rows)) ≡ true) × (length (now rows) ≡ 192) ⌝ }
+    requires { ⌜ (n ≡ length (chargeOctets f (withList figure (now numbers) (now rows)))) × (n < 250) ⌝ }
+    requires { ⌜ at + length (bodyOf f (withList figure (now numbers) (now rows))) ≤ length (now buf) ⌝ }
+    ensures { λ r. ⌜ Wrote (now (buf .entry)) (now (buf .exit)) at (bodyOf f (withList figure (now (numbers .entry)) (now (rows .entry)))) r ⌝ }
+{
+    let p = write_heads::put_front(buf, at, f, n);
+    if write_heads::is_charged(f) {
+        return write_lists::put_charge(buf, p, figure, numbers, rows, f.operation);
+    }
+    p
+}
+
+// Writes a record by its front, its figure and its list.
+fn put_record(
+    f: write_heads::Front,
+    figure: Figure,
+    currency: &[u8; 10],
+    digits: &[u8; 20],
+    numbers: &[u32; 32],
+    rows: &[u8; 192],
+    buf: &mut [u8],
+) -> Written
+    requires { ⌜ (now currency ≡ figure .money .currency .octets) × (now digits ≡ figure .association .digits) ⌝ }
+    ensures { λ w. ⌜ w ≡ writeOf (recordOf f (withList figure (now (numbers .entry)) (now (rows .entry)))) (length (now (buf .entry))) ⌝ }
+    ensures left { λ w. ⌜ now (buf .exit) ≡ leftOf (recordOf f (withList figure (now (numbers .entry)) (now (rows .entry)))) (now (buf .entry)) ⌝ }
+{
+    if !record_fine(f, figure, currency, digits, numbers, rows) {
+        return refuse(10);
+    }
+    let n = charge_size(f, figure, numbers, rows);
+    if 250 <= n {
+        return refuse(11);
+    }
+    let m = write_heads::front_size(f, n) + n;
+    if 251 < m {
+        return refuse(11);
+    }
+    let whole = write_elements::element_size(m);
+    if buf.len() < whole {
+        return refuse(12);
+    }
+    let p = write_elements::put_lead(buf, 0, 0xa0 + f.frame, m);
+    let q = put_body(buf, p, f, figure, numbers, rows, n);
+    let count = q as u32;
+    Written { number: 0, count }
+}
+
+// Writes a record, handed over in parts, into a lent buffer. Numbers go by value and arrays are lent, so that none is copied.
+pub fn write_from(
+    f: write_heads::Front,
+    o: Outline,
+    number: u32,
+    currency: &[u8; 10],
+    digits: &[u8; 20],
+    numbers: &[u32; 32],
+    rows: &[u8; 192],
+    buf: &mut [u8],
+) -> Written
+    ensures { λ w. ⌜ w ≡ writeOf (handed f o number (now (currency .entry)) (now (digits .entry)) (now (numbers .entry)) (now (rows .entry))) (length (now (buf .entry))) ⌝ }
+    ensures left { λ w. ⌜ now (buf .exit) ≡ leftOf (handed f o number (now (currency .entry)) (now (digits .entry)) (now (numbers .entry)) (now (rows .entry))) (now (buf .entry)) ⌝ }
+{
+    let figure = write_figures::figure_of(o, number, currency, digits);
+    put_record(f, figure, currency, digits, numbers, rows, buf)
+}
+
+// Writes a record into a lent buffer.
+pub fn write(r: types::Record, buf: &mut [u8]) -> Written
+    ensures { λ w. ⌜ w ≡ writeOf r (length (now (buf .entry))) ⌝ }
+    ensures left { λ w. ⌜ now (buf .exit) ≡ leftOf r (now (buf .entry)) ⌝ }
+{
+    let f = write_heads::Front {
+        frame: r.frame,
+        unnamed: r.unnamed,
+        id: r.id,
+        operation: r.operation,
+        error: r.error,
+        problem: r.problem,
+        detail: r.detail,
+    };
+    let figure = r.charge.figure;
+    let money = figure.money;
+    let currency = money.currency;
+    let association = figure.association;
+    let entries = r.charge.entries;
+    let o = Outline {
+        id: association.id,
+        digits: association.count,
+        currency: currency.count,
+        multiplier: money.multiplier,
+        party: association.kind,
+        plan: association.plan,
+        kind: figure.kind,
+        total: figure.total,
+        billed: figure.billed,
+        billing: figure.billing,
+        arrangement: figure.arrangement,
+        count: figure.count,
+    };
+    let octets = currency.octets;
+    let digits = association.digits;
+    let numbers = entries.numbers;
+    let rows = entries.octets;
+    write_from(f, o, money.number, &octets, &digits, &numbers, &rows, buf)
+}

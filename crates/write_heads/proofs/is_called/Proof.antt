@@ -1,0 +1,6 @@
+use Rattle.coding.proofs.Tests.{tests}
+use Rattle.write_heads.proofs.is_called.Statement.{statement}
+use Rattle.write_heads.proofs.is_called.Tie as tie
+
+pub is-called-spec : {M : Type 1} → statement M
+is-called-spec = tie.close (tie.spec (λ c. search tests) (λ c. search tests) (λ c. search tests) (λ c. search tests))

@@ -1,0 +1,10 @@
+use Rattle.coding.proofs.Tests.{tests}
+use Rattle.write_heads.proofs.Fine.{request-is}
+use Rattle.write_heads.proofs.request_fine.Statement.{statement}
+use Rattle.write_heads.proofs.request_fine.Tie as tie
+
+pub request-fine-spec : {M : Type 1} → statement M
+request-fine-spec =
+    tie.close
+    (tie.spec (λ c. search (tests, request-is)) (λ c. search (tests, request-is)) (λ c. search (tests, request-is)) (λ c. search (tests, request-is))
+    (λ c. search (tests, request-is)))

@@ -1,0 +1,10 @@
+use Rattle.coding.proofs.Tests.{tests}
+use Rattle.write_heads.proofs.Fine.{result-is}
+use Rattle.write_heads.proofs.result_fine.Statement.{statement}
+use Rattle.write_heads.proofs.result_fine.Tie as tie
+
+pub result-fine-spec : {M : Type 1} → statement M
+result-fine-spec =
+    tie.close
+    (tie.spec (λ c. search (tests, result-is)) (λ c. search (tests, result-is)) (λ c. search (tests, result-is)) (λ c. search (tests, result-is))
+    (λ c. search (tests, result-is)) (λ c. search (tests, result-is)))

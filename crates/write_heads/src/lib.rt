@@ -1,0 +1,301 @@
+// All of a record but its charge: whether it may be written, how many octets it takes, and its octets.
+ghost use mathlib.Core.Path.{_≡_};
+ghost use mathlib.Core.Bool.{true, false, cond};
+ghost use mathlib.Core.List.{[], _++_};
+ghost use Prim.Native.Nat.{_+_, _≤_, _<_};
+ghost use lib.ListN.{length};
+ghost use Rattle.coding.specs.Codec.{oneOf};
+ghost use Rattle.coding.specs.Written.{Wrote, lead, fullNumber};
+ghost use lib.Dec.{eqb};
+ghost use Rattle.types.specs.Frames.{operations};
+ghost use Rattle.write_heads.specs.Fronts.{frontFine, frontOctets, problemFine, charged, idOctets};
+
+// All of a record but its charge, as C hands it over.
+#[repr(C)]
+pub struct Front {
+    pub frame: u8,
+    pub unnamed: u8,
+    pub id: u16,
+    pub operation: u8,
+    pub error: u8,
+    pub problem: u8,
+    pub detail: u8,
+}
+
+// ---- which may be written
+
+// As `read_heads::known_operation`, of an octet: measured, 23 instructions less for each component than a call of that.
+fn is_operation(n: u8) -> bool
+    ensures { λ r. ⌜ r ≡ oneOf operations n ⌝ }
+{
+    if n < 30 {
+        return false;
+    }
+    if 36 < n {
+        return false;
+    }
+    true
+}
+
+fn problem_fine(problem: u8, detail: u8) -> bool
+    ensures { λ r. ⌜ r ≡ problemFine problem detail ⌝ }
+{
+    if problem == 0x80 {
+        return detail <= 2;
+    }
+    if problem == 0x81 {
+        return detail <= 7;
+    }
+    if problem == 0x82 {
+        return detail <= 2;
+    }
+    if problem != 0x83 {
+        return false;
+    }
+    detail <= 4
+}
+
+// Operation 30 of an invoke asks for a service.
+fn request_fine(f: Front) -> bool
+    requires { ⌜ (f .frame ≡ 1) × (f .operation ≡ 30) ⌝ }
+    ensures { λ r. ⌜ r ≡ frontFine f ⌝ }
+{
+    if f.unnamed != 0 {
+        return false;
+    }
+    if f.error != 0 {
+        return false;
+    }
+    if f.problem != 0 {
+        return false;
+    }
+    if 2 < f.detail {
+        return false;
+    }
+    true
+}
+
+fn invoke_fine(f: Front) -> bool
+    requires { ⌜ f .frame ≡ 1 ⌝ }
+    ensures { λ r. ⌜ r ≡ frontFine f ⌝ }
+{
+    if f.operation == 30 {
+        return request_fine(f);
+    }
+    if !is_operation(f.operation) {
+        return false;
+    }
+    if f.unnamed != 0 {
+        return false;
+    }
+    if f.error != 0 {
+        return false;
+    }
+    if f.problem != 0 {
+        return false;
+    }
+    if f.detail != 0 {
+        return false;
+    }
+    true
+}
+
+fn result_fine(f: Front) -> bool
+    requires { ⌜ f .frame ≡ 2 ⌝ }
+    ensures { λ r. ⌜ r ≡ frontFine f ⌝ }
+{
+    if f.operation != 30 {
+        return false;
+    }
+    if f.unnamed != 0 {
+        return false;
+    }
+    if f.error != 0 {
+        return false;
+    }
+    if f.problem != 0 {
+        return false;
+    }
+    if f.detail != 0 {
+        return false;
+    }
+    true
+}
+
+fn error_fine(f: Front) -> bool
+    requires { ⌜ f .frame ≡ 3 ⌝ }
+    ensures { λ r. ⌜ r ≡ frontFine f ⌝ }
+{
+    if f.unnamed != 0 {
+        return false;
+    }
+    if f.operation != 0 {
+        return false;
+    }
+    if f.problem != 0 {
+        return false;
+    }
+    if f.detail != 0 {
+        return false;
+    }
+    read_heads::known_error(f.error as u32)
+}
+
+fn reject_fine(f: Front) -> bool
+    requires { ⌜ f .frame ≡ 4 ⌝ }
+    ensures { λ r. ⌜ r ≡ frontFine f ⌝ }
+{
+    if !is_called(f.unnamed, f.id) {
+        return false;
+    }
+    if f.operation != 0 {
+        return false;
+    }
+    if f.error != 0 {
+        return false;
+    }
+    problem_fine(f.problem, f.detail)
+}
+
+fn is_called(unnamed: u8, id: u16) -> bool
+    ensures { λ r. ⌜ r ≡ cond (eqb unnamed 1) (eqb 0 id) (eqb 0 unnamed) ⌝ }
+{
+    if unnamed == 1 {
+        if id != 0 {
+            return false;
+        }
+        return true;
+    }
+    if unnamed != 0 {
+        return false;
+    }
+    true
+}
+
+pub fn front_fine(f: Front) -> bool
+    ensures { λ r. ⌜ r ≡ frontFine f ⌝ }
+{
+    if f.frame == 1 {
+        return invoke_fine(f);
+    }
+    if f.frame == 2 {
+        return result_fine(f);
+    }
+    if f.frame == 3 {
+        return error_fine(f);
+    }
+    if f.frame == 4 {
+        return reject_fine(f);
+    }
+    false
+}
+
+// Whether a charge follows.
+pub fn is_charged(f: Front) -> bool
+    ensures { λ r. ⌜ r ≡ charged f ⌝ }
+{
+    if f.frame == 1 {
+        if f.operation == 30 {
+            return false;
+        }
+        return true;
+    }
+    if f.frame == 2 {
+        return true;
+    }
+    false
+}
+
+// ---- octets
+
+// Before a charge of n octets.
+pub fn front_size(f: Front, n: usize) -> usize
+    requires { ⌜ (frontFine f ≡ true) × (n < 250) ⌝ }
+    ensures { λ r. ⌜ r ≡ length (frontOctets f n) ⌝ }
+    ensures few { λ r. ⌜ (5 ≤ r) × (r ≤ 10) ⌝ }
+{
+    let i = 2 + write_elements::id_width(f.id);
+    if f.frame == 1 {
+        if f.operation == 30 {
+            return i + 6;
+        }
+        return i + 3;
+    }
+    if f.frame == 2 {
+        if n + 3 < 128 {
+            return i + 5;
+        }
+        return i + 6;
+    }
+    if f.frame == 3 {
+        return i + 3;
+    }
+    if f.unnamed == 1 {
+        return 5;
+    }
+    i + 3
+}
+
+fn put_invoke(buf: &mut [u8], at: usize, f: Front) -> usize
+    requires { ⌜ (f .operation < 128) × (f .detail < 128) × (at + length (idOctets f ++ (fullNumber 0x02 (f .operation) ++ cond (eqb (f .operation) 30) (fullNumber 0x0a (f .detail)) [])) ≤ length (now buf)) ⌝ }
+    ensures { λ r. ⌜ Wrote (now (buf .entry)) (now (buf .exit)) at (idOctets f ++ (fullNumber 0x02 (f .operation) ++ cond (eqb (f .operation) 30) (fullNumber 0x0a (f .detail)) [])) r ⌝ }
+{
+    let p = write_elements::put_id(buf, at, 0x02, f.id);
+    let q = write_elements::put_small(buf, p, 0x02, f.operation);
+    if f.operation == 30 {
+        return write_elements::put_small(buf, q, 0x0a, f.detail);
+    }
+    q
+}
+
+fn put_result(buf: &mut [u8], at: usize, f: Front, n: usize) -> usize
+    requires { ⌜ (f .operation < 128) × (n < 250) × (at + length (idOctets f ++ (lead 0x30 (3 + n) ++ fullNumber 0x02 (f .operation))) ≤ length (now buf)) ⌝ }
+    ensures { λ r. ⌜ Wrote (now (buf .entry)) (now (buf .exit)) at (idOctets f ++ (lead 0x30 (3 + n) ++ fullNumber 0x02 (f .operation))) r ⌝ }
+{
+    let p = write_elements::put_id(buf, at, 0x02, f.id);
+    let q = write_elements::put_lead(buf, p, 0x30, 3 + n);
+    write_elements::put_small(buf, q, 0x02, f.operation)
+}
+
+// The identifier, or NULL.
+fn put_caller(buf: &mut [u8], at: usize, f: Front) -> usize
+    requires { ⌜ at + length (cond (eqb (f .unnamed) 1) (lead 0x05 0) (idOctets f)) ≤ length (now buf) ⌝ }
+    ensures { λ r. ⌜ Wrote (now (buf .entry)) (now (buf .exit)) at (cond (eqb (f .unnamed) 1) (lead 0x05 0) (idOctets f)) r ⌝ }
+{
+    if f.unnamed == 1 {
+        return write_elements::put_null(buf, at, 0x05);
+    }
+    write_elements::put_id(buf, at, 0x02, f.id)
+}
+
+fn put_reject(buf: &mut [u8], at: usize, f: Front) -> usize
+    requires { ⌜ (f .detail < 128) × (at + length (cond (eqb (f .unnamed) 1) (lead 0x05 0) (idOctets f) ++ fullNumber (f .problem) (f .detail)) ≤ length (now buf)) ⌝ }
+    ensures { λ r. ⌜ Wrote (now (buf .entry)) (now (buf .exit)) at (cond (eqb (f .unnamed) 1) (lead 0x05 0) (idOctets f) ++ fullNumber (f .problem) (f .detail)) r ⌝ }
+{
+    let p = put_caller(buf, at, f);
+    write_elements::put_small(buf, p, f.problem, f.detail)
+}
+
+fn put_error(buf: &mut [u8], at: usize, f: Front) -> usize
+    requires { ⌜ (f .error < 128) × (at + length (idOctets f ++ fullNumber 0x02 (f .error)) ≤ length (now buf)) ⌝ }
+    ensures { λ r. ⌜ Wrote (now (buf .entry)) (now (buf .exit)) at (idOctets f ++ fullNumber 0x02 (f .error)) r ⌝ }
+{
+    let p = write_elements::put_id(buf, at, 0x02, f.id);
+    write_elements::put_small(buf, p, 0x02, f.error)
+}
+
+pub fn put_front(buf: &mut [u8], at: usize, f: Front, n: usize) -> usize
+    requires { ⌜ (frontFine f ≡ true) × (n < 250) × (at + length (frontOctets f n) ≤ length (now buf)) ⌝ }
+    ensures { λ r. ⌜ Wrote (now (buf .entry)) (now (buf .exit)) at (frontOctets f n) r ⌝ }
+{
+    if f.frame == 1 {
+        return put_invoke(buf, at, f);
+    }
+    if f.frame == 2 {
+        return put_result(buf, at, f, n);
+    }
+    if f.frame == 3 {
+        return put_error(buf, at, f);
+    }
+    put_reject(buf, at, f)
+}
