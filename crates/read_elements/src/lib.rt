@@ -151,7 +151,7 @@ fn is_marker(s: &[u8], at: usize, end: usize) -> bool
 }
 
 // An end marker that is searched: its place, and the place after it.
-pub struct Ended {
+struct Ended {
     pub fault: u8,
     pub place: usize,
     pub value: usize,

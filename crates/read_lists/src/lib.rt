@@ -74,7 +74,7 @@ fn unit_number_at(s: &[u8], at: usize, end: usize) -> UnitsRead
 }
 
 // An entry of a list of units.
-pub fn unit_at(s: &[u8], at: usize, end: usize) -> UnitsRead
+fn unit_at(s: &[u8], at: usize, end: usize) -> UnitsRead
     requires { ⌜ end ≤ length (now s) ⌝ }
     ensures { λ r. ⌜ (r .fault, r .place, r .value, r .next) ≡ shown noUnits (unit .read (now (s .entry)) at end) ⌝ }
 {
@@ -106,7 +106,7 @@ pub fn unit_at(s: &[u8], at: usize, end: usize) -> UnitsRead
 }
 
 // Stores an entry's rows as entry i of a list of units.
-pub fn keep_unit(numbers: &mut [u32; 32], octets: &mut [u8; 192], i: usize, u: types::Units)
+fn keep_unit(numbers: &mut [u32; 32], octets: &mut [u8; 192], i: usize, u: types::Units)
     requires { ⌜ i < 32 ⌝ }
     ensures number { λ _. ⌜ now (numbers .exit) ≡ sets (now (numbers .entry)) i (unitNumbers u) ⌝ }
     ensures octet { λ _. ⌜ now (octets .exit) ≡ sets (now (octets .entry)) (2 * i) (unitOctets u) ⌝ }

@@ -503,7 +503,7 @@ pub fn money_size(m: Money) -> usize
     9 + n + write_elements::width_of(m.number)
 }
 
-pub fn association_size(a: Association) -> usize
+fn association_size(a: Association) -> usize
     requires { ⌜ association .valid a ≡ true ⌝ }
     ensures { λ r. ⌜ r ≡ length (association .write a) ⌝ }
     ensures few { λ r. ⌜ r ≤ 29 ⌝ }
@@ -642,7 +642,7 @@ fn put_plain(buf: &mut [u8], at: usize, a: Association) -> usize
     write_elements::put_string(buf, p, 0x80, &digits, n)
 }
 
-pub fn put_association(buf: &mut [u8], at: usize, a: Association) -> usize
+fn put_association(buf: &mut [u8], at: usize, a: Association) -> usize
     requires { ⌜ (association .valid a ≡ true) × (at + length (association .write a) ≤ length (now buf)) ⌝ }
     ensures { λ r. ⌜ Wrote (now (buf .entry)) (now (buf .exit)) at (association .write a) r ⌝ }
 {
