@@ -19,7 +19,7 @@ import re, sys
 
 APART = {"memcpy", "memmove", "memset"}
 # the search for an end marker goes on past two of at most 254 octets at each turn
-DEEP = {"read_elements::find_end": 128}
+DEEP = {"read_lengths::find_end": 128}
 frames, calls, name, at_call = {}, {}, None, None
 depth = deepest = 0
 for line in open(sys.argv[1]):

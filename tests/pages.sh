@@ -32,7 +32,7 @@ stands = {}
 for line in text("crates.txt").splitlines():
     if ":" in line.split("#")[0]:
         name, below = line.split("#")[0].split(":")
-        stands[name.strip()] = below.split()
+        stands[name.strip()] = [b for b in below.split() if b != "prelude"]  # every crate stands on it
 said = {}
 for line in text(ARCHITECTURE).splitlines():
     cells = [cell.strip() for cell in line.split("|")]

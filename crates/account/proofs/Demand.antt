@@ -1,26 +1,17 @@
 -- The step and the rules over the list agree. None of this looks at code or into the reading of octets.
-use Prim.Native.Nat.{ℕ}
-use mathlib.Core.Path.{_≡_, refl, sym, _∙_, ap}
-use mathlib.Core.List.{List, [], _∷_, _++_}
-use mathlib.Core.Bool.{Bool, true, false, not, _&&_, _||_, and-false, cond}
-use lib.Dec.{eqb}
-use borrow.Author.Tests.{eqb-true}
-use Rattle.types.specs.declared.Charge.{Charge}
-use Rattle.types.specs.Charges.{flag}
-use Rattle.types.specs.Arguments.{noCharge}
+use Rattle.prelude.proofs.Prelude.{ℕ, _≡_, refl, sym, _∙_, ap, List, [], _∷_, _++_, Bool, true, false, _&&_, _||_, and-false, cond, eqb, eqb-true}
+use Rattle.types.specs.{declared.Charge.Charge, Charges.flag, Arguments.noCharge}
 use Rattle.values.specs.Sets.{with}
-use Rattle.phases.specs.declared.Event.{Event}
-use Rattle.phases.specs.declared.Outcome.{Outcome}
-use Rattle.phases.specs.declared.Status.{Status}
+use Rattle.phases.{specs.declared.Event.Event, specs.declared.Outcome.Outcome, specs.declared.Status.Status, specs.Phases.Idle, specs.Phases.Ended, specs.Phases.Setup, specs.Phases.Released}
+use Rattle.phases.{specs.Phases.Component, specs.Phases.S, specs.Phases.D, specs.Phases.E, specs.Phases.outcome, specs.Phases.noService, specs.Phases.Request, specs.Phases.noRequest}
+use Rattle.phases.{specs.Phases.clashes, specs.Phases.allowed, specs.Phases.Given, proofs.Choice.if-same, proofs.Choice.by-test, proofs.Choice.by-number, proofs.Choice.never}
+use Rattle.phases.{proofs.Choice.first-of, proofs.Transitions.to-idle, proofs.Transitions.setup-idle, proofs.Transitions.to-ended, proofs.Transitions.component-stays}
 use Rattle.account.specs.declared.Account.{Account}
-use Rattle.phases.specs.Phases.{Idle, Ended, Setup, Released, Component, S, D, E, outcome, noService, Request, noRequest, clashes, allowed, leadsTo, Given}
-use Rattle.outcomes.specs.Outcome.{among, isRefusal, judge, chargeIn, was, its, settles}
-use Rattle.account.specs.History.{Judged, any, last, phase, hasFinal, final, noClosing}
-use Rattle.account.specs.History.{closing, currentRate, running, known, judged, accountBy, fresh, steppedBy, Shown, shown, picked, Calls, Obeys, answers}
+use Rattle.account.specs.History.{Judged, any, last, phase, hasFinal, final, noClosing, closing, currentRate, running, known, judged, accountBy, fresh, steppedBy, Shown, shown, picked}
+use Rattle.account.specs.History.{Calls, Obeys, answers}
 use Rattle.account.specs.Step.{knownOf, changeBy, put, changeOf, steppedOf, closingOf, ours}
+use Rattle.outcomes.specs.Outcome.{among, isRefusal, judge, chargeIn, was, its, settles}
 use Rattle.outcomes.specs.Status.{isGiven, noted, statusAfter}
-use Rattle.phases.proofs.Choice.{if-same, by-test, by-number, never}
-use Rattle.phases.proofs.Transitions.{to-idle, setup-idle, to-ended, component-stays}
 use Rattle.outcomes.proofs.Refusals.{none-of, fails, apart}
 use Rattle.outcomes.proofs.Judging.{phased, phased-judge, unsettled-now, ended-judge, keeps, kept-given}
 
@@ -30,16 +21,13 @@ told e o r = record { event = e; octets = o; outcome = r }
 -- ---- a component does to the account what the rules over the list say, whatever its outcome is
 
 mark-or : (b c : Bool) (q : Request) → cond (b || c) noRequest q .mark ≡ cond b 0 (cond c noRequest q .mark)
-mark-or true c q = refl
-mark-or false c q = refl
+mark-or b c q = elim b [ true ↦ refl | false ↦ refl ]
 
 id-or : (b c : Bool) (q : Request) → cond (b || c) noRequest q .id ≡ cond b 0 (cond c noRequest q .id)
-id-or true c q = refl
-id-or false c q = refl
+id-or b c q = elim b [ true ↦ refl | false ↦ refl ]
 
 flag-or : (b c : Bool) → flag (b || c) ≡ cond b 1 (flag c)
-flag-or true c = refl
-flag-or false c = refl
+flag-or b c = elim b [ true ↦ refl | false ↦ refl ]
 
 set-more : (b : Bool) (s : ℕ) (x y z : Bool) →
     cond b (with (record { s = flag x; d = flag y; e = flag z }) s) (record { s = flag x; d = flag y; e = flag z })
@@ -64,17 +52,14 @@ module _ (a : Account) (t : Status) (c : Charge) where
       by-number n 22 (λ e. rw e (by-number s 2 (λ f. rw f) (λ s2. by-test (eqb s 3) (λ s3. rw (s2, s3)) (λ s3. rw (s2, s3))))) (λ n22.
       by-number n 24 (λ e. rw e (by-test (eqb s 1) (λ s1. rw s1) (λ s1. rw s1))) (λ n24. rw (n20, n21, n22, n24)))))
 
-component-kept : (h : List Judged) (e : Event) (o : List ℕ) (r : Outcome) → e .kind ≡ Component
-    → kept (accountBy h) (noted (accountBy h .status) r) r (chargeIn o) ≡ accountBy (told e o r ∷ h)
-component-kept h e o r q = rw q (simp (component-stays, if-same, mark-or, id-or, set-more))
-
 -- the account after an event with an outcome
 abbrev pub after : Account → Event → Charge → Outcome → Account
 after a e c r = put a (changeBy r (statusAfter (a .status) e r) c)
 
 component-stands : (h : List Judged) (e : Event) (o : List ℕ) (r : Outcome) → eqb (e .kind) Component ≡ true → after (accountBy h) e (chargeIn o) r ≡ accountBy (told e o r ∷ h)
 component-stands h e o r q =
-    rw q (placed (accountBy h) (noted (accountBy h .status) r) (chargeIn o) (r .number) (r .service)) ∙ component-kept h e o r (eqb-true _ _ q)
+    rw (eqb-true (e .kind) Component q)
+    (placed (accountBy h) (noted (accountBy h .status) r) (chargeIn o) (r .number) (r .service) ∙ simp (component-stays, if-same, mark-or, id-or, set-more))
 
 -- ---- a phase event
 
@@ -94,14 +79,11 @@ module _ (h : List Judged) (e : Event) (o : List ℕ) (other : eqb (e .kind) Com
 
 -- ---- in Idle no request has had its 24 or 25
 
-stays-idle : (b : Bool) (kind p : ℕ) → cond b (leadsTo kind p) p ≡ Idle → p ≡ Idle
-stays-idle false kind p q = q
-stays-idle true kind p q = to-idle kind p q
-
 unsettled : (s : ℕ) (h : List Given) → phase (judged h) ≡ Idle → any (λ j. settles s (j .outcome)) (judged h) ≡ false
 unsettled s [] q = refl
 unsettled s (g ∷ h) q =
-    let before : phase (judged h) ≡ Idle = stays-idle (was 0 (judge (known (judged h)) (g .event) (g .octets))) (g .event .kind) (phase (judged h)) q in
+    let before : phase (judged h) ≡ Idle =
+    by-test (was 0 (judge (known (judged h)) (g .event) (g .octets))) (λ b. to-idle (g .event .kind) (phase (judged h)) (rw b at q)) (λ b. rw b at q) in
     rw (unsettled-now s (known (judged h)) (g .event) (g .octets) before) (unsettled s h before)
 
 -- ---- the account after any event is that of the history with the event
@@ -116,34 +98,21 @@ account-stands h e o =
 
 -- ---- a figure that is kept is never of kind 0, so the account tells whether there is one
 
-given-more : (b x : Bool) (c f : Charge) → (b ≡ true → isGiven c ≡ true) → isGiven f ≡ x → isGiven (cond b c f) ≡ (b || x)
-given-more true x c f p q = p refl
-given-more false x c f p q = q
-
 -- the last figure of events that keep one is given if there was such an event
 last-given : (t : Outcome → Bool) → ((r : Outcome) → t r ≡ true → keeps r ≡ true) → (h : List Given) → isGiven (last (λ j. t (j .outcome)) (judged h)) ≡ any (λ j. t (j .outcome)) (judged h)
 last-given t w [] = refl
 last-given t w (g ∷ h) =
-    given-more (t (judge (known (judged h)) (g .event) (g .octets))) _ (chargeIn (g .octets)) _
-    (λ q. kept-given (known (judged h)) (g .event) (g .octets) (w (judge (known (judged h)) (g .event) (g .octets)) q)) (last-given t w h)
-
-either-is : (a b : Bool) → a ≡ true → (a || b) ≡ true
-either-is a b q = rw q
-
-final-keeps : (s : ℕ) (r : Outcome) → its s 22 r ≡ true → keeps r ≡ true
-final-keeps s r q = by-number (r .number) 22 (λ e. rw e) (λ e. let z : false ≡ true = rw e at q in cc)
-
-running-keeps : (r : Outcome) → was 21 r ≡ true → keeps r ≡ true
-running-keeps r q = rw (eqb-true (r .number) 21 q)
+    let r : Outcome = judge (known (judged h)) (g .event) (g .octets) in
+    by-test (t r) (λ q. rw q (kept-given (known (judged h)) (g .event) (g .octets) (w r q))) (λ q. rw q (last-given t w h))
 
 pub final-given : (s : ℕ) (h : List Given) → isGiven (final s (judged h)) ≡ hasFinal s (judged h)
-final-given s h = last-given (its s 22) (final-keeps s) h
+final-given s h = last-given (its s 22) (λ r q. rw (eqb-true (r .number) 22 (first-of (was 22 r) (eqb (r .service) s) q))) h
 
 pub rate-given : (h : List Given) → isGiven (currentRate (judged h)) ≡ any (λ j. was 20 (j .outcome) || its S 24 (j .outcome)) (judged h)
-rate-given h = last-given (λ r. was 20 r || its S 24 r) (λ r q. either-is (was 20 r || its S 24 r) (was 21 r || was 22 r) q) h
+rate-given h = last-given (λ r. was 20 r || its S 24 r) (λ r q. rw q) h
 
 pub running-given : (h : List Given) → isGiven (running (judged h)) ≡ any (λ j. was 21 (j .outcome)) (judged h)
-running-given h = last-given (was 21) running-keeps h
+running-given h = last-given (was 21) (λ r q. rw (eqb-true (r .number) 21 q)) h
 
 -- ---- what the account knows is what the list says
 
@@ -233,14 +202,13 @@ closing-kept later h q = sym (closing-stands (later ++ h)) ∙ ap closingOf (end
 abbrev pub releases : Judged → Bool
 releases j = eqb (j .event .kind) Released && was 0 (j .outcome)
 
-not-ended-next : (b x : Bool) (kind p : ℕ) → (x ≡ false → eqb p Ended ≡ false) → ((eqb kind Released && b) || x) ≡ false → eqb (cond b (leadsTo kind p) p) Ended ≡ false
-not-ended-next false x kind p before q = before (rw and-false at q)
-not-ended-next true x kind p before q =
-    by-test (eqb kind Released) (λ r. never (sym (rw r at q))) (λ r. to-ended kind p r (before (rw r at q)))
-
 not-ended : (h : List Judged) → any releases h ≡ false → eqb (phase h) Ended ≡ false
 not-ended [] q = refl
-not-ended (j ∷ h) q = not-ended-next (was 0 (j .outcome)) (any releases h) (j .event .kind) (phase h) (not-ended h) q
+not-ended (j ∷ h) q =
+    by-test (was 0 (j .outcome))
+    (λ b. by-test (eqb (j .event .kind) Released)
+    (λ r. never (sym (rw (b, r) at q))) (λ r. rw b (to-ended (j .event .kind) (phase h) r (not-ended h (rw r at q)))))
+    (λ b. rw b (not-ended h (rw (b, and-false) at q)))
 
 pub closing-released : (h : List Judged) → any releases h ≡ false → closing h ≡ noClosing
 closing-released h q = rw (not-ended h q)

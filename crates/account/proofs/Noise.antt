@@ -1,18 +1,10 @@
 -- Noise may be dropped: the events that remain keep their outcomes, and all that stands after each of them is equal.
-use Prim.Native.Nat.{ℕ}
-use mathlib.Core.Path.{_≡_, refl, sym, _∙_, ap}
-use mathlib.Core.List.{List, [], _∷_, map}
-use mathlib.Core.Bool.{Bool, true, false, _&&_}
-use Rattle.phases.specs.declared.Event.{Event}
-use Rattle.phases.specs.declared.Outcome.{Outcome}
-use Rattle.account.specs.declared.Account.{Account}
-use Rattle.account.specs.declared.Stepped.{Stepped}
+use Rattle.prelude.proofs.Prelude.{ℕ, _≡_, refl, sym, _∙_, ap, List, [], _∷_, map, Bool, true, false}
+use Rattle.phases.{specs.declared.Event.Event, specs.declared.Outcome.Outcome, specs.Phases.outcome, specs.Phases.Given, proofs.Choice.first-of, proofs.Choice.second-of}
+use Rattle.account.specs.{declared.Account.Account, declared.Stepped.Stepped, History.known, History.judged, History.accountBy, History.Shown, History.answers, Step.knownOf}
+use Rattle.account.specs.{Step.changeOf, Step.steppedOf, Step.closingOf, Step.marksOf, Step.ours, Noise.isNoise, Noise.chosen, Noise.onlyNoise, Noise.Standing, Noise.standing}
+use Rattle.account.specs.{Noise.Past, Noise.past, Noise.outcomes}
 use Rattle.outcomes.specs.Outcome.{isRefusal, judge, chargeIn}
-use Rattle.phases.specs.Phases.{outcome, Given}
-use Rattle.account.specs.History.{known, judged, accountBy, Shown, answers}
-use Rattle.account.specs.Step.{knownOf, changeOf, steppedOf, closingOf, marksOf, ours}
-use Rattle.account.specs.Noise.{isNoise, chosen, onlyNoise, Standing, standing, Past, past, outcomes}
-use Rattle.phases.proofs.Choice.{first-of, second-of}
 use Rattle.account.proofs.Demand.{known-stands, closing-stands, step-stands, after-nothing}
 
 -- ---- noise changes nothing: no outcome that counts is among it

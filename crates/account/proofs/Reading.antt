@@ -1,11 +1,7 @@
 -- What is promised of what is read off an account.
-use mathlib.Core.Path.{_≡_, refl, _∙_, ap}
-use mathlib.Core.List.{List}
-use Rattle.account.specs.declared.Account.{Account}
-use Rattle.account.specs.declared.Closing.{Closing}
+use Rattle.prelude.proofs.Prelude.{_≡_, refl, _∙_, ap, List}
+use Rattle.account.specs.{declared.Account.Account, declared.Closing.Closing, History.judged, History.accountBy, History.closing, Step.closingOf}
 use Rattle.phases.specs.Phases.{Given}
-use Rattle.account.specs.History.{judged, accountBy, closing}
-use Rattle.account.specs.Step.{closingOf}
 use Rattle.account.proofs.Demand.{closing-stands}
 
 pub closing-promised : (a : Account) (r : Closing) → r ≡ closingOf a → (r ≡ closingOf a) × ((h : List Given) → a ≡ accountBy (judged h) → r ≡ closing (judged h))

@@ -64,38 +64,7 @@ pub struct Pending {
 pub fn no_charge() -> Charge
     ensures { λ r. ⌜ r ≡ noCharge ⌝ }
 {
-    let octets = [0u8; 10];
-    let currency = types::Currency { count: 0, octets };
-    let money = types::Money {
-        currency,
-        multiplier: 0,
-        number: 0,
-    };
-    let digits = [0u8; 20];
-    let association = types::Association {
-        id: 0,
-        count: 0,
-        kind: 0,
-        plan: 0,
-        digits,
-    };
-    let figure = types::Figure {
-        money,
-        association,
-        kind: 0,
-        total: 0,
-        billed: 0,
-        billing: 0,
-        arrangement: 0,
-        count: 0,
-    };
-    let numbers = [0u32; 32];
-    let rows = [0u8; 192];
-    let entries = types::Entries {
-        numbers,
-        octets: rows,
-    };
-    Charge { figure, entries }
+    types::NO_CHARGE
 }
 
 // The account of a call that has had no event.

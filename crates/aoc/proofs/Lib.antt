@@ -1,6 +1,5 @@
-pub mod Phases
 pub mod Lent
-pub mod Whole
+pub mod Walk
+pub mod Passed
 pub mod Moves
-pub mod Reader
 pub mod Readers

@@ -47,7 +47,7 @@ pub extern "C" fn aoc_read_into(
 
 #[no_mangle]
 pub extern "C" fn aoc_write_from(
-    f: write_heads::Front,
+    f: types::Front,
     o: write_figures::Outline,
     number: u32,
     currency: &[u8; 10],

@@ -1,21 +1,10 @@
 -- What the writer's refusal of an invoke says of its charge. Assumes nothing.
-use Prim.Native.Nat.{ℕ, _≤_}
-use mathlib.Core.Path.{_≡_, refl, _∙_}
-use mathlib.Core.Bool.{Bool, true, false, not, cond}
-use native.Mathlib.Omega.{arith}
-use lib.ListN.{length}
-use lib.Dec.{eqb, leb}
+use Rattle.prelude.proofs.Prelude.{ℕ, _≤_, _≡_, refl, _∙_, Bool, true, false, not, cond, arith, length, eqb, leb}
 use Rattle.coding.specs.Codec.{oneOf}
-use Rattle.types.specs.declared.Record.{Record}
-use Rattle.types.specs.declared.Charge.{Charge}
-use Rattle.types.specs.Arguments.{chargeOf}
-use Rattle.types.specs.Frames.{component, carries}
-use Rattle.write_heads.specs.Fronts.{frontFine, frontBy}
-use Rattle.write_figures.proofs.Truth.{operations}
-use Rattle.write.specs.declared.Written.{Written}
-use Rattle.write.specs.Outcome.{done, no, writeOf}
-use Rattle.write.specs.Parts.{fineOf}
-use Rattle.write.proofs.Valid.{valid-parts}
+use Rattle.types.specs.{declared.Record.Record, declared.Charge.Charge, Arguments.chargeOf, Frames.frontBy, Frames.component, Frames.carries}
+use Rattle.write_heads.specs.Fronts.{frontFine}
+use Rattle.write_tests.proofs.Truth.{operations}
+use Rattle.write.{specs.Outcome.done, specs.Outcome.no, specs.Outcome.writeOf, specs.Parts.fineOf, proofs.Valid.valid-parts}
 
 -- 10 is the refusal of a record that is not valid, and of no other
 refused-10 : (r : Record) (room : ℕ) → not (eqb (writeOf r room .number) 10) ≡ component .valid r

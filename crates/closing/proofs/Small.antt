@@ -1,19 +1,9 @@
 -- The number of a closing figure in range, and the operation that it is tested for. Assumes nothing.
-use Prim.Native.Nat.{ℕ, _≤_}
-use mathlib.Core.Path.{_≡_, sym, _∙_}
-use mathlib.Core.Bool.{Bool, true, false, not, cond}
-use native.Mathlib.Omega.{arith}
-use lib.Dec.{eqb}
+use Rattle.prelude.proofs.Prelude.{ℕ, _≤_, _≡_, sym, _∙_, Bool, true, false, not, cond, arith, eqb}
 use Rattle.coding.proofs.Basic.{and-left, and-right}
-use Rattle.types.specs.declared.Money.{Money}
-use Rattle.types.specs.declared.Charge.{Charge}
-use Rattle.types.specs.Charges.{noMoney, money}
-use Rattle.types.specs.Arguments.{sameMoney, isKind, chargeOf}
-use Rattle.write_figures.specs.Fine.{marksFine, moneyFine, associationFine, figureFine, entriesFine}
-use Rattle.write_figures.proofs.Truth.{truth}
-use Rattle.write_figures.proofs.Tests.{no-money-is}
+use Rattle.types.specs.{declared.Money.Money, declared.Charge.Charge, Charges.noMoney, Charges.money, Arguments.sameMoney, Arguments.isKind}
+use Rattle.write_tests.{specs.Fine.marksFine, specs.Fine.moneyFine, specs.Fine.figureFine, proofs.Truth.truth, proofs.Tests.no-money-is, proofs.Valid.charge-fine}
 use Rattle.write_figures.proofs.Sizes.{money-room}
-use Rattle.write_figures.proofs.Valid.{charge-fine}
 use Rattle.closing.specs.Range.{closingService, operationOf, inRange}
 
 -- an argument of 33 to 36

@@ -1,5 +1,6 @@
 // Whether a closing figure is in range. A host hands it over, so that it may hold anything.
 use types::Charge;
+use types::Front;
 use types::Record;
 ghost use mathlib.Core.Path.{_≡_};
 ghost use Prim.Native.Nat.{_≤_};
@@ -37,13 +38,15 @@ fn argument_fine(c: Charge, operation: u8) -> bool
     ensures { λ r. ⌜ r ≡ (chargeOf operation) .valid c ⌝ }
 {
     let invoke = Record {
-        frame: 1,
-        unnamed: 0,
-        id: 0,
-        operation,
-        error: 0,
-        problem: 0,
-        detail: 0,
+        front: Front {
+            frame: 1,
+            unnamed: 0,
+            id: 0,
+            operation,
+            error: 0,
+            problem: 0,
+            detail: 0,
+        },
         charge: c,
     };
     let mut none: [u8; 0] = [];

@@ -1,11 +1,5 @@
 -- Laws of a list kept in an array.
--- Assumes nothing.
-use Prim.Native.Nat.{ℕ, suc, _+_, _-_, _<_}
-use native.Mathlib.Omega.{arith}
-use mathlib.Core.Path.{_≡_}
-use mathlib.Core.List.{List, [], _∷_, _++_, append-assoc}
-use lib.ListN.{length, set, replicate, length-append}
-use lib.Seq.{set-at}
+use Rattle.prelude.proofs.Prelude.{ℕ, suc, _+_, _-_, _<_, arith, _≡_, List, [], _∷_, _++_, append-assoc, length, set, replicate, length-append, set-at}
 use Rattle.coding.specs.Codec.{pad}
 
 -- one entry more, stored at the first unused place

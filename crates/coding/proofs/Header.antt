@@ -1,21 +1,13 @@
 -- Tag and length octets: any form of a length is read, with a number and without, the shortest is written, none is shorter, and it is the only one so short.
--- Assumes nothing.
-use Prim.Native.Nat.{ℕ, suc, _+_, _-_, _≤_, _<_}
-use mathlib.Core.Path.{_≡_, refl, sym, ap, _∙_, subst}
-use mathlib.Core.List.{List, _∷_, _++_}
-use mathlib.Core.Bool.{Bool, true, false, true≢false, cond}
-use mathlib.Core.Logic.{inl, inr}
-use native.Mathlib.Omega.{arith}
-use lib.ListN.{length, getD, length-append}
-use lib.Dec.{ltb, eqb}
-use borrow.Author.Tests.{ltb-true, eqb-true, lt-ltb, eq-eqb}
+use Rattle.prelude.proofs.Prelude.{ℕ, suc, _+_, _-_, _≤_, _<_, _≡_, refl, sym, ap, _∙_, subst, List, _∷_, _++_, true, false, true≢false, arith, length, getD, length-append, ltb, eqb}
+use Rattle.prelude.proofs.Prelude.{ltb-true, eqb-true, lt-ltb, eq-eqb}
 use Rattle.coding.specs.declared.Extent.{Extent}
-use Rattle.coding.specs.Reader.{Ans, got, halt, tagged, neither, choice, composite, endless, findEnd, spanned, lengthAt, opened}
-use Rattle.coding.specs.Codec.{LengthForm, lengthOctets, Opens, Spans, definite, indefinite, Walk, here, past, nest, Element, counted, ended, Holds}
-use Rattle.coding.proofs.Basic.{never, failing, either-way, same-got, picked, unpicked, holds-left, holds-right, holds-both, octets-cons, octets-both}
+use Rattle.coding.specs.Reader.{Ans, got, tagged, neither, choice, composite, endless, spanned, lengthAt, opened}
+use Rattle.coding.specs.Codec.{lengthOctets, Opens, Spans, definite, indefinite, Walk, here, past, nest, Element, counted, ended, Holds}
+use Rattle.coding.proofs.Basic.{Given, it, void, known, choose, weaken, cond-case, picked, holds-split, holds-both, octets-cons, octets-both}
 use Rattle.coding.proofs.Laws.{Octets}
-use Rattle.coding.proofs.Length.{number-sound, number-complete, length-written, length-most, length-few, length-shortest, length-only, length-octets}
-use Rattle.coding.proofs.Search.{Inside, inside, endless-is, endless-yes, endless-octet, form-octet, walk-forward, walk-finds, search-walks}
+use Rattle.coding.proofs.Length.{number-given, number-complete, length-written, length-most, length-few, length-shortest, length-only, length-octets}
+use Rattle.coding.proofs.Search.{endless-is, endless-yes, endless-octet, form-octet, walk-forward, walk-finds, finds}
 pub use Rattle.coding.proofs.Length.{length-forward}
 
 -- ---- tags
@@ -26,15 +18,7 @@ tagged-yes s a e tag h q = picked (eqb (getD s a 0) tag) false (lt-ltb a e h) �
 
 pub tagged-is : (s : List ℕ) (a e tag : ℕ) → tagged s a e tag ≡ true → (a < e) × (getD s a 0 ≡ tag)
 unfolding tagged
-tagged-is s a e tag h = go (ltb a e) refl h
-  where
-    go : (t : Bool) → ltb a e ≡ t → cond t (eqb (getD s a 0) tag) false ≡ true → (a < e) × (getD s a 0 ≡ tag)
-    go true q r = (ltb-true a e q, eqb-true (getD s a 0) tag r)
-    go false q r = absurd (true≢false (sym r))
-
-pub neither-never : {A : Type 0} (s : List ℕ) (a e : ℕ) {x : A} {n : ℕ} → neither s a e ≡ got x n → ⊥
-unfolding neither
-neither-never s a e r = never (failing (ltb a e) _ _ _ r .1)
+tagged-is s a e tag h = cond-case (ltb a e) h (λ q r. (ltb-true a e q, eqb-true (getD s a 0) tag r)) (λ q r. absurd (true≢false (sym r)))
 
 -- ---- an element's tag and length octets
 
@@ -42,9 +26,6 @@ neither-never s a e r = never (failing (ltb a e) _ _ _ r .1)
 pub opened-there : (tag : ℕ) (s : List ℕ) (a e : ℕ) → a < e → getD s a 0 ≡ tag → opened tag s a e ≡ lengthAt a s (a + 1) e
 unfolding opened choice
 opened-there tag s a e h t = picked _ _ (tagged-yes s a e tag h t)
-
-pub opened-forward : {tag : ℕ} {s : List ℕ} {a c n : ℕ} → Opens tag s a c n → a < n
-opened-forward (t, f, le) = omega (arith, length-forward f)
 
 pub spans-tag : {tag : ℕ} {s : List ℕ} {a c m n : ℕ} → Spans tag s a c m n → getD s a 0 ≡ tag
 spans-tag (definite o q) = o .0
@@ -60,47 +41,38 @@ spans-forward o = let r = spans-range o in omega (arith, r .0, r .1, r .2)
 
 -- ---- length octets are read exactly where an element stands
 
-searched-sound : (s : List ℕ) (a e : ℕ) (x : Extent) (n : ℕ) (r : Ans ℕ) → findEnd s (a + 1 + 1) e ≡ r → composite (getD s a 0) ≡ true → getD s (a + 1) 0 ≡ 128
-    → spanned a (a + 1 + 1) r ≡ got x n → Element s a (x .start) (x .stop) n × (n ≤ e)
+spanned-given : {P : ℕ → ℕ → Type 0} {Q : Extent → ℕ → Type 0} (tag start : ℕ) {r : Ans ℕ} → Given P r
+    → ((m n : ℕ) → P m n → Q (record { start = start; stop = m }) n) → Given Q (spanned tag start r)
 unfolding spanned
-searched-sound s a e x n (got stop next) q b l h =
-    let w = search-walks s (a + 1 + 1) e stop next q in
-    let i : Inside s (a + 1 + 1) e (got stop next) = subst (Inside s (a + 1 + 1) e) q (inside s (a + 1 + 1) e) in
-    same-got (λ (y : Extent) j. Element s a (y .start) (y .stop) j × (j ≤ e)) h (ended b l (omega arith) (w .0) (w .2) (w .3) (w .1), i .2)
-searched-sound s a e x n (halt w p) q b l h = absurd (never h)
+spanned-given tag start (it p) f = it (f _ _ p)
+spanned-given tag start void f = void
+
+elements : (s : List ℕ) (a e : ℕ) → Given (λ (x : Extent) n. Element s a (x .start) (x .stop) n × (n ≤ e)) (lengthAt a s (a + 1) e)
+unfolding lengthAt
+elements s a e =
+    choose (endless s a (a + 1) e)
+    (λ h. let k = endless-is s a (a + 1) e h in spanned-given a (a + 1 + 1) (finds s (a + 1 + 1) e) (λ m n w. (ended (k .2) (k .1) (omega arith) (w .0) (w .2) (w .3) (w .1), w .4)))
+    (λ h. weaken (number-given a s (a + 1) e) (λ x n f. (counted (f .0) (f .1) (f .2), f .3)))
 
 pub read-element : (s : List ℕ) (a e : ℕ) (x : Extent) (n : ℕ) → lengthAt a s (a + 1) e ≡ got x n → Element s a (x .start) (x .stop) n × (n ≤ e)
-unfolding lengthAt
-read-element s a e x n r =
-    elim (either-way (endless s a (a + 1) e) _ _ r) [
-      | inl h ↦ let k = endless-is s a (a + 1) e (h .0) in searched-sound s a e x n (findEnd s (a + 1 + 1) e) refl (k .2) (k .1) (h .1)
-      | inr h ↦ let f = number-sound a s (a + 1) e x n (h .1) in (counted (f .0) (f .1) (f .2), f .3)
-    ]
+read-element s a e x n r = known (elements s a e) r
 
 pub element-read : (s : List ℕ) (a c m n e : ℕ) → n ≤ e → Element s a c m n → lengthAt a s (a + 1) e ≡ got (record { start = c; stop = m }) n
 unfolding lengthAt spanned
 element-read s a c m n e h (counted f le q) =
     let sum : c + (n - c) ≡ n = omega arith in
-    unpicked _ _ (endless-octet s a (a + 1) e (form-octet f))
-    ∙ number-complete a s (a + 1) e (n - c) c (omega arith) f
-    ∙ ap (λ (j : ℕ). got (record { start = c; stop = j }) j) sum
-    ∙ ap (λ (j : ℕ). got (record { start = c; stop = j }) n) (sym q)
+    rw (endless-octet s a (a + 1) e (form-octet f), number-complete a s (a + 1) e (n - c) c (omega arith) f, sum, q)
 element-read s a c m n e h (ended b l k w z z' q) =
     let at : a + 1 + 1 ≡ c = omega (arith, k) in
     let cm = walk-forward w in
-    let ends : findEnd s (a + 1 + 1) e ≡ got m (m + 2) = ap (λ (j : ℕ). findEnd s j e) at ∙ walk-finds e (omega (arith, q)) w z z' in
-    picked _ _ (endless-yes s a (a + 1) e (omega (arith, k, q, cm)) l b)
-    ∙ ap (spanned a (a + 1 + 1)) ends
-    ∙ ap (λ (i : ℕ). got (record { start = i; stop = m }) (m + 2)) at ∙ ap (λ (j : ℕ). got (record { start = c; stop = m }) j) q
-
--- the contents stand inside, after tag and length octets
-pub element-range : {s : List ℕ} {a c m n : ℕ} → Element s a c m n → (a + 2 ≤ c) × (c ≤ m) × (m ≤ n)
-element-range (counted f le q) = (omega (arith, length-forward f), omega (arith, le, q), omega (arith, q))
-element-range (ended b l k w z z' q) = (omega (arith, k), walk-forward w, omega (arith, q))
+    rw (endless-yes s a (a + 1) e (omega arith) l b, at, walk-finds e (omega arith) w z z', q)
 
 element-spans : {s : List ℕ} {a c m n : ℕ} → Element s a c m n → Spans (getD s a 0) s a c m n
 element-spans (counted f le q) = definite (refl, f, le) q
 element-spans (ended b l k w z z' q) = indefinite refl b l k (walk-forward w) z z' q
+
+pub element-range : {s : List ℕ} {a c m n : ℕ} → Element s a c m n → (a + 2 ≤ c) × (c ≤ m) × (m ≤ n)
+element-range o = spans-range (element-spans o)
 
 spans-element : {tag : ℕ} {s : List ℕ} {a c m n : ℕ} → Spans tag s a c m n → Walk s c m → Element s a c m n
 spans-element (definite o q) w = counted (o .1) (o .2) q
@@ -108,14 +80,15 @@ spans-element (indefinite t b l k le z z' q) w = ended (ap composite t ∙ b) l 
 
 -- ---- and its tag before them
 
+pub opens : (tag : ℕ) (s : List ℕ) (a e : ℕ) → Given (λ (x : Extent) n. Spans tag s a (x .start) (x .stop) n × (n ≤ e)) (opened tag s a e)
+unfolding opened choice neither
+opens tag s a e =
+    choose (tagged s a e tag) (λ h. weaken (elements s a e) (λ x n r. (rw (tagged-is s a e tag h .1) at (element-spans (r .0)), r .1)))
+    (λ h. choose (ltb a e) (λ q. void) (λ q. void))
+
 pub opened-sound : (tag : ℕ) (s : List ℕ) (a e : ℕ) (x : Extent) (n : ℕ) → opened tag s a e ≡ got x n
     → Spans tag s a (x .start) (x .stop) n × (n ≤ e)
-unfolding opened choice
-opened-sound tag s a e x n r =
-    elim (either-way (tagged s a e tag) _ _ r) [
-      | inl h ↦ subst (λ (t : ℕ). Spans t s a (x .start) (x .stop) n × (n ≤ e)) (tagged-is s a e tag (h .0) .1) (let r = read-element s a e x n (h .1) in (element-spans (r .0), r .1))
-      | inr h ↦ absurd (neither-never s a e (h .1))
-    ]
+opened-sound tag s a e x n r = known (opens tag s a e) r
 
 -- a primitive element has a number
 pub spans-simple : {tag : ℕ} {s : List ℕ} {a c m n : ℕ} → composite tag ≡ false → Spans tag s a c m n → Opens tag s a c n × (m ≡ n)
@@ -153,39 +126,27 @@ opened-written tag s a w b h =
     let ls : List ℕ = lengthOctets (length w) in
     let c : ℕ = a + 1 + length ls in
     let t = length-append ls w in
-    let e : c + length w ≡ a + suc (length (ls ++ w)) = omega (arith, t) in
-    let f : LengthForm s (a + 1) (length w) c = length-written s (a + 1) (length w) b (holds-left s (a + 1) ls w (h .2)) in
-    let k : length w ≡ a + suc (length (ls ++ w)) - c = omega (arith, t) in
-    (c, (h .1, subst (λ (j : ℕ). LengthForm s (a + 1) j c) k f, omega (arith, e)), holds-right s (a + 1) ls w (h .2), e)
-
-pub opened-shortest : (tag : ℕ) (s : List ℕ) (a c n : ℕ) (w : List ℕ) → Octets s → Opens tag s a c n → c + length w ≤ n
-    → a + length (tag ∷ lengthOctets (length w) ++ w) ≤ n
-opened-shortest tag s a c n w os (t, f, le) h =
-    omega (arith, length-append (lengthOctets (length w)) w, length-shortest s (a + 1) (n - c) c (length w) os (omega arith) f)
+    let k : a + suc (length (ls ++ w)) - c ≡ length w = omega arith in
+    let held = holds-split s (a + 1) ls w (h .2) in
+    (c, (h .1, rw k (length-written s (a + 1) (length w) b (held .0)), omega arith), held .1, omega arith)
 
 pub spans-shortest : (tag : ℕ) (s : List ℕ) (a c m n : ℕ) (w : List ℕ) → Octets s → Spans tag s a c m n → c + length w ≤ m
     → a + length (tag ∷ lengthOctets (length w) ++ w) ≤ n
-spans-shortest tag s a c m n w os (definite o q) h = opened-shortest tag s a c n w os o (omega (arith, h, q))
+spans-shortest tag s a c m n w os (definite (t, f, le) q) h =
+    omega (arith, length-append (lengthOctets (length w)) w, length-shortest s (a + 1) (n - c) c (length w) os (omega arith) f)
 spans-shortest tag s a c m n w os (indefinite t b l k le z z' q) h =
     omega (arith, length-append (lengthOctets (length w)) w, length-most (length w), k, q, h)
 
 -- an element that takes as many octets as the one written is that one, if its contents are those written
-pub opened-only : (tag : ℕ) (s : List ℕ) (a c n : ℕ) (w : List ℕ) → Octets s → n ≤ length s → Opens tag s a c n → c + length w ≤ n
-    → n ≡ a + length (tag ∷ lengthOctets (length w) ++ w) → (c + length w ≡ n → Holds s c w) → Holds s a (tag ∷ lengthOctets (length w) ++ w)
-opened-only tag s a c n w os ns (t, f, le) h e inner =
+pub spans-only : (tag : ℕ) (s : List ℕ) (a c m n : ℕ) (w : List ℕ) → Octets s → n ≤ length s → length w < 256 → Spans tag s a c m n → c + length w ≤ m
+    → n ≡ a + length (tag ∷ lengthOctets (length w) ++ w) → (c + length w ≡ m → Holds s c w) → Holds s a (tag ∷ lengthOctets (length w) ++ w)
+spans-only tag s a c m n w os ns b (definite (t, f, le) q) h e inner =
     let ls : List ℕ = lengthOctets (length w) in
     let k = length-append ls w in
     let least = length-shortest s (a + 1) (n - c) c (length w) os (omega arith) f in
-    let at : c ≡ a + 1 + length ls = omega arith in
-    let whole : c + length w ≡ n = omega arith in
+    let start : c ≡ a + 1 + length ls = omega arith in
     let said : n - c ≡ length w = omega arith in
-    let form : LengthForm s (a + 1) (length w) c = subst (λ (j : ℕ). LengthForm s (a + 1) j c) said f in
-    let held = length-only s (a + 1) (length w) c os (omega arith) at form in
-    (omega arith, t, holds-both s (a + 1) ls w held (subst (λ (j : ℕ). Holds s j w) at (inner whole)))
-
-pub spans-only : (tag : ℕ) (s : List ℕ) (a c m n : ℕ) (w : List ℕ) → Octets s → n ≤ length s → length w < 256 → Spans tag s a c m n → c + length w ≤ m
-    → n ≡ a + length (tag ∷ lengthOctets (length w) ++ w) → (c + length w ≡ m → Holds s c w) → Holds s a (tag ∷ lengthOctets (length w) ++ w)
-spans-only tag s a c m n w os ns b (definite o q) h e inner = opened-only tag s a c n w os ns o (omega (arith, h, q)) e (λ k. inner (k ∙ sym q))
+    (omega arith, t, holds-both s (a + 1) ls w (length-only s (a + 1) (length w) c os (omega arith) start (rw said at f)) (rw start at (inner (omega arith))))
 spans-only tag s a c m n w os ns b (indefinite t x l k le z z' q) h e inner =
     absurd (omega (arith, length-append (lengthOctets (length w)) w, length-few (length w) b))
 

@@ -6,9 +6,11 @@ pub mod Search
 pub mod Header
 pub mod Moved
 pub mod Bounds
+pub mod Value
 pub mod Combine
-pub mod Number
+pub mod Digits
 pub mod Signed
+pub mod Number
 pub mod Leaves
 pub mod Whole
 pub mod Padded
@@ -18,6 +20,7 @@ pub mod Parts
 pub mod Arrays
 pub mod Lists
 pub mod More
+pub mod Holds
 pub mod Writing
 pub mod Only
 pub mod Frames
@@ -25,4 +28,3 @@ pub mod Own
 pub mod Rows
 pub mod Small
 pub mod Tests
-pub mod Room

@@ -1,39 +1,24 @@
 -- A loop over a list's entries: the entries so far, and that the whole list is those and then the rest.
--- Assumes nothing.
-use Prim.Native.Nat.{ℕ, zero, suc, _-_, _≤_, _<_}
-use native.Mathlib.Omega.{arith}
-use native.Mathlib.Nat.{sub-zero}
-use mathlib.Core.Path.{_≡_, refl, ap, sym, _∙_}
-use mathlib.Core.List.{List, [], _∷_, _++_, append-assoc, append-nil}
-use lib.ListN.{length, getD, length-append}
-use borrow.Author.Tests.{le-leb, lt-leb, lt-ltb, eq-eqb, ne-eqb}
-use Rattle.coding.specs.Reader.{Ans, Reader, after, entries, listOf, tagged}
-use Rattle.coding.specs.Reader.Ans.{got, halt}
-use Rattle.coding.specs.Shown.{shown}
-use Rattle.coding.proofs.Reading.{got-of}
+use Rattle.prelude.proofs.Prelude.{ℕ, zero, suc, _-_, _≤_, _<_, arith, sub-zero, _≡_, refl, ap, sym, _∙_, List, [], _∷_, _++_, append-assoc, append-nil, length, getD, length-append, le-leb}
+use Rattle.prelude.proofs.Prelude.{lt-leb, lt-ltb, eq-eqb, ne-eqb}
+use Rattle.coding.specs.{Reader.Ans, Reader.Reader, Reader.after, Reader.entries, Reader.listOf, Reader.tagged, Reader.Ans.got, Reader.Ans.halt, Shown.shown}
+use Rattle.coding.proofs.Reading.{got-of, halt-of}
 
 -- the entries so far in front of an answer for the rest
-pub behind : {A : Type 0} → List A → Ans (List A) → Ans (List A)
+unfoldable pub behind : {A : Type 0} → List A → Ans (List A) → Ans (List A)
 behind xs (got ys n) = got (xs ++ ys) n
 behind xs (halt w p) = halt w p
 
-behind-nil : {A : Type 0} (x : Ans (List A)) → behind [] x ≡ x
+pub behind-nil : {A : Type 0} (x : Ans (List A)) → behind [] x ≡ x
 unfolding behind
 behind-nil (got ys n) = refl
 behind-nil (halt w p) = refl
 
-behind-after : {A : Type 0} (xs : List A) (v : A) (x : Ans (List A)) →
+pub behind-after : {A : Type 0} (xs : List A) (v : A) (x : Ans (List A)) →
     behind xs (after x (λ vs last. got (v ∷ vs) last)) ≡ behind (xs ++ (v ∷ [])) x
 unfolding behind after
 behind-after xs v (got ys n) = ap (λ l. got l n) (sym (append-assoc xs (v ∷ []) ys))
 behind-after xs v (halt w p) = refl
-
--- a fault in the rest is the whole's
-behind-stay : {A B C : Type 0} (xs : List A) (x : Ans B) (g : B → ℕ → Ans (List A)) (f : List A → ℕ → Ans C) (y : B) (z : C) {k p n : ℕ} {v : B} →
-    (k, p, v, n) ≡ shown y x → (k ≡ 0 → ⊥) → (k, p, z, 0) ≡ shown z (after (behind xs (after x g)) f)
-unfolding behind after shown
-behind-stay xs (got v' n') g f y z e k0 = absurd (k0 (ap (λ q. q .0) e))
-behind-stay xs (halt w p') g f y z e k0 = ap (λ q. (q .0, q .1, z, 0)) e
 
 module _ {A : Type 0} (tag : ℕ) (entry : Reader A) (s : List ℕ) (end : ℕ) where
   turn : (m i : ℕ) → i < end →
@@ -75,9 +60,11 @@ module _ {A : Type 0} (tag most : ℕ) (entry : Reader A) (s : List ℕ) (at end
 
     pub list-fault : (y : A) {k p n : ℕ} {v : A} → i < end → length xs < most → (k, p, v, n) ≡ shown y (entry s i end) → (k ≡ 0 → ⊥) →
         (k, p, z, 0) ≡ shown z (after (listOf tag most entry s at end) f)
-    list-fault y h l e k0 =
+    unfolding after behind shown
+    list-fault y {p = p} h l e k0 =
         let a : most - length xs ≡ suc (most - length xs - 1) = omega arith in
-        rw (g .rest, a, turn tag entry s end _ i h) (behind-stay xs _ _ f y z e k0)
+        let r = halt-of (entry s i end) y e k0 in
+        rw (g .rest, a, turn tag entry s end _ i h, r .1) (ap (λ j. (j, p, z, 0)) (r .2))
 
     pub list-limit : i < end → most ≤ length xs → getD s i 0 ≡ tag → (45, i, z, 0) ≡ shown z (after (listOf tag most entry s at end) f)
     unfolding after behind entries tagged shown

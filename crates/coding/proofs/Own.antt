@@ -1,12 +1,7 @@
 -- What a valid value is: of a canonical type the value of its own octets, of a sort of two types one of the first or of the second.
--- Assumes nothing.
-use Prim.Native.Nat.{ℕ}
-use mathlib.Core.Path.{_≡_}
-use mathlib.Core.Bool.{Bool, true, false, cond}
-use mathlib.Core.Logic.{_⊎_, inl, inr}
+use Rattle.prelude.proofs.Prelude.{ℕ, _≡_, Bool, true, _⊎_, inl, inr}
 use Rattle.coding.specs.Codec.{Run, canonical, over, sort}
-use Rattle.coding.proofs.Basic.{and-left, and-right}
-use Rattle.coding.proofs.Padded.{Equal}
+use Rattle.coding.proofs.{Basic.cond-case, Basic.and-left, Basic.and-right, Padded.Equal}
 
 -- a valid value is the value of its own octets, which are valid
 pub own : {A B : Type 0} (to : A → B) (from : B → A) (same : B → B → Bool) (f : Run A) → Equal same
@@ -22,8 +17,4 @@ own-valid to from same f y v = and-right (same (to (from y)) y) _ v
 -- a valid value is one of the first or of the second
 pub sort-or : {A : Type 0} (tag : ℕ) (test : A → Bool) (f g : Run A) (x : A) → (sort tag test f g) .valid x ≡ true → (f .valid x ≡ true) ⊎ (g .valid x ≡ true)
 unfolding sort
-sort-or tag test f g x v = go (test x) v
-  where
-    go : (t : Bool) → cond t (f .valid x) (g .valid x) ≡ true → (f .valid x ≡ true) ⊎ (g .valid x ≡ true)
-    go true w = inl w
-    go false w = inr w
+sort-or tag test f g x v = cond-case (test x) v (λ q w. inl w) (λ q w. inr w)

@@ -1,16 +1,8 @@
 -- Laws of a part of the octets and of the number it says.
--- Assumes nothing.
-use Prim.Native.Nat.{ℕ, suc, _+_, _*_, _-_, _≤_, _<_}
-use native.Mathlib.Omega.{arith}
-use native.Mathlib.Numerals.{add-one}
-use mathlib.Core.Path.{_≡_, refl}
-use mathlib.Core.List.{List, [], _∷_, _++_}
-use lib.ListN.{length, getD, drop, length-drop, length-take}
-use lib.Seq.{drop-cons, take-suc, getD-drop, take-add, drop-drop}
-use Rattle.coding.specs.Reader.{part}
-use mathlib.Core.Bool.{Bool, true, false, cond}
-use Rattle.coding.specs.Contents.{numberFrom, null, every}
-use Rattle.coding.specs.Shown.{verdict}
+use Rattle.prelude.proofs.Prelude.{ℕ, suc, _+_, _*_, _-_, _≤_, _<_, arith, add-one, _≡_, refl, sym, List, [], _∷_, _++_, length, getD, drop, length-drop, length-take, drop-cons, take-suc}
+use Rattle.prelude.proofs.Prelude.{getD-drop, take-add, drop-drop, Bool, true, false, true≢false}
+use Rattle.coding.specs.{Reader.part, Contents.numberFrom, Contents.null, Contents.every, Shown.verdict}
+use Rattle.coding.proofs.Basic.{cond-case}
 
 pub part-none : (s : List ℕ) (i j : ℕ) → j ≤ i → part s i j ≡ []
 unfolding part
@@ -60,12 +52,7 @@ part-split s i k j h l =
 pub every-append : (ok : ℕ → Bool) (xs ys : List ℕ) → every ok xs ≡ true → every ok (xs ++ ys) ≡ every ok ys
 unfolding every
 every-append ok [] ys h = refl
-every-append ok (x ∷ xs) ys h = go (ok x) (every-append ok xs ys) h
-  where
-    go : (b : Bool) → (every ok xs ≡ true → every ok (xs ++ ys) ≡ every ok ys) → cond b (every ok xs) false ≡ true →
-        cond b (every ok (xs ++ ys)) false ≡ every ok ys
-    go true r q = r q
-    go false r q = let z : _≡_ {A = ℕ} 0 1 = cc in absurd (omega arith)
+every-append ok (x ∷ xs) ys h = cond-case (ok x) h (λ q r. rw q (every-append ok xs ys r)) (λ q r. absurd (true≢false (sym r)))
 
 pub every-more : (ok : ℕ → Bool) (s : List ℕ) (i k : ℕ) → i ≤ k → k < length s → every ok (part s i k) ≡ true → ok (getD s k 0) ≡ true →
     every ok (part s i (k + 1)) ≡ true

@@ -1,17 +1,9 @@
 -- What the proofs of readers cite: how an answer in a struct goes with what follows it.
--- Assumes nothing.
-use Prim.Native.Nat.{ℕ}
-use native.Mathlib.Omega.{arith}
-use mathlib.Core.Path.{_≡_, refl, ap, sym, _∙_}
-use mathlib.Core.Bool.{Bool, true, false, cond}
-use mathlib.Core.List.{List}
-use Prim.Native.Nat.{_<_, _≤_}
-use borrow.Author.Tests.{le-ltb, lt-ltb, eq-eqb, ne-eqb}
-use Rattle.coding.specs.Reader.{Ans, Reader, Fault, code, after, ruled, Ruling, closed, choice, neither, tagged}
-use Rattle.coding.specs.Reader.Ans.{got, halt}
-use Rattle.coding.specs.Reader.Fault.{missing, unexpected, cut, form, shortest, contents, limit, named}
-use Rattle.coding.specs.Reader.Ruling.{good, bad}
-use Rattle.coding.specs.Shown.{shown, verdict}
+use Rattle.prelude.proofs.Prelude.{ℕ, arith, _≡_, refl, ap, sym, _∙_, Bool, true, false, cond, List, _<_, _≤_, le-ltb, lt-ltb, eq-eqb, ne-eqb}
+use Rattle.coding.specs.{Reader.Ans, Reader.Reader, Reader.Fault, Reader.code, Reader.after, Reader.ruled, Reader.Ruling, Reader.closed, Reader.choice, Reader.neither, Reader.tagged}
+use Rattle.coding.specs.{Reader.Ans.got, Reader.Ans.halt, Reader.Fault.missing, Reader.Fault.unexpected, Reader.Fault.cut, Reader.Fault.form, Reader.Fault.shortest}
+use Rattle.coding.specs.{Reader.Fault.contents, Reader.Fault.limit, Reader.Fault.named, Reader.Ruling.good, Reader.Ruling.bad, Shown.shown, Shown.verdict}
+use Rattle.coding.proofs.Basic.{by-cases}
 
 -- no fault has the number 0
 pub some-code : (w : Fault) → code w ≡ 0 → ⊥
@@ -30,32 +22,32 @@ unfolding shown
 got-of (got v' n') z e k0 = sym (ap (λ q. got (q .2) (q .3)) e)
 got-of (halt w p') z e k0 = absurd (some-code w (sym (ap (λ q. q .0) e) ∙ k0))
 
+pub halt-of : {A : Type 0} (x : Ans A) (z : A) {k p n : ℕ} {v : A} → (k, p, v, n) ≡ shown z x → (k ≡ 0 → ⊥) → (w : Fault) × (x ≡ halt w p) × (k ≡ code w)
+unfolding shown
+halt-of (got v' n') z e k0 = absurd (k0 (ap (λ q. q .0) e))
+halt-of (halt w p') z e k0 = (w, sym (ap (λ q. halt w (q .1)) e), ap (λ q. q .0) e)
+
 -- a good answer goes on
 pub step : {A B : Type 0} (x : Ans A) (f : A → ℕ → Ans B) (z : A) (y : B) {k p n : ℕ} {v : A} {t : ℕ × ℕ × B × ℕ} →
     (k, p, v, n) ≡ shown z x → k ≡ 0 → t ≡ shown y (f v n) → t ≡ shown y (after x f)
-unfolding shown after
-step (got v' n') f z y e k0 r = r ∙ ap (λ q. shown y (f (q .2) (q .3))) e
-step (halt w p') f z y e k0 r = absurd (some-code w (sym (ap (λ q. q .0) e) ∙ k0))
+unfolding after
+step x f z y e k0 r = rw (got-of x z e k0) r
 
 -- a fault stays
 pub stay : {A B : Type 0} (x : Ans A) (f : A → ℕ → Ans B) (z : A) (y : B) {k p n : ℕ} {v : A} →
     (k, p, v, n) ≡ shown z x → (k ≡ 0 → ⊥) → (k, p, y, 0) ≡ shown y (after x f)
 unfolding shown after
-stay (got v' n') f z y e k0 = absurd (k0 (ap (λ q. q .0) e))
-stay (halt w p') f z y e k0 = ap (λ q. (q .0, q .1, y, 0)) e
+stay x f z y {p = p} e k0 = let h = halt-of x z e k0 in rw (h .1) (ap (λ i. (i, p, y, 0)) (h .2))
 
--- what follows what follows
-pub assoc : {A B C : Type 0} (x : Ans A) (f : A → ℕ → Ans B) (g : B → ℕ → Ans C) (y : C) {t : ℕ × ℕ × C × ℕ} →
-    t ≡ shown y (after x (λ v n. after (f v n) g)) → t ≡ shown y (after (after x f) g)
-unfolding after
-assoc (got v n) f g y r = r
-assoc (halt w p) f g y r = r
-
--- the same as equations, by which a type's reading becomes one sequence of steps
+-- what follows what follows: equations by which a type's reading becomes one sequence of steps
 pub after-assoc : {A B C : Type 0} (x : Ans A) (f : A → ℕ → Ans B) (g : B → ℕ → Ans C) → after (after x f) g ≡ after x (λ v n. after (f v n) g)
 unfolding after
 after-assoc (got v n) f g = refl
 after-assoc (halt w p) f g = refl
+
+pub assoc : {A B C : Type 0} (x : Ans A) (f : A → ℕ → Ans B) (g : B → ℕ → Ans C) (y : C) {t : ℕ × ℕ × C × ℕ} →
+    t ≡ shown y (after x (λ v n. after (f v n) g)) → t ≡ shown y (after (after x f) g)
+assoc x f g y r = rw (after-assoc x f g) r
 
 pub after-got : {A B : Type 0} (v : A) (n : ℕ) (f : A → ℕ → Ans B) → after (got v n) f ≡ f v n
 unfolding after
@@ -64,11 +56,7 @@ after-got v n f = refl
 pub after-choice : {A B : Type 0} (tag : ℕ) (this that : Reader A) (s : List ℕ) (at end : ℕ) (f : A → ℕ → Ans B) →
     after (choice tag this that s at end) f ≡ choice tag (λ s at end. after (this s at end) f) (λ s at end. after (that s at end) f) s at end
 unfolding choice
-after-choice tag this that s at end f = go (tagged s at end tag)
-  where
-    go : (b : Bool) → after (cond b (this s at end) (that s at end)) f ≡ cond b (after (this s at end) f) (after (that s at end) f)
-    go true = refl
-    go false = refl
+after-choice tag this that s at end f = by-cases (tagged s at end tag) (λ q. rw q) (λ q. rw q)
 
 pub ruleset flat = (after-assoc, after-got, after-choice)
 

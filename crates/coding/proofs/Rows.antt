@@ -1,14 +1,7 @@
 -- Laws of a list kept in a flat array of numbers, k numbers to an entry.
--- Assumes nothing.
-use Prim.Native.Nat.{ℕ, zero, suc, _+_, _*_, _≤_, _<_}
-use mathlib.Core.Path.{_≡_, refl, sym, ap, ap₂, _∙_, subst}
-use mathlib.Core.List.{List, [], _∷_, _++_, append-assoc, append-nil}
-use native.Mathlib.Omega.{arith}
-use native.Mathlib.Nat.{mul-zero, zero-mul, zero-add, suc-mul, mul-suc, mul-comm}
-use lib.ListN.{length, getD, length-append, List·getD-append}
-use lib.Seq.{sets, getD-append-add}
-use Rattle.coding.specs.Codec.{pad}
-use Rattle.coding.specs.Rows.{rows, table}
+use Rattle.prelude.proofs.Prelude.{ℕ, zero, suc, _+_, _*_, _≤_, _<_, _≡_, refl, sym, ap, ap₂, _∙_, List, [], _∷_, _++_, append-assoc, append-nil, arith, mul-zero, suc-mul, mul-suc, mul-comm}
+use Rattle.prelude.proofs.Prelude.{length, getD, length-append, List·getD-append, sets, getD-append-add}
+use Rattle.coding.specs.{Codec.pad, Rows.rows, Rows.table}
 use Rattle.coding.proofs.Arrays.{padded-more}
 
 -- ---- tables
@@ -61,35 +54,21 @@ module _ {A : Type 0} (row : A → List ℕ) (k : ℕ) (wide : (x : A) → lengt
   unfolding rows
   at [] post z i j l h = absurd (omega arith)
   at (x ∷ xs) post z zero j l h =
-      let here : j < length (row x) = omega (arith, wide x) in
-      let e : 0 * k + j ≡ j = ap (λ (m : ℕ). m + j) (zero-mul k) ∙ zero-add j in
-      ap₂ (λ (ys : List ℕ) (m : ℕ). getD ys m 0) (append-assoc (row x) (rows row xs) post) e
-      ∙ List·getD-append (row x) (rows row xs ++ post) 0 j here
+      let e : 0 * k + j ≡ j = omega arith in
+      rw (append-assoc, e, List·getD-append (row x) (rows row xs ++ post) 0 j (omega (arith, wide x)))
   at (x ∷ xs) post z (suc i) j l h =
       let e : suc i * k + j ≡ length (row x) + (i * k + j) = omega (arith, wide x, suc-mul i k) in
-      ap₂ (λ (ys : List ℕ) (m : ℕ). getD ys m 0) (append-assoc (row x) (rows row xs) post) e
-      ∙ getD-append-add (row x) (rows row xs ++ post) (i * k + j) 0
-      ∙ at xs post z i j (omega arith) h
+      rw (append-assoc, e, getD-append-add) (at xs post z i j (omega arith) h)
 
   -- number j of entry i
-  pub rows-get : (n : ℕ) (xs : List A) (z : A) (i j : ℕ) → i < length xs → j < k → getD (pad n 0 (rows row xs)) (i * k + j) 0 ≡ getD (row (getD xs i z)) j 0
-  unfolding pad
-  rows-get n xs z i j l h = at xs _ z i j l h
-
   pub rows-get' : (n : ℕ) (xs : List A) (z : A) (i j : ℕ) → i < length xs → j < k → getD (pad n 0 (rows row xs)) (k * i + j) 0 ≡ getD (row (getD xs i z)) j 0
-  rows-get' n xs z i j l h = ap (λ (m : ℕ). getD (pad n 0 (rows row xs)) (m + j) 0) (mul-comm k i) ∙ rows-get n xs z i j l h
+  unfolding pad
+  rows-get' n xs z i j l h = ap (λ (m : ℕ). getD (pad n 0 (rows row xs)) (m + j) 0) (mul-comm k i) ∙ at xs _ z i j l h
 
   -- one entry more, stored at the first unused row
-  pub rows-more : (n : ℕ) (xs : List A) (v : A) → k * length xs + k ≤ n
-      → sets (pad n 0 (rows row xs)) (k * length xs) (row v) ≡ pad n 0 (rows row (xs ++ (v ∷ [])))
-  unfolding rows
-  rows-more n xs v h =
-      pad-sets n 0 (rows row xs) (row v) (k * length xs) (rows-length xs) (omega (arith, wide v))
-      ∙ ap (pad n 0) (ap (λ (ys : List ℕ). rows row xs ++ ys) (sym (append-nil (row v))) ∙ sym (rows-append row xs (v ∷ [])))
-
-  -- the same where the code counts the entries
   pub rows-more-at : (n : ℕ) (xs : List A) (v : A) (c : ℕ) → length xs ≡ c → k * c + k ≤ n
       → sets (pad n 0 (rows row xs)) (k * c) (row v) ≡ pad n 0 (rows row (xs ++ (v ∷ [])))
+  unfolding rows
   rows-more-at n xs v c e h =
-      ap (λ (m : ℕ). sets (pad n 0 (rows row xs)) (k * m) (row v)) (sym e)
-      ∙ rows-more n xs v (subst (λ (m : ℕ). k * m + k ≤ n) (sym e) h)
+      pad-sets n 0 (rows row xs) (row v) (k * c) (rows-length xs ∙ ap (λ (m : ℕ). k * m) e) (omega (arith, wide v))
+      ∙ rw (rows-append row xs (v ∷ []), append-nil (row v))

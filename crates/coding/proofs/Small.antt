@@ -1,20 +1,9 @@
 -- Elements of few octets as they are written, and the sizes that a writer adds up.
--- Assumes nothing.
-use Prim.Native.Nat.{ℕ, _+_, _/_, _%_, _≤_, _<_}
-use mathlib.Core.Path.{_≡_, refl, sym, ap, ap₂, _∙_}
-use mathlib.Core.List.{List, [], _∷_, _++_}
-use mathlib.Core.Bool.{Bool, true, false, cond}
-use native.Mathlib.Omega.{arith}
-use lib.ListN.{length, take, length-append}
-use lib.Seq.{length-take-le}
-use lib.Dec.{ltb, leb, eqb}
-use borrow.Author.Tests.{eqb-true, lt-ltb, le-ltb, le-leb, lt-leb}
-use Rattle.coding.specs.Contents.{shortest}
-use Rattle.coding.specs.Codec.{lengthOctets, prim}
-use Rattle.coding.specs.Leaves.{width, digits, nullLeaf, shorten, identifier, string}
-use Rattle.coding.specs.Written.{Wrote, lead, fullNumber}
-use Rattle.coding.proofs.Basic.{picked, unpicked}
-use Rattle.coding.proofs.Writing.{lead-short, lead-length-short, lead-length-long, digits-one, prim-write, wrote-both}
+use Rattle.prelude.proofs.Prelude.{ℕ, _+_, _/_, _%_, _≤_, _<_, _≡_, refl, ap, ap₂, _∙_, List, [], _∷_, _++_, Bool, true, arith, length, take, length-append, length-take-le, eqb, eqb-true}
+use Rattle.prelude.proofs.Prelude.{lt-ltb, le-ltb, le-leb, lt-leb}
+use Rattle.coding.specs.{Contents.shortest, Codec.lengthOctets, Codec.prim, Leaves.width, Leaves.digits, Leaves.nullLeaf, Leaves.shorten, Leaves.identifier, Leaves.string}
+use Rattle.coding.specs.{Written.Wrote, Written.lead, Written.fullNumber}
+use Rattle.coding.proofs.{Basic.by-test, Basic.both, Writing.lead-length-short, Writing.lead-length-long, Writing.prim-write, Writing.wrote-both}
 
 -- ---- tag and length octets
 
@@ -37,12 +26,8 @@ null-length tag = lead-length-short tag 0 (omega arith)
 -- ---- numbers of one octet
 
 pub small-number : (tag x : ℕ) → x < 128 → fullNumber tag x ≡ tag ∷ 1 ∷ x ∷ []
-unfolding fullNumber width
-small-number tag x h =
-    let w : width x ≡ 1 = picked _ _ (lt-ltb x 0x80 h) in
-    let m : x % 256 ≡ x = omega arith in
-    ap (λ (k : ℕ). lead tag k ++ digits k x) w
-    ∙ ap₂ (λ (a b : List ℕ). a ++ b) (lead-short tag 1 (omega arith)) (sym (digits-one x) ∙ ap (λ (d : ℕ). d ∷ []) m)
+unfolding fullNumber width lead lengthOctets digits
+small-number tag x h = let m : x / 1 % 256 ≡ x = omega arith in rw (lt-ltb x 0x80 h, m)
 
 pub small-length : (tag x : ℕ) → x < 128 → length (fullNumber tag x) ≡ 3
 small-length tag x h = ap length (small-number tag x h)
@@ -71,12 +56,9 @@ id-high-write p l h =
 -- of which both are needed
 two-shortest : (p : ℕ) → 0x80 ≤ p → p < 0xff80 → shortest (p / 256 ∷ p % 256 ∷ []) ≡ true
 unfolding shortest
-two-shortest p l h = go (eqb (p / 256) 0) refl (eqb (p / 256) 0xff) refl
-  where
-    go : (t : Bool) → eqb (p / 256) 0 ≡ t → (u : Bool) → eqb (p / 256) 0xff ≡ u → cond t (leb 0x80 (p % 256)) (cond u (ltb (p % 256) 0x80) true) ≡ true
-    go true q u r = le-leb 0x80 (p % 256) (omega (arith, eqb-true (p / 256) 0 q, l))
-    go false q true r = lt-ltb (p % 256) 0x80 (omega (arith, eqb-true (p / 256) 0xff r, h))
-    go false q false r = refl
+two-shortest p l h =
+    both (eqb (p / 256) 0) (λ q. le-leb 0x80 (p % 256) (omega (arith, eqb-true (p / 256) 0 q)))
+    (λ q. both (eqb (p / 256) 0xff) (λ r. lt-ltb (p % 256) 0x80 (omega (arith, eqb-true (p / 256) 0xff r))) (λ r. refl))
 
 pub id-two-write : (p : ℕ) → 128 ≤ p → p < 65408 → identifier .write p ≡ p / 256 ∷ p % 256 ∷ []
 unfolding identifier shorten
@@ -86,24 +68,21 @@ id-two-write p l h =
 
 pub id-range : (p : ℕ) → (1 ≤ length (identifier .write p)) × (length (identifier .write p) ≤ 2)
 unfolding identifier shorten shortest
-id-range p = rw (pair-octets p) (go (shortest (p / 256 % 256 ∷ p % 256 ∷ [])))
-  where
-    go : (t : Bool) → (1 ≤ length (cond t (p / 256 % 256 ∷ p % 256 ∷ []) (p % 256 ∷ []))) × (length (cond t (p / 256 % 256 ∷ p % 256 ∷ []) (p % 256 ∷ [])) ≤ 2)
-    go true = omega arith
-    go false = omega arith
-
--- an element whose contents are known
-prim-of : {xs : List ℕ} (tag p : ℕ) → identifier .write p ≡ xs → (prim tag identifier) .write p ≡ lead tag (length xs) ++ xs
-prim-of tag p e = prim-write tag identifier p ∙ ap (λ (ys : List ℕ). lead tag (length ys) ++ ys) e
+id-range p =
+    let two : List ℕ = p / 256 % 256 ∷ p % 256 ∷ [] in
+    rw (pair-octets p) (by-test (λ xs. (1 ≤ length xs) × (length xs ≤ 2)) (shortest two) two (p % 256 ∷ []) (omega arith) (omega arith))
 
 pub id-low : (tag p : ℕ) → p < 128 → (prim tag identifier) .write p ≡ tag ∷ 1 ∷ p ∷ []
-id-low tag p h = prim-of tag p (id-low-write p h) ∙ ap (λ (a : List ℕ). a ++ (p ∷ [])) (lead-short tag 1 (omega arith))
+unfolding prim lengthOctets
+id-low tag p h = rw (id-low-write p h)
 
 pub id-high : (tag p : ℕ) → 65408 ≤ p → p < 65536 → (prim tag identifier) .write p ≡ tag ∷ 1 ∷ p % 256 ∷ []
-id-high tag p l h = prim-of tag p (id-high-write p l h) ∙ ap (λ (a : List ℕ). a ++ (p % 256 ∷ [])) (lead-short tag 1 (omega arith))
+unfolding prim lengthOctets
+id-high tag p l h = rw (id-high-write p l h)
 
 pub id-two : (tag p : ℕ) → 128 ≤ p → p < 65408 → (prim tag identifier) .write p ≡ tag ∷ 2 ∷ p / 256 ∷ p % 256 ∷ []
-id-two tag p l h = prim-of tag p (id-two-write p l h) ∙ ap (λ (a : List ℕ). a ++ (p / 256 ∷ p % 256 ∷ [])) (lead-short tag 2 (omega arith))
+unfolding prim lengthOctets
+id-two tag p l h = rw (id-two-write p l h)
 
 pub id-length : (tag p : ℕ) → length ((prim tag identifier) .write p) ≡ 2 + length (identifier .write p)
 id-length tag p =

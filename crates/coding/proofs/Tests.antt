@@ -1,30 +1,12 @@
 -- Tests joined by `and`, in any order, and the tests that the code makes: the rules by which a search finds that a function's test is a type's.
--- Assumes nothing.
-use Prim.Native.Nat.{ℕ}
-use mathlib.Core.Path.{_≡_, refl, sym}
-use mathlib.Core.Bool.{Bool, true, false, _&&_, and-comm}
-use lib.Dec.{eqb}
-use borrow.Author.Tests.{eq-eqb, ne-eqb, le-leb, lt-leb}
+use Rattle.prelude.proofs.Prelude.{ℕ, _≡_, refl, sym, Bool, true, false, _&&_, and-comm, eqb, eq-eqb, ne-eqb, le-leb, lt-leb}
+pub use mathlib.Core.Bool.{and-assoc, and-true, and-false}
 
 -- ---- in any order
 
-pub and-assoc : (a b c : Bool) → (a && b) && c ≡ a && (b && c)
-and-assoc true b c = refl
-and-assoc false b c = refl
-
 pub and-past : (a b c : Bool) → a && (b && c) ≡ b && (a && c)
-and-past true true c = refl
-and-past true false c = refl
-and-past false true c = refl
-and-past false false c = refl
-
-pub and-true : (a : Bool) → a && true ≡ a
-and-true true = refl
-and-true false = refl
-
-pub and-false : (a : Bool) → a && false ≡ false
-and-false true = refl
-and-false false = refl
+and-past true b c = refl
+and-past false b c = sym (and-false b)
 
 pub ruleset ands = (and-assoc, and-past, and-comm, and-true, and-false)
 

@@ -1,19 +1,7 @@
 -- What the laws say of a whole type: written octets read back as the value, octets read have one meaning, no octets are shorter and no others as short.
--- Assumes nothing.
-use Prim.Native.Nat.{ℕ, _+_, _≤_, _<_}
-use mathlib.Core.Path.{_≡_, refl, sym, ap, _∙_, subst}
-use mathlib.Core.List.{List, [], _++_, append-nil}
-use mathlib.Core.Bool.{true, not, _||_}
-use mathlib.Core.Logic.{_↔_}
-use native.Mathlib.Omega.{arith}
-use native.Mathlib.Nat.{zero-add}
-use lib.ListN.{length, getD, take}
-use lib.Seq.{take-length}
-use borrow.Author.Tests.{le-leb}
-use Rattle.coding.specs.Reader.{got}
-use Rattle.coding.specs.Codec.{Run}
-use Rattle.coding.proofs.Basic.{holds-there, holds-part, same-got}
-use Rattle.coding.proofs.Laws.{Octets, clear, RunLaws}
+use Rattle.prelude.proofs.Prelude.{ℕ, _+_, _≤_, _<_, _≡_, refl, sym, _∙_, List, _++_, true, _↔_, arith, zero-add, length, take-length}
+use Rattle.coding.specs.{Reader.got, Codec.Run}
+use Rattle.coding.proofs.{Basic.holds-there, Basic.holds-part, Basic.part-holds, Basic.same-got, Value.at-end, Laws.Octets, Laws.clear, Laws.RunLaws}
 
 -- the octets, whole, mean the value
 abbrev pub Encodes : {A : Type 0} → Run A → A → List ℕ → Type 0
@@ -31,15 +19,11 @@ module _ {A : Type 0} (f : Run A) (F : RunLaws f) where
   meaning-read : (bs : List ℕ) (x : A) → Encodes f x bs → f .read bs 0 (length bs) ≡ got x (length bs)
   meaning-read bs x m =
       F .complete bs 0 (length bs) (length bs) x (omega arith) (omega arith)
-      (ap (λ c. c || not (f .avoid (getD bs (length bs) 0))) (le-leb (length bs) (length bs) (omega arith))) m
+      (at-end (f .avoid) bs (length bs) (length bs) (omega arith)) m
 
   -- (1) a valid value that fits is written so that it means the value, and is read back
   pub means-itself : (x : A) → f .valid x ≡ true → length (f .write x) ≤ 65535 → Encodes f x (f .write x)
-  means-itself x v b =
-      let w = f .write x in
-      let m : f .Means x w 0 (0 + length w) =
-      subst (λ (s : List ℕ). f .Means x s 0 (0 + length w)) (append-nil w) (F .written (w ++ []) 0 x v b (holds-there [] w [])) in
-      subst (f .Means x w 0) (zero-add (length w)) m
+  means-itself x v b = rw zero-add at (F .written (f .write x) 0 x v b (part-holds (f .write x) 0 (f .write x) (omega arith) (take-length (f .write x))))
 
   pub reads-back : (x : A) → f .valid x ≡ true → length (f .write x) ≤ 65535 → f .read (f .write x) 0 (length (f .write x)) ≡ got x (length (f .write x))
   reads-back x v b = meaning-read (f .write x) x (means-itself x v b)
@@ -71,7 +55,7 @@ module _ {A : Type 0} (f : Run A) (F : RunLaws f) where
   pub the-shortest : (bs : List ℕ) (x : A) → Octets bs → length bs < 256 → Encodes f x bs → length bs ≡ length (f .write x) → bs ≡ f .write x
   the-shortest bs x os b m e =
       let h = F .only bs 0 (length bs) x os (omega arith) (omega arith) (omega arith) m in
-      sym (ap (λ (k : ℕ). take k bs) (sym e) ∙ take-length bs) ∙ holds-part bs 0 (f .write x) h
+      sym (take-length bs) ∙ rw e (holds-part bs 0 (f .write x) h)
 
 -- a statement that is an equation leaves one outcome: two results that meet it are equal
 pub one-outcome : {A : Type 0} {x y z : A} → x ≡ z → y ≡ z → x ≡ y

@@ -1,23 +1,9 @@
 -- Runs of stores: what several writes one after the other leave is one write of all their octets.
--- Assumes nothing.
-use Prim.Native.Nat.{ℕ, suc, _+_, _-_, _%_, _≤_, _<_}
-use mathlib.Core.Path.{_≡_, refl, sym, ap, ap₂, _∙_, subst}
-use mathlib.Core.List.{List, [], _∷_, _++_}
-use mathlib.Core.Bool.{Bool, true, false, cond}
-use native.Mathlib.Omega.{arith}
-use native.Mathlib.Nat.{add-zero, add-suc, suc-add}
-use native.Mathlib.Numerals.{add-one, towards-suc}
-use lib.ListN.{length, getD, set, drop, take, length-append, length-set}
-use lib.Seq.{sets, take-suc, drop-cons}
-use lib.Dec.{ltb}
-use borrow.Author.Tests.{lt-ltb, le-ltb}
-use Rattle.coding.specs.Reader.{part}
-use Rattle.coding.specs.Contents.{every}
-use Rattle.coding.specs.Codec.{lengthOctets, Leaf, Run, prim, cons}
-use Rattle.coding.specs.Leaves.{width, digits, number}
-use Rattle.coding.specs.Written.{Wrote, lead, fullNumber}
-use Rattle.coding.proofs.Basic.{picked, unpicked}
-use Rattle.coding.proofs.Number.{length-digits}
+use Rattle.prelude.proofs.Prelude.{ℕ, suc, _+_, _-_, _/_, _%_, _^_, _≤_, _<_, _≡_, refl, sym, ap, ap₂, _∙_, subst, List, [], _∷_, _++_, Bool, true, false, cond, arith, add-zero, add-suc}
+use Rattle.prelude.proofs.Prelude.{suc-add, add-one, towards-suc, length, getD, set, drop, take, length-append, length-set, sets, take-suc, drop-cons, ltb, lt-ltb, le-ltb}
+use Rattle.coding.specs.{Reader.part, Contents.every, Codec.lengthOctets, Codec.Leaf, Codec.Run, Codec.prim, Codec.cons, Leaves.width, Leaves.digits, Leaves.number, Written.Wrote}
+use Rattle.coding.specs.{Written.Room, Written.lead, Written.fullNumber}
+use Rattle.coding.proofs.{Basic.picked, Basic.unpicked, Holds.tested, Number.length-digits}
 
 pub sets-append : (xs ys l : List ℕ) (i : ℕ) → sets l i (xs ++ ys) ≡ sets (sets l i xs) (i + length xs) ys
 sets-append [] ys l i = ap (λ (j : ℕ). sets l j ys) (sym (add-zero i))
@@ -72,7 +58,55 @@ wrote-3 l a x y z = record { kept = simp length-set; place = refl; stored = simp
 pub wrote-4 : (l : List ℕ) (a x y z w : ℕ) → Wrote l (set (set (set (set l a x) (a + 1) y) (a + 2) z) (a + 3) w) a (x ∷ y ∷ z ∷ w ∷ []) (a + 4)
 wrote-4 l a x y z w = record { kept = simp length-set; place = refl; stored = simp towards-suc }
 
+-- ---- room: where all octets fit, the first part fits, and the rest fits after it
+
+pub room-head : {l xs : List ℕ} (ys : List ℕ) {a : ℕ} → Room l a (xs ++ ys) → Room l a xs
+room-head {xs} ys h = record { fits = omega (arith, length-append xs ys) }
+
+pub room-tail : {l m xs ys : List ℕ} {a b : ℕ} → Wrote l m a xs b → Room l a (xs ++ ys) → Room m b ys
+room-tail {xs} {ys} w h = record { fits = omega (arith, length-append xs ys) }
+
+-- three parts: the second, and the third, which may be there only where a test holds
+pub room-middle : {l m xs ys : List ℕ} (zs : List ℕ) {a b : ℕ} → Wrote l m a xs b → Room l a (xs ++ (ys ++ zs)) → Room m b ys
+room-middle zs w h = room-head zs (room-tail w h)
+
+pub room-third : {l m n xs ys zs : List ℕ} {a b d : ℕ} → Wrote m n b ys d → Wrote l m a xs b → Room l a (xs ++ (ys ++ zs)) → Room n d zs
+room-third v w h = room-tail v (room-tail w h)
+
+pub room-as : {l xs ys : List ℕ} {a : ℕ} → Room l a xs → xs ≡ ys → Room l a ys
+room-as {l} {a} h e = subst (λ zs. Room l a zs) e h
+
+pub room-when : {l m n xs ys zs : List ℕ} {a b d : ℕ} (t : Bool) (us : List ℕ) → Wrote m n b ys d → Wrote l m a xs b → Room l a (xs ++ (ys ++ cond t zs us)) → t ≡ true
+    → Room n d zs
+room-when {zs} t us v w h e = room-as (room-third v w h) (picked zs us e)
+
+pub ruleset room = (room-head, room-tail, room-middle, room-as, wrote-both)
+
+-- octets in two parts, by an equation
+pub record Split (all xs ys : List ℕ) : Type 0 where
+  pub parts : all ≡ xs ++ ys
+
+pub split : (xs ys : List ℕ) → Split (xs ++ ys) xs ys
+split xs ys = record { parts = refl }
+
+pub split-length : {all xs ys : List ℕ} → Split all xs ys → length all ≡ length xs + length ys
+split-length {all} {xs} {ys} e = ap length (e .parts) ∙ length-append xs ys
+
+pub room-first : {l all xs ys : List ℕ} {a : ℕ} → Split all xs ys → Room l a all → Room l a xs
+room-first e h = room-head _ (room-as h (e .parts))
+
+pub room-rest : {l m all xs ys : List ℕ} {a b : ℕ} → Split all xs ys → Room l a all → Wrote l m a xs b → Room m b ys
+room-rest e h w = room-tail w (room-as h (e .parts))
+
+pub wrote-parts : {l m n all xs ys : List ℕ} {a b c : ℕ} → Split all xs ys → Wrote l m a xs b → Wrote m n b ys c → Wrote l n a all c
+wrote-parts e p q = wrote-as (sym (e .parts)) (wrote-both p q)
+
 -- ---- tag and length octets
+
+-- a lead and what follows it
+pub string-split : (tag n : ℕ) (xs : List ℕ) → Split (tag ∷ lengthOctets n ++ xs) (lead tag n) xs
+unfolding lead
+string-split tag n xs = record { parts = refl }
 
 pub lead-short : (tag n : ℕ) → n < 128 → lead tag n ≡ tag ∷ n ∷ []
 unfolding lead lengthOctets
@@ -88,9 +122,9 @@ lead-length-short tag n h = ap length (lead-short tag n h)
 pub lead-length-long : (tag n : ℕ) → 128 ≤ n → n < 256 → length (lead tag n) ≡ 3
 lead-length-long tag n l h = ap length (lead-long tag n l h)
 
-pub lead-length : (tag n : ℕ) → 1 ≤ length (lead tag n)
-unfolding lead
-lead-length tag n = omega arith
+pub lead-length : (tag n : ℕ) → 2 ≤ length (lead tag n)
+unfolding lead lengthOctets
+lead-length tag n = tested (ltb n 128) (λ q. rw q (omega arith)) (λ q. tested (ltb n 256) (λ r. rw (q, r) (omega arith)) (λ r. rw (q, r) (omega arith)))
 
 -- ---- a number's octets
 
@@ -98,23 +132,24 @@ pub digits-one : (n : ℕ) → n % 256 ∷ [] ≡ digits 1 n
 unfolding digits
 digits-one n = ap (λ (d : ℕ). d ∷ []) (omega arith)
 
+-- one octet more of a number
+pub wrote-digit : {l m : List ℕ} {a r : ℕ} (k n : ℕ) → Wrote (set l a (n / 256 ^ k % 256)) m (a + 1) (digits k n) r → Wrote l m a (digits (suc k) n) r
+unfolding digits
+wrote-digit k n p = wrote-cons p
+
 pub wrote-width : {l m : List ℕ} {a r : ℕ} (k w n : ℕ) → k ≡ w → Wrote l m a (digits k n) r → Wrote l m a (digits w n) r
 wrote-width {l} {m} {a} {r} k w n e p = subst (λ (j : ℕ). Wrote l m a (digits j n) r) e p
 
 -- lead and octets of a number whose width is w
-pub wrote-number : {l m k : List ℕ} {a b r : ℕ} (tag n w : ℕ) → w ≡ width n → Wrote l m a (lead tag w) b → Wrote m k b (digits w n) r → Wrote l k a (fullNumber tag n) r
+pub number-split : (tag n : ℕ) {w : ℕ} → w ≡ width n → Split (fullNumber tag n) (lead tag w) (digits w n)
 unfolding fullNumber
-wrote-number tag n w e p q = wrote-as (ap (λ (j : ℕ). lead tag j ++ digits j n) e) (wrote-both p q)
+number-split tag n e = record { parts = ap (λ (j : ℕ). lead tag j ++ digits j n) (sym e) }
 
 pub width-range : (n : ℕ) → (1 ≤ width n) × (width n ≤ 4)
 unfolding width
-width-range n = go (ltb n 0x80) (ltb n 0x8000) (ltb n 0x800000)
-  where
-    go : (t u v : Bool) → (1 ≤ cond t 1 (cond u 2 (cond v 3 4))) × (cond t 1 (cond u 2 (cond v 3 4)) ≤ 4)
-    go true u v = omega arith
-    go false true v = omega arith
-    go false false true = omega arith
-    go false false false = omega arith
+width-range n =
+    tested (ltb n 0x80) (λ q. rw q (omega arith)) (λ q. tested (ltb n 0x8000) (λ r. rw (q, r) (omega arith)) (λ r.
+    tested (ltb n 0x800000) (λ t. rw (q, r, t) (omega arith)) (λ t. rw (q, r, t) (omega arith))))
 
 pub number-length : (tag n : ℕ) → length (fullNumber tag n) ≡ 2 + width n
 unfolding fullNumber
@@ -136,6 +171,13 @@ prim-write tag l x = refl
 pub cons-write : {A : Type 0} (tag : ℕ) (f : Run A) (x : A) → (cons tag f) .write x ≡ lead tag (length (f .write x)) ++ f .write x
 unfolding cons lead
 cons-write tag f x = refl
+
+-- a lead that says how many octets of contents follow
+pub prim-split : {A : Type 0} (tag : ℕ) (l : Leaf A) (x : A) {n : ℕ} → n ≡ length (l .write x) → Split ((prim tag l) .write x) (lead tag n) (l .write x)
+prim-split tag l x e = record { parts = prim-write tag l x ∙ ap (λ (k : ℕ). lead tag k ++ l .write x) (sym e) }
+
+pub cons-split : {A : Type 0} (tag : ℕ) (f : Run A) (x : A) {n : ℕ} → n ≡ length (f .write x) → Split ((cons tag f) .write x) (lead tag n) (f .write x)
+cons-split tag f x e = record { parts = cons-write tag f x ∙ ap (λ (k : ℕ). lead tag k ++ f .write x) (sym e) }
 
 pub number-write : (tag low high n : ℕ) → (prim tag (number low high)) .write n ≡ fullNumber tag n
 unfolding number fullNumber

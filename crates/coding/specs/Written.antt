@@ -1,5 +1,5 @@
 -- What writing into a lent buffer leaves.
-use Prim.Native.Nat.{ℕ, _+_}
+use Prim.Native.Nat.{ℕ, _+_, _≤_}
 use mathlib.Core.Path.{_≡_}
 use mathlib.Core.List.{List, _∷_, _++_}
 use lib.ListN.{length}
@@ -12,6 +12,10 @@ pub record Wrote (before after : List ℕ) (at : ℕ) (xs : List ℕ) (next : �
   pub place : next ≡ at + length xs
   pub kept : length after ≡ length before
   pub stored : after ≡ sets before at xs
+
+-- the octets xs fit from place at on
+pub record Room (buf : List ℕ) (at : ℕ) (xs : List ℕ) : Type 0 where
+  pub fits : at + length xs ≤ length buf
 
 -- tag and shortest length octets of n
 unfoldable pub lead : ℕ → ℕ → List ℕ

@@ -1,16 +1,9 @@
 -- One row more: of the counts, and of the events.
-use mathlib.Core.Path.{_≡_, refl, sym, ap, _∙_}
-use Prim.Native.Nat.{ℕ, zero, suc, _+_, _-_, _*_, _/_, _%_, _≤_, _<_}
-use native.Mathlib.Nat.{sub-zero}
-use native.Mathlib.Omega.{arith}
-use mathlib.Core.Bool.{Bool, true, false, _&&_}
-use mathlib.Core.List.{List, [], _∷_}
-use lib.ListN.{length, getD, take, drop}
-use lib.Dec.{leb, eqb}
-use borrow.Author.Tests.{le-leb, lt-leb, leb-true, eq-eqb, ne-eqb}
+use Rattle.prelude.proofs.Prelude.{_≡_, refl, sym, ap, _∙_, ℕ, zero, suc, _+_, _-_, _/_, _%_, _≤_, _<_, sub-zero, arith, true, false, _&&_, List, [], _∷_, length, take, drop, leb, eqb}
+use Rattle.prelude.proofs.Prelude.{le-leb, lt-leb, leb-true}
 use Rattle.phases.specs.Phases.{event}
 use Rattle.events.specs.Events.{rowAt, countAt, rowsFit, addsUp, eventsFrom, eventsOf, Going}
-use Rattle.coding.proofs.Basic.{and-right}
+use Rattle.coding.proofs.Basic.{and-left, and-right}
 
 left-more : (i n : ℕ) → i < n → n - i ≡ suc (n - (i + 1))
 left-more i n h = omega arith
@@ -25,11 +18,13 @@ module _ (rows : List ℕ) (i n left : ℕ) where
   unfolding rowsFit
   fits-step h = rw (left-more i n h) refl
 
-  pub fits-more : i < n → countAt rows i ≤ left → rowsFit rows i (n - i) left ≡ rowsFit rows (i + 1) (n - (i + 1)) (left - countAt rows i)
-  fits-more h k = fits-step h ∙ simp (le-leb (countAt rows i) left k)
+  -- (the code's count is c)
+  module _ (c : ℕ) (e : c ≡ countAt rows i) (h : i < n) where
+    pub fits-more : c ≤ left → rowsFit rows i (n - i) left ≡ rowsFit rows (i + 1) (n - (i + 1)) (left - c)
+    fits-more k = fits-step h ∙ rw (← e, le-leb c left k)
 
-  pub fits-short : i < n → left < countAt rows i → rowsFit rows i (n - i) left ≡ false
-  fits-short h k = fits-step h ∙ simp (lt-leb (countAt rows i) left k)
+    pub fits-short : left < c → rowsFit rows i (n - i) left ≡ false
+    fits-short k = fits-step h ∙ rw (← e, lt-leb c left k)
 
   pub fits-end : n ≤ i → rowsFit rows i (n - i) left ≡ eqb left 0
   unfolding rowsFit
@@ -37,37 +32,21 @@ module _ (rows : List ℕ) (i n left : ℕ) where
 
   -- where they fit, the next one does
   fits-one : i < n → rowsFit rows i (n - i) left ≡ true → countAt rows i ≤ left
-  fits-one h e = go (leb (countAt rows i) left) refl (sym (fits-step h) ∙ e)
-    where
-      go : (t : Bool) → leb (countAt rows i) left ≡ t → (t && rowsFit rows (i + 1) (n - (i + 1)) (left - countAt rows i)) ≡ true → countAt rows i ≤ left
-      go true q z = leb-true (countAt rows i) left q
-      go false q z = let y : _≡_ {A = ℕ} 0 1 = cc in absurd (omega arith)
+  fits-one h e = leb-true (countAt rows i) left (and-left (leb (countAt rows i) left) _ (sym (fits-step h) ∙ e))
 
 -- (native ℕ does not compute `n - 0`)
 pub fits-start : (rows : List ℕ) (n left : ℕ) → rowsFit rows 0 (n - 0) left ≡ rowsFit rows 0 n left
 fits-start rows n left = ap (λ (k : ℕ). rowsFit rows 0 k left) (sub-zero n)
 
-module _ (rows : List ℕ) (total : ℕ) where
-  pub adds-odd : ((length rows % 6 ≡ 0) → ⊥) → addsUp rows total ≡ false
-  unfolding addsUp
-  adds-odd h = simp (ne-eqb (length rows % 6) 0 h)
-
-  pub adds-whole : length rows % 6 ≡ 0 → addsUp rows total ≡ rowsFit rows 0 (length rows / 6) total
-  unfolding addsUp
-  adds-whole h = rw (eq-eqb (length rows % 6) 0 h) refl
-
-  adds-fits : addsUp rows total ≡ true → rowsFit rows 0 (length rows / 6) total ≡ true
-  unfolding addsUp
-  adds-fits e = and-right (eqb (length rows % 6) 0) (rowsFit rows 0 (length rows / 6) total) e
-
 -- ---- a loop over the rows: where it begins, a turn of it, the events that the turn sees, and its end
 
 module _ (rows octets : List ℕ) where
   pub begins : addsUp rows (length octets) ≡ true → Going rows octets 0 0
+  unfolding addsUp
   begins e = record {
     row = omega arith;
     place = omega arith;
-    rest = ap (λ (m : ℕ). rowsFit rows 0 (length rows / 6 - 0) m) (sub-zero (length octets)) ∙ fits-start rows (length rows / 6) (length octets) ∙ adds-fits rows (length octets) e;
+    rest = ap (λ (m : ℕ). rowsFit rows 0 (length rows / 6 - 0) m) (sub-zero (length octets)) ∙ fits-start rows (length rows / 6) (length octets) ∙ and-right (eqb (length rows % 6) 0) _ e;
   }
 
   pub from-start : eventsFrom rows octets 0 (length rows / 6 - 0) 0 ≡ eventsOf rows octets
@@ -93,7 +72,7 @@ module _ (rows octets : List ℕ) where
           record {
             row = omega arith;
             place = omega arith;
-            rest = ap (λ (j : ℕ). rowsFit rows (i + 1) (length rows / 6 - (i + 1)) j) m ∙ sym (fits-more rows i (length rows / 6) (length octets - at) more k) ∙ going .rest;
+            rest = ap (λ (j : ℕ). rowsFit rows (i + 1) (length rows / 6 - (i + 1)) j) m ∙ sym (fits-more rows i (length rows / 6) (length octets - at) _ refl more k) ∙ going .rest;
           }
 
       pub next-event : (c : ℕ) → c ≡ countAt rows i → eventsFrom rows octets i (length rows / 6 - i) at

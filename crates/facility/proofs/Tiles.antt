@@ -1,22 +1,11 @@
 -- An accepted element is cut into components, and an element made of components is accepted.
--- Assumes nothing.
-use Prim.Native.Nat.{ℕ, zero, suc, _+_, _-_, _≤_, _<_}
-use native.Mathlib.Omega.{arith}
-use mathlib.Core.Path.{_≡_, refl, sym, ap, _∙_, subst}
-use mathlib.Core.Bool.{Bool, true, false, cond}
-use mathlib.Core.List.{List, [], _∷_, _++_, append-assoc, append-nil}
-use lib.ListN.{length, getD, take, drop, length-append, take-append-drop, List·getD-append}
-use lib.Seq.{drop-length, take-append-seam, drop-drop, getD-take, getD-drop, getD-append-add}
-use lib.Dec.{ltb, eqb}
-use borrow.Author.Tests.{ltb-true, eqb-true, eq-eqb, ne-eqb, lt-ltb}
-use Rattle.coding.specs.declared.Extent.{Extent}
-use Rattle.coding.specs.Reader.{Ans, after, part, lengthAt}
-use Rattle.coding.specs.Reader.Ans.{got, halt}
-use Rattle.coding.specs.Codec.{Element, pad}
-use Rattle.coding.proofs.Basic.{never, chain, same-got, picked, unpicked, followed, and-left}
-use Rattle.coding.proofs.Header.{read-element, element-read, element-range}
-use Rattle.coding.proofs.Moved.{Same, element-moved}
-use Rattle.coding.proofs.Parts.{part-length}
+use Rattle.prelude.proofs.Prelude.{ℕ, zero, suc, _+_, _-_, _≤_, _<_, arith, _≡_, refl, sym, ap, _∙_, Bool, true, false, cond, List, [], _∷_, _++_, append-assoc, append-nil, length, getD}
+use Rattle.prelude.proofs.Prelude.{take, drop, length-append, take-append-drop, List·getD-append, drop-length, take-append-seam, drop-drop, getD-take, getD-drop, getD-append-add, ltb, eqb}
+use Rattle.prelude.proofs.Prelude.{ltb-true, eqb-true, eq-eqb, ne-eqb, lt-ltb}
+use Rattle.coding.{specs.declared.Extent.Extent, specs.Reader.Ans, specs.Reader.part, specs.Reader.lengthAt, specs.Reader.Ans.got, specs.Reader.Ans.halt, specs.Codec.Element}
+use Rattle.coding.{specs.Codec.pad, proofs.Basic.Given, proofs.Basic.it, proofs.Basic.void, proofs.Basic.granted, proofs.Basic.known, proofs.Basic.choose, proofs.Basic.bind}
+use Rattle.coding.{proofs.Basic.picked, proofs.Basic.unpicked, proofs.Basic.followed, proofs.Basic.and-left, proofs.Header.read-element, proofs.Header.element-read}
+use Rattle.coding.{proofs.Header.element-range, proofs.Moved.Same, proofs.Moved.element-moved, proofs.Parts.part-length}
 use Rattle.facility.specs.Element.{tiled, led, startsFound, malformed, elementOf}
 use Rattle.facility.specs.Parts.{startsOf, firstOr, partsOf, joined, Tile, Tiles, placesOf}
 
@@ -58,23 +47,14 @@ cut-here s i ys {v} {n} e rest =
       begins = refl;
     }
 
-cut : (turns : ℕ) (s : List ℕ) (i : ℕ) (xs : List ℕ) {last : ℕ} → i ≤ length s → tiled turns s i (length s) ≡ got xs last → Cut s i xs
+cut : (turns : ℕ) (s : List ℕ) (i : ℕ) → i ≤ length s → Given (λ xs last. Cut s i xs) (tiled turns s i (length s))
 unfolding tiled
-cut zero s i xs h e = absurd (never e)
-cut (suc turns) s i xs {last} h e = go (eqb i (length s)) refl e (λ n ys m. cut turns s n ys {last = m})
-  where
-    go : (b : Bool) → eqb i (length s) ≡ b
-        → cond b (got [] i)
-        (after (lengthAt i s (i + 1) (length s)) (λ contents next. after (tiled turns s next (length s)) (λ starts last. got (i ∷ starts) last))) ≡ got xs last
-        → ((n : ℕ) (ys : List ℕ) (m : ℕ) → n ≤ length s → tiled turns s n (length s) ≡ got ys m → Cut s n ys)
-        → Cut s i xs
-    go true q r more =
-        let z : length s ≡ i = sym (eqb-true i (length s) q) in
-        same-got (λ ys m. Cut s i ys) r (record { whole = sym (subst (λ (k : ℕ). drop k s ≡ []) z (drop-length s)); fine = tt; begins = z })
-    go false q r more =
-        let a = chain _ _ r in
-        let b = chain _ _ (a .3) in
-        same-got (λ ys m. Cut s i ys) (b .3) (cut-here s i (b .0) (a .2) (more (a .1) (b .0) (b .1) (part-tile s i (a .2) .1) (b .2)))
+cut zero s i h = void
+cut (suc turns) s i h =
+    choose (eqb i (length s))
+    (λ q. let z = eqb-true i (length s) q in it (record { whole = rw z (sym (drop-length s)); fine = tt; begins = sym z }))
+    (λ q. bind (granted (lengthAt i s (i + 1) (length s)) (λ v n e. e)) (λ v n e.
+    bind (cut turns s n (part-tile s i e .1)) (λ ys m r. it (cut-here s i ys e r))))
 
 -- an answer of 0 is that of starts that were found
 pub answer-found : (b : Bool) (x : Ans (List ℕ)) → (cond b (startsFound x) malformed) .number ≡ 0
@@ -95,7 +75,7 @@ unfolding elementOf
 tiles s e =
     let a = answer-found (led s) (tiled (length s) s 3 (length s)) e in
     let h = led-long s (a .0) in
-    let d = cut (length s) s 3 (a .1 .0) (omega (arith, h)) (a .1 .2) in
+    let d = known (cut (length s) s 3 (omega (arith, h))) (a .1 .2) in
     rw (a .1 .3) (d .whole, d .fine)
 
 -- ---- an element made of components is accepted

@@ -25,13 +25,6 @@ fn refused() -> Starts
     }
 }
 
-fn wide(x: u8) -> usize
-    ensures { λ r. ⌜ r ≡ x ⌝ }
-    ensures small { λ r. ⌜ r < 256 ⌝ }
-{
-    x as usize
-}
-
 // Whether the first three octets are right and something comes after them.
 fn is_led(octets: &[u8]) -> bool
     ensures { λ r. ⌜ r ≡ led (now (octets .entry)) ⌝ }
@@ -43,7 +36,7 @@ fn is_led(octets: &[u8]) -> bool
     if octets[0] != 0x1c {
         return false;
     }
-    if wide(octets[1]) != octets.len() - 2 {
+    if read_lengths::wide(octets[1]) != octets.len() - 2 {
         return false;
     }
     octets[2] == 0x91
@@ -60,7 +53,7 @@ fn starts_from(octets: &[u8]) -> Starts
     let mut count: usize = 0;
     let mut at: usize = 3;
     while at < end {
-        let tile = read_elements::open_at(octets, at, end, octets[at]);
+        let tile = read_lengths::open_at(octets, at, end, octets[at]);
         if tile.fault != 0 {
             return refused();
         }

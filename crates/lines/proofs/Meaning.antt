@@ -1,22 +1,11 @@
 -- What the program prints: the machine's text, once the input ends, is `outputOf` the input, however the input comes in parts.
--- Assumes nothing.
-use Prim.Native.Nat.{ℕ, _+_, _-_, _*_, _≤_, _<_, min}
-use mathlib.Core.Path.{_≡_, refl, sym, ap, _∙_}
-use mathlib.Core.List.{List, [], _∷_, _++_, append-nil, append-assoc}
-use mathlib.Core.Bool.{Bool, true, false, _&&_, cond}
-use native.Mathlib.Omega.{arith}
-use native.Mathlib.Nat.{mod-eq-of-lt}
-use native.Mathlib.Numerals.{add-one}
-use lib.ListN.{length, take, set, length-append, length-set}
-use lib.Seq.{take-all, take-append-le, take-suc-set}
-use lib.Dec.{leb, ltb, eqb}
-use borrow.Author.Tests.{le-leb, lt-leb, lt-ltb, ltb-true, ltb-false, leb-false, ne-eqb, eq-eqb}
+use Rattle.prelude.proofs.Prelude.{ℕ, _+_, _*_, _≤_, _<_, min, _≡_, refl, sym, ap, _∙_, List, [], _∷_, _++_, append-nil, append-assoc, Bool, _&&_, cond, arith, mod-eq-of-lt, add-one, length}
+use Rattle.prelude.proofs.Prelude.{take, set, length-append, length-set, take-all, take-append-le, take-suc-set, leb, ltb, eqb, lt-ltb, ltb-true, ltb-false, ne-eqb, eq-eqb, eqb-true}
 use Rattle.types.specs.Frames.{readWhole, readOf}
-use Rattle.lines.specs.declared.input.Line.{Line}
-use Rattle.lines.specs.Text.{refusedText}
-use Rattle.lines.specs.Lines.{digitOf, Meant, octetThen, pairs, lineOf, textFor, answerTo, before, linesOf, answersTo, outputOf}
-use Rattle.lines.specs.Lines.Meant.{bad, octets}
-use Rattle.lines.specs.Machine.{state, madeLine, newLine, badLine, stepLine, stepOctets, octetOf, answerText, turn, turns, ended}
+use Rattle.lines.specs.{declared.input.Line.Line, Text.refusedText, Lines.digitOf, Lines.Meant, Lines.octetThen, Lines.pairs, Lines.lineOf, Lines.textFor, Lines.answerTo, Lines.before}
+use Rattle.lines.specs.{Lines.linesOf, Lines.answersTo, Lines.outputOf, Lines.Meant.bad, Lines.Meant.octets, Machine.state, Machine.newLine, Machine.stepLine, Machine.stepOctets}
+use Rattle.lines.specs.{Machine.octetOf, Machine.answerText, Machine.turn, Machine.turns, Machine.ended}
+use Rattle.lines.proofs.Steps.{by-test, fed-none, fed-first, fed-second, fed-full}
 
 -- ---- a line's octets as its characters come, however many
 
@@ -29,10 +18,10 @@ data Stage : Type 0 where
   wrong : Stage
 
 first : List ℕ → ℕ → Stage
-first os d = cond (leb 16 d) wrong (half os d)
+first os d = cond (ltb d 16) (half os d) wrong
 
 second : List ℕ → ℕ → ℕ → Stage
-second os h d = cond (leb 16 d) wrong (whole (os ++ (h * 16 + d) ∷ []))
+second os h d = cond (ltb d 16) (whole (os ++ (h * 16 + d) ∷ [])) wrong
 
 step : Stage → ℕ → Stage
 step begun c = first [] (digitOf c)
@@ -63,57 +52,35 @@ unfolding steps step
 steps-wrong [] = refl
 steps-wrong (c ∷ s) = steps-wrong s
 
--- a test and its contrary
-digit-test : (d : ℕ) → ltb d 16 ≡ true → leb 16 d ≡ false
-digit-test d e = lt-leb 16 d (ltb-true d 16 e)
+-- two characters, and two digits before what comes
+abbrev both : ℕ → ℕ → Bool
+both a b = ltb (digitOf a) 16 && ltb (digitOf b) 16
 
-no-digit : (d : ℕ) → ltb d 16 ≡ false → leb 16 d ≡ true
-no-digit d e = le-leb 16 d (ltb-false d 16 e)
+abbrev with-octet : List ℕ → ℕ → ℕ → List ℕ
+with-octet os a b = os ++ (digitOf a * 16 + digitOf b) ∷ []
 
-led-joined : (os : List ℕ) (a b : ℕ) (m : Meant) → ltb (digitOf a) 16 ≡ true → ltb (digitOf b) 16 ≡ true
-    → joined (os ++ (digitOf a * 16 + digitOf b) ∷ []) m ≡ joined os (octetThen a b m)
+step-both : (os : List ℕ) (a b : ℕ) → step (first os (digitOf a)) b ≡ cond (both a b) (whole (with-octet os a b)) wrong
+unfolding step first second
+step-both os a b = by-test (ltb (digitOf a) 16) (λ e. rw e) (λ e. rw e)
+
+joined-both : (os : List ℕ) (a b : ℕ) (m : Meant) → joined os (octetThen a b m) ≡ cond (both a b) (joined (with-octet os a b) m) bad
 unfolding octetThen
-led-joined os a b bad p q = refl
-led-joined os a b (octets ps) p q = rw (p, q) (ap octets (append-assoc os ((digitOf a * 16 + digitOf b) ∷ []) ps))
-
-led-wrong : (os : List ℕ) (a b : ℕ) (m : Meant) → (ltb (digitOf a) 16 && ltb (digitOf b) 16) ≡ false → bad ≡ joined os (octetThen a b m)
-unfolding octetThen
-led-wrong os a b bad p = refl
-led-wrong os a b (octets ps) p = rw p
+joined-both os a b bad = by-test (both a b) (λ e. rw e) (λ e. rw e)
+joined-both os a b (octets ps) = by-test (both a b) (λ e. rw e (ap octets (sym (append-assoc os ((digitOf a * 16 + digitOf b) ∷ []) ps)))) (λ e. rw e)
 
 -- after a space
 means-parted : (s os : List ℕ) → judged (steps (parted os) s) ≡ joined os (pairs s)
-unfolding steps step judged pairs first second
+unfolding steps step judged pairs first
 means-parted [] os = refl
-means-parted (a ∷ []) os = go (leb 16 (digitOf a))
-  where
-    go : (x : Bool) → judged (cond x wrong (half os (digitOf a))) ≡ bad
-    go true = refl
-    go false = refl
-means-parted (a ∷ b ∷ []) os = go (ltb (digitOf a) 16) (ltb (digitOf b) 16) refl refl
-  where
-    go : (x y : Bool) → ltb (digitOf a) 16 ≡ x → ltb (digitOf b) 16 ≡ y
-        → judged (step (first os (digitOf a)) b) ≡ joined os (octetThen a b (octets []))
-    go true true p q =
-        let x = (digitOf a * 16 + digitOf b) ∷ [] in
-        rw (digit-test (digitOf a) p, digit-test (digitOf b) q)
-        (ap octets (sym (append-nil (os ++ x))) ∙ led-joined os a b (octets []) p q)
-    go true false p q = rw (digit-test (digitOf a) p, no-digit (digitOf b) q) (led-wrong os a b (octets []) (rw (p, q)))
-    go false y p q = rw (no-digit (digitOf a) p) (led-wrong os a b (octets []) (rw p))
+means-parted (a ∷ []) os = by-test (ltb (digitOf a) 16) (λ e. rw e) (λ e. rw e)
+means-parted (a ∷ b ∷ []) os =
+    rw (step-both os a b, joined-both os a b (octets [])) (by-test (both a b) (λ e. rw e (ap octets (sym (append-nil (with-octet os a b))))) (λ e. rw e))
 means-parted (a ∷ b ∷ c ∷ s) os =
-    go (ltb (digitOf a) 16) (ltb (digitOf b) 16) (eqb c 32) refl refl refl (means-parted s (os ++ (digitOf a * 16 + digitOf b) ∷ []))
-  where
-    go : (x y z : Bool) → ltb (digitOf a) 16 ≡ x → ltb (digitOf b) 16 ≡ y → eqb c 32 ≡ z
-        → judged (steps (parted (os ++ (digitOf a * 16 + digitOf b) ∷ [])) s) ≡ joined (os ++ (digitOf a * 16 + digitOf b) ∷ []) (pairs s)
-        → judged (steps (step (step (first os (digitOf a)) b) c) s) ≡ joined os (cond (eqb c 32) (octetThen a b (pairs s)) bad)
-    go true true true p q r ih =
-        rw (digit-test (digitOf a) p, digit-test (digitOf b) q, r) (ih ∙ led-joined os a b (pairs s) p q)
-    go true true false p q r ih = rw (digit-test (digitOf a) p, digit-test (digitOf b) q, r, steps-wrong s)
-    go true false true p q r ih =
-        rw (digit-test (digitOf a) p, no-digit (digitOf b) q, r, steps-wrong s) (led-wrong os a b (pairs s) (rw (p, q)))
-    go true false false p q r ih = rw (digit-test (digitOf a) p, no-digit (digitOf b) q, r, steps-wrong s)
-    go false y true p q r ih = rw (no-digit (digitOf a) p, r, steps-wrong s) (led-wrong os a b (pairs s) (rw p))
-    go false y false p q r ih = rw (no-digit (digitOf a) p, r, steps-wrong s)
+    let ih = means-parted s (with-octet os a b) in
+    let w : judged (steps wrong s) ≡ bad = ap judged (steps-wrong s) in
+    rw (step-both os a b) (by-test (eqb c 32)
+    (λ e. rw (e, joined-both os a b (pairs s)) (by-test (both a b) (λ f. rw (f, e) ih) (λ f. rw f w)))
+    (λ e. rw e (by-test (both a b) (λ f. rw (f, e) w) (λ f. rw f w))))
 
 joined-none : (m : Meant) → joined [] m ≡ m
 joined-none bad = refl
@@ -164,38 +131,23 @@ kept-full os o n x e r k =
 
 module _ (l : Line) (o : List ℕ) (c : ℕ) where
   keeps-first : (os : List ℕ) → l .phase ≤ 1 → Kept os (l .count) o → Keeps (first os (digitOf c)) (stepLine l c) (stepOctets l c o)
-  unfolding first stepLine stepOctets
-  keeps-first os h k =
-      let h₄ : l .phase ≡ 4 → ⊥ = λ e. omega arith in
-      let h₃ : l .phase ≡ 3 → ⊥ = λ e. omega arith in
-      let h₂ : l .phase ≡ 2 → ⊥ = λ e. omega arith in
-      rw (ne-eqb (l .phase) 4 h₄, ne-eqb (l .phase) 3 h₃, ne-eqb (l .phase) 2 h₂) (go (leb 16 (digitOf c)) refl)
-    where
-      go : (b : Bool) → leb 16 (digitOf c) ≡ b
-          → Keeps (cond b wrong (half os (digitOf c))) (cond b badLine (madeLine (l .count) 2 (digitOf c))) o
-      go true e = refl
-      go false e = (refl, refl, leb-false 16 (digitOf c) e, k)
+  unfolding first
+  keeps-first os h k = by-test (ltb (digitOf c) 16)
+      (λ e. let f = fed-first l c o (λ x. omega arith) (λ x. omega arith) (λ x. omega arith) (ltb-true (digitOf c) 16 e) in rw (e, ← f .0, ← f .1) (refl, refl, ltb-true (digitOf c) 16 e, k))
+      (λ e. rw (e, ← fed-none l c o (λ x. omega arith) (λ x. omega arith) (ltb-false (digitOf c) 16 e) .0))
 
   keeps-second : (os : List ℕ) (h : ℕ) → length o ≡ 254 → l .phase ≡ 2 → l .high ≡ h → h < 16 → Kept os (l .count) o
       → Keeps (second os h (digitOf c)) (stepLine l c) (stepOctets l c o)
-  unfolding second stepLine stepOctets
-  keeps-second os h e p q r k = rw (p, q) (go (leb 16 (digitOf c)) (ltb (l .count) 254) refl refl)
-    where
-      go : (b f : Bool) → leb 16 (digitOf c) ≡ b → ltb (l .count) 254 ≡ f
-          → Keeps (cond b wrong (whole (os ++ (h * 16 + digitOf c) ∷ [])))
-          (cond b badLine (cond f (madeLine (l .count + 1) 3 0) (madeLine 255 3 0)))
-          (cond b o (cond f (set o (l .count) (octetOf h (digitOf c))) o))
-      go true f x y = refl
-      go false true x y = (refl, kept-more os o (l .count) h (digitOf c) e r (leb-false 16 (digitOf c) x) (ltb-true (l .count) 254 y) k)
-      go false false x y = (refl, kept-full os o (l .count) (h * 16 + digitOf c) e (ltb-false (l .count) 254 y) k)
+  unfolding second
+  keeps-second os h e p q r k = by-test (ltb (digitOf c) 16)
+      (λ x. let d = ltb-true (digitOf c) 16 x in by-test (ltb (l .count) 254)
+      (λ y. let n = ltb-true (l .count) 254 y in let f = fed-second l c o p n d in rw (x, ← f .0, ← f .1, q) (refl, kept-more os o (l .count) h (digitOf c) e r d n k))
+      (λ y. let n = ltb-false (l .count) 254 y in let f = fed-full l c o p n d in rw (x, ← f .0, ← f .1) (refl, kept-full os o (l .count) (h * 16 + digitOf c) e n k)))
+      (λ x. rw (x, ← fed-none l c o (λ z. omega arith) (λ z. omega arith) (ltb-false (digitOf c) 16 x) .0))
 
   keeps-whole : (os : List ℕ) → l .phase ≡ 3 → Kept os (l .count) o → Keeps (cond (eqb c 32) (parted os) wrong) (stepLine l c) (stepOctets l c o)
   unfolding stepLine stepOctets
-  keeps-whole os p k = rw p (go (eqb c 32))
-    where
-      go : (b : Bool) → Keeps (cond b (parted os) wrong) (cond b (madeLine (l .count) 1 0) badLine) o
-      go true = (refl, k)
-      go false = refl
+  keeps-whole os p k = by-test (eqb c 32) (λ e. rw (p, e) (refl, k)) (λ e. rw (p, e))
 
   keeps-wrong : l .phase ≡ 4 → stepLine l c .phase ≡ 4
   unfolding stepLine
@@ -211,13 +163,16 @@ module _ (l : Line) (o : List ℕ) (c : ℕ) where
 
   held-length : length (stepOctets l c o) ≡ length o
   unfolding stepOctets
-  held-length = go (eqb (l .phase) 2) (leb 16 (digitOf c)) (ltb (l .count) 254)
-    where
-      go : (x y z : Bool) → length (cond x (cond y o (cond z (set o (l .count) (octetOf (l .high) (digitOf c))) o)) o) ≡ length o
-      go true true z = refl
-      go true false true = length-set o (l .count) (octetOf (l .high) (digitOf c))
-      go true false false = refl
-      go false y z = refl
+  held-length = by-test (eqb (l .phase) 2) (λ x. by-test (leb 16 (digitOf c)) (λ y. rw (x, y)) (λ y. by-test (ltb (l .count) 254)
+      (λ z. rw (x, y, z) (length-set o (l .count) (octetOf (l .high) (digitOf c)))) (λ z. rw (x, y, z)))) (λ x. rw x)
+
+  -- a line with a character is no longer at its start
+  step-opens : stepLine l c .phase ≡ 0 → ⊥
+  unfolding stepLine
+  step-opens = by-test (eqb (l .phase) 4) (λ x. rw x (λ z. omega (arith, eqb-true (l .phase) 4 x))) (λ x. by-test (eqb (l .phase) 3)
+      (λ y. by-test (eqb c 32) (λ u. rw (x, y, u) (λ z. omega arith)) (λ u. rw (x, y, u) (λ z. omega arith))) (λ y. by-test (leb 16 (digitOf c)) (λ u. rw (x, y, u) (λ z. omega arith))
+      (λ u. by-test (eqb (l .phase) 2) (λ v. by-test (ltb (l .count) 254) (λ w. rw (x, y, u, v, w) (λ z. omega arith)) (λ w. rw (x, y, u, v, w) (λ z. omega arith)))
+      (λ v. rw (x, y, u, v) (λ z. omega arith)))))
 
 -- ---- so its answer is the line's
 
@@ -227,15 +182,9 @@ reply-long os h = rw (lt-ltb 254 (length os) h)
 
 answer-good : (l : Line) (os o : List ℕ) → length o ≡ 254 → Kept os (l .count) o
     → cond (ltb (length o) (l .count)) (refusedText 3) (textFor (take (l .count) o)) ≡ textFor os
-answer-good l os o e k = go (ltb (length o) (l .count)) refl
-  where
-    go : (b : Bool) → ltb (length o) (l .count) ≡ b → cond b (refusedText 3) (textFor (take (l .count) o)) ≡ textFor os
-    go true f =
-        let h : 254 < length os = omega (arith, k .count, ltb-true (length o) (l .count) f) in
-        sym (reply-long os h)
-    go false f =
-        let h : length os ≤ 254 = omega (arith, k .count, ltb-false (length o) (l .count) f) in
-        ap textFor (k .held ∙ take-all 254 os h)
+answer-good l os o e k = by-test (ltb (length o) (l .count))
+    (λ f. rw f (sym (reply-long os (omega (arith, k .count, ltb-true (length o) (l .count) f)))))
+    (λ f. rw f (ap textFor (k .held ∙ take-all 254 os (omega (arith, k .count, ltb-false (length o) (l .count) f)))))
 
 answer-keeps : (q : Stage) (l : Line) (o : List ℕ) → length o ≡ 254 → Keeps q l o → answerText l o ≡ answerTo (judged q)
 unfolding answerText answerTo judged
@@ -269,76 +218,26 @@ unfolding steps
 steps-snoc [] q c = refl
 steps-snoc (d ∷ p) q c = steps-snoc p (step q d) c
 
--- a line with a character is no longer at its start
-abbrev Fresh : Stage → Type 0
-Fresh begun = Unit {0}
-Fresh (half os h) = ⊥
-Fresh (whole os) = ⊥
-Fresh (parted os) = ⊥
-Fresh wrong = ⊥
-
-step-fresh : (q : Stage) (c : ℕ) → Fresh (step q c) → ⊥
-unfolding step first second
-step-fresh begun c f = go (leb 16 (digitOf c)) f
-  where
-    go : (b : Bool) → Fresh (cond b wrong (half [] (digitOf c))) → ⊥
-    go true x = x
-    go false x = x
-step-fresh (half os h) c f = go (leb 16 (digitOf c)) f
-  where
-    go : (b : Bool) → Fresh (cond b wrong (whole (os ++ (h * 16 + digitOf c) ∷ []))) → ⊥
-    go true x = x
-    go false x = x
-step-fresh (whole os) c f = go (eqb c 32) f
-  where
-    go : (b : Bool) → Fresh (cond b (parted os) wrong) → ⊥
-    go true x = x
-    go false x = x
-step-fresh (parted os) c f = go (leb 16 (digitOf c)) f
-  where
-    go : (b : Bool) → Fresh (cond b wrong (half os (digitOf c))) → ⊥
-    go true x = x
-    go false x = x
-step-fresh wrong c f = f
-
-steps-fresh : (p : List ℕ) (q : Stage) (c : ℕ) → Fresh (steps (step q c) p) → ⊥
-unfolding steps
-steps-fresh [] q c f = step-fresh q c f
-steps-fresh (d ∷ p) q c f = steps-fresh p (step q c) d f
-
-fresh-phase : (q : Stage) (l : Line) (o : List ℕ) → Keeps q l o → l .phase ≡ 0 → Fresh q
-fresh-phase begun l o k e = tt
-fresh-phase (half os h) l o k e = absurd (omega (arith, k .0))
-fresh-phase (whole os) l o k e = absurd (omega (arith, k .0))
-fresh-phase (parted os) l o k e = absurd (omega (arith, k .0))
-fresh-phase wrong l o k e = absurd (omega arith)
-
 -- the machine's text from any place of an input on, where the characters p of a line have come
-said : (s p : List ℕ) (l : Line) (o t : List ℕ) → length o ≡ 254 → Keeps (steps begun p) l o
+said : (s p : List ℕ) (l : Line) (o t : List ℕ) → length o ≡ 254 → Keeps (steps begun p) l o → (l .phase ≡ 0 → length p ≡ 0)
     → ended (turns (state l o t) s) ≡ t ++ answersTo (onto p (linesOf s))
 unfolding turns ended linesOf answersTo steps turn
-said [] [] l o t e k = rw (k .0) (sym (append-nil t))
-said [] (c ∷ p) l o t e k =
-    let f : l .phase ≡ 0 → ⊥ = λ x. steps-fresh p begun c (fresh-phase (steps begun (c ∷ p)) l o k x) in
-    rw (ne-eqb (l .phase) 0 f)
+said [] [] l o t e k n = rw (k .0) (sym (append-nil t))
+said [] (c ∷ p) l o t e k n =
+    rw (ne-eqb (l .phase) 0 (λ x. omega (arith, n x)))
     (ap (λ (x : List ℕ). t ++ x) (answer-keeps (steps begun (c ∷ p)) l o e k ∙ ap answerTo (means (c ∷ p)) ∙ sym (append-nil (answerTo (lineOf (c ∷ p))))))
-said (c ∷ s) p l o t e k =
-    go (eqb c 10) refl
-    (said s [] newLine o (t ++ answerText l o) e (refl, kept-none o))
-    (said s (p ++ c ∷ []) (stepLine l c) (stepOctets l c o) t (held-length l o c ∙ e) (rw steps-snoc (keeps-step l o c (steps begun p) e k)))
-  where
-    go : (b : Bool) → eqb c 10 ≡ b
-        → ended (turns (state newLine o (t ++ answerText l o)) s) ≡ (t ++ answerText l o) ++ answersTo (linesOf s)
-        → ended (turns (state (stepLine l c) (stepOctets l c o) t) s) ≡ t ++ answersTo (onto (p ++ c ∷ []) (linesOf s))
-        → ended (turns (cond b (state newLine o (t ++ answerText l o)) (state (stepLine l c) (stepOctets l c o) t)) s)
-        ≡ t ++ answersTo (onto p (cond b ([] ∷ linesOf s) (before c (linesOf s))))
-    go true x ih jh =
-        ih ∙ append-assoc t (answerText l o) (answersTo (linesOf s))
-        ∙ ap (λ (y : List ℕ). t ++ (y ++ answersTo (linesOf s))) (answer-keeps (steps begun p) l o e k ∙ ap answerTo (means p))
-        ∙ ap (λ (y : List (List ℕ)). t ++ answersTo y) (sym (onto-end p (linesOf s)))
-    go false x ih jh = jh ∙ ap (λ (y : List (List ℕ)). t ++ answersTo y) (onto-before p c (linesOf s))
+said (c ∷ s) p l o t e k n =
+    let ih = said s [] newLine o (t ++ answerText l o) e (refl, kept-none o) (λ x. refl) in
+    let jh = said s (p ++ c ∷ []) (stepLine l c) (stepOctets l c o) t (held-length l o c ∙ e) (rw steps-snoc (keeps-step l o c (steps begun p) e k)) (λ x. absurd (step-opens l o c x)) in
+    by-test (eqb c 10)
+    (λ x. let f : turn (state l o t) c ≡ state newLine o (t ++ answerText l o) = rw x in
+    rw x (ap (λ q. ended (turns q s)) f ∙ ih ∙ append-assoc t (answerText l o) (answersTo (linesOf s))
+    ∙ ap (λ (y : List ℕ). t ++ (y ++ answersTo (linesOf s))) (answer-keeps (steps begun p) l o e k ∙ ap answerTo (means p))
+    ∙ ap (λ (y : List (List ℕ)). t ++ answersTo y) (sym (onto-end p (linesOf s)))))
+    (λ x. let f : turn (state l o t) c ≡ state (stepLine l c) (stepOctets l c o) t = rw x in
+    rw x (ap (λ q. ended (turns q s)) f ∙ jh ∙ ap (λ (y : List (List ℕ)). t ++ answersTo y) (onto-before p c (linesOf s))))
 
 -- the program's whole text for an input
 pub printed : (s o : List ℕ) → length o ≡ 254 → ended (turns (state newLine o []) s) ≡ outputOf s
 unfolding outputOf steps
-printed s o e = said s [] newLine o [] e (refl, kept-none o)
+printed s o e = said s [] newLine o [] e (refl, kept-none o) (λ x. refl)

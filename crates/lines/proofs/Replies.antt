@@ -1,22 +1,10 @@
 -- The answer to octets that are read: a refusal, or a record whose shortest form always can be written.
--- Assumes nothing.
-use Prim.Native.Nat.{ℕ, _+_, _≤_, _<_}
-use mathlib.Core.Path.{_≡_, sym, ap, _∙_}
-use mathlib.Core.List.{List, _++_}
-use mathlib.Core.Bool.{true}
-use mathlib.Core.Logic.{inl, inr}
-use native.Mathlib.Omega.{arith}
-use lib.ListN.{length, take, drop, length-append}
-use lib.Seq.{take-append-seam}
-use borrow.Author.Tests.{le-leb, ne-eqb}
+use Rattle.prelude.proofs.Prelude.{ℕ, _+_, _≤_, _<_, _≡_, sym, ap, _∙_, List, _++_, true, inl, inr, arith, length, take, drop, length-append, take-append-seam, le-leb, ne-eqb}
 use Rattle.coding.proofs.Laws.{Octets}
-use Rattle.types.specs.declared.Answer.{Answer}
-use Rattle.types.specs.Frames.{component, readOf, accepted}
-use Rattle.types.proofs.Theorems.{refusal, no-offset, read-fits}
-use Rattle.write.specs.declared.Written.{Written}
-use Rattle.write.specs.Outcome.{writeOf, leftOf, done}
-use Rattle.lines.specs.Text.{hexText, refusedText}
-use Rattle.lines.specs.Lines.{textFor}
+use Rattle.types.{specs.declared.Answer.Answer, specs.Frames.component, specs.Frames.readOf, specs.Frames.accepted, proofs.Theorems.refusal, proofs.Theorems.no-offset}
+use Rattle.types.{proofs.Theorems.read-fits}
+use Rattle.write.specs.{declared.Written.Written, Outcome.writeOf, Outcome.leftOf, Outcome.done}
+use Rattle.lines.specs.{Text.hexText, Text.refusedText, Lines.textFor}
 
 -- the writer has put the shortest form of what was read
 pub record Formed (s : List ℕ) (w : Written) (q : List ℕ) : Type 0 where
@@ -56,24 +44,16 @@ module _ (s : List ℕ) (a : Answer) (e : a ≡ readOf s) where
     form-fits : (component .valid (a .value) ≡ true) × (length (component .write (a .value)) ≤ 254)
     form-fits = let r = read-fits s (a .value) o (read-value h) in (r .0, omega (arith, r .1, r .2))
 
-    form-written : w ≡ done (length (component .write (a .value)))
-    unfolding writeOf
-    form-written =
+    form-put : (w ≡ done (length (component .write (a .value)))) × (q ≡ component .write (a .value) ++ drop (length (component .write (a .value))) p)
+    unfolding writeOf leftOf
+    form-put =
         let l : length (component .write (a .value)) ≤ length p = omega (arith, form-fits .1) in
-        f ∙ rw (form-fits .0, le-leb _ 254 (form-fits .1), le-leb _ (length p) l)
-
-    form-left : q ≡ component .write (a .value) ++ drop (length (component .write (a .value))) p
-    unfolding leftOf
-    form-left =
-        let l : length (component .write (a .value)) ≤ length p = omega (arith, form-fits .1) in
-        g ∙ rw (form-fits .0, le-leb _ 254 (form-fits .1), le-leb _ (length p) l)
-
-    form-count : w .count ≡ length (component .write (a .value))
-    form-count = ap (λ (z : Written). z .count) form-written
+        (f ∙ rw (form-fits .0, le-leb _ 254 (form-fits .1), le-leb _ (length p) l), g ∙ rw (form-fits .0, le-leb _ 254 (form-fits .1), le-leb _ (length p) l))
 
     pub formed : Formed s w q
     formed =
         let x = component .write (a .value) in
-        let l : length q ≡ length x + length (drop (length x) p) = ap length form-left ∙ length-append x (drop (length x) p) in
-        let t : take (w .count) q ≡ x = rw (form-count, form-left) (take-append-seam x (drop (length x) p)) in
-        record { accepted = ap (λ (z : Written). z .number) form-written; inside = omega (arith, form-count); few = omega (arith, form-count, form-fits .1); text = ap hexText t ∙ reply-accepted h }
+        let n : w .count ≡ length x = ap (λ (z : Written). z .count) (form-put .0) in
+        let l : length q ≡ length x + length (drop (length x) p) = ap length (form-put .1) ∙ length-append x (drop (length x) p) in
+        let t : take (w .count) q ≡ x = rw (n, form-put .1) (take-append-seam x (drop (length x) p)) in
+        record { accepted = ap (λ (z : Written). z .number) (form-put .0); inside = omega arith; few = omega (arith, form-fits .1); text = ap hexText t ∙ reply-accepted h }

@@ -1,75 +1,26 @@
 -- The machine's steps: digits, whole octets, and characters heard one after the other.
--- Assumes nothing.
-use Prim.Native.Nat.{ℕ, _+_, _-_, _≤_, _<_}
-use mathlib.Core.Path.{_≡_, refl, sym, ap, _∙_}
-use mathlib.Core.List.{List, [], _∷_, _++_}
-use mathlib.Core.Bool.{Bool, true, false, cond}
-use native.Mathlib.Omega.{arith}
-use native.Mathlib.Nat.{sub-zero}
-use lib.ListN.{length, getD, set}
-use lib.Seq.{take-all}
-use lib.Dec.{leb, eqb}
-use borrow.Author.Tests.{le-leb, lt-leb, lt-ltb, le-ltb, ne-eqb, eq-eqb, eqb-true}
-use Rattle.coding.specs.Reader.{part}
-use Rattle.coding.proofs.Parts.{part-none, part-more, part-split}
-use Rattle.lines.specs.declared.input.Line.{Line}
-use Rattle.lines.specs.declared.input.Went.{Went}
-use Rattle.lines.specs.Lines.{digitOf}
-use Rattle.lines.specs.Machine.{State, state, madeLine, newLine, badLine, stepLine, stepOctets, octetOf, spacedLine, answerText, turn, turns, Heard}
+use Rattle.prelude.proofs.Prelude.{ℕ, _+_, _≤_, _<_, _≡_, refl, sym, ap, _∙_, List, [], _∷_, _++_, Bool, true, false, arith, sub-zero, length, getD, set, take-all, eqb, le-leb, lt-leb}
+use Rattle.prelude.proofs.Prelude.{lt-ltb, le-ltb, ne-eqb, eq-eqb, eqb-true}
+use Rattle.coding.{proofs.Tests.tests, specs.Reader.part, proofs.Parts.part-none, proofs.Parts.part-more, proofs.Parts.part-split}
+use Rattle.lines.specs.{declared.input.Line.Line, declared.input.Went.Went, Lines.digitOf, Machine.State, Machine.state, Machine.madeLine, Machine.newLine, Machine.badLine}
+use Rattle.lines.specs.{Machine.stepLine, Machine.stepOctets, Machine.octetOf, Machine.spacedLine, Machine.answerText, Machine.turn, Machine.turns, Machine.Heard}
 
--- ---- a digit's value, by the ranges of characters
+pub by-test : {P : Type 0} (b : Bool) → (b ≡ true → P) → (b ≡ false → P) → P
+by-test true f g = f refl
+by-test false f g = g refl
 
-pub digit-below : (c : ℕ) → c < 48 → digitOf c ≡ 16
+-- ---- a digit's value, where a later range has to be ruled out
+
+pub digit-below : (c : ℕ) → c < 48 → 16 ≡ digitOf c
 unfolding digitOf
 digit-below c h =
     let h₁ : c < 65 = omega arith in
     let h₂ : c < 97 = omega arith in
-    simp (lt-leb 48 c h, lt-leb 65 c h₁, lt-leb 97 c h₂)
+    search tests
 
-pub digit-number : (c : ℕ) → 48 ≤ c → c ≤ 57 → digitOf c ≡ c - 48
+pub digit-between : (c : ℕ) → 48 ≤ c → 57 < c → c < 65 → 16 ≡ digitOf c
 unfolding digitOf
-digit-number c h k = simp (le-leb 48 c h, le-leb c 57 k)
-
-pub digit-between : (c : ℕ) → 57 < c → c < 65 → digitOf c ≡ 16
-unfolding digitOf
-digit-between c h k =
-    let h₁ : 48 ≤ c = omega arith in
-    let h₂ : c < 97 = omega arith in
-    simp (le-leb 48 c h₁, lt-leb c 57 h, lt-leb 65 c k, lt-leb 97 c h₂)
-
-pub digit-capital : (c : ℕ) → 65 ≤ c → c ≤ 70 → digitOf c ≡ c - 55
-unfolding digitOf
-digit-capital c h k =
-    let h₁ : 48 ≤ c = omega arith in
-    let h₂ : 57 < c = omega arith in
-    simp (le-leb 48 c h₁, lt-leb c 57 h₂, le-leb 65 c h, le-leb c 70 k)
-
-pub digit-above : (c : ℕ) → 70 < c → c < 97 → digitOf c ≡ 16
-unfolding digitOf
-digit-above c h k =
-    let h₁ : 48 ≤ c = omega arith in
-    let h₂ : 57 < c = omega arith in
-    let h₃ : 65 ≤ c = omega arith in
-    simp (le-leb 48 c h₁, lt-leb c 57 h₂, le-leb 65 c h₃, lt-leb c 70 h, lt-leb 97 c k)
-
-pub digit-small : (c : ℕ) → 97 ≤ c → c ≤ 102 → digitOf c ≡ c - 87
-unfolding digitOf
-digit-small c h k =
-    let h₁ : 48 ≤ c = omega arith in
-    let h₂ : 57 < c = omega arith in
-    let h₃ : 65 ≤ c = omega arith in
-    let h₄ : 70 < c = omega arith in
-    simp (le-leb 48 c h₁, lt-leb c 57 h₂, le-leb 65 c h₃, lt-leb c 70 h₄, le-leb 97 c h, le-leb c 102 k)
-
-pub digit-last : (c : ℕ) → 102 < c → digitOf c ≡ 16
-unfolding digitOf
-digit-last c h =
-    let h₁ : 48 ≤ c = omega arith in
-    let h₂ : 57 < c = omega arith in
-    let h₃ : 65 ≤ c = omega arith in
-    let h₄ : 70 < c = omega arith in
-    let h₅ : 97 ≤ c = omega arith in
-    simp (le-leb 48 c h₁, lt-leb c 57 h₂, le-leb 65 c h₃, lt-leb c 70 h₄, le-leb 97 c h₅, lt-leb c 102 h)
+digit-between c h k l = let h₁ : c < 97 = omega arith in search tests
 
 -- a digit ends no line
 pub digit-open : (c : ℕ) → digitOf c < 16 → c ≡ 10 → ⊥
@@ -84,72 +35,48 @@ pub turn-open : (l : Line) (o t : List ℕ) (c : ℕ) → (c ≡ 10 → ⊥) →
 unfolding turn
 turn-open l o t c h = rw (ne-eqb c 10 h)
 
--- by what the line awaits, and what comes
-pub step-none : (l : Line) (c : ℕ) → (l .phase ≡ 4 → ⊥) → (l .phase ≡ 3 → ⊥) → 16 ≤ digitOf c → stepLine l c ≡ badLine
-unfolding stepLine
-step-none l c p q d = simp (ne-eqb (l .phase) 4 p, ne-eqb (l .phase) 3 q, le-leb 16 (digitOf c) d)
+module _ (l : Line) (c : ℕ) (o : List ℕ) where
+  -- the line after the character, and the octets that it holds
+  abbrev pub Fed : Line → List ℕ → Type 0
+  Fed m p = (m ≡ stepLine l c) × (p ≡ stepOctets l c o)
 
-pub held-none : (l : Line) (c : ℕ) (o : List ℕ) → 16 ≤ digitOf c → stepOctets l c o ≡ o
-unfolding stepOctets
-held-none l c o d = rw (le-leb 16 (digitOf c) d) (go (eqb (l .phase) 2))
-  where
-    go : (b : Bool) → cond b o o ≡ o
-    go true = refl
-    go false = refl
+  -- by what the line awaits, and what comes
+  pub fed-bad : l .phase ≡ 4 → Fed l o
+  unfolding stepLine stepOctets
+  fed-bad p = (rw (eq-eqb (l .phase) 4 p), rw p)
 
-pub step-first : (l : Line) (c : ℕ) → (l .phase ≡ 4 → ⊥) → (l .phase ≡ 3 → ⊥) → (l .phase ≡ 2 → ⊥) → digitOf c < 16
-    → stepLine l c ≡ madeLine (l .count) 2 (digitOf c)
-unfolding stepLine
-step-first l c p q r d = simp (ne-eqb (l .phase) 4 p, ne-eqb (l .phase) 3 q, ne-eqb (l .phase) 2 r, lt-leb 16 (digitOf c) d)
+  pub fed-space : l .phase ≡ 3 → c ≡ 32 → Fed (madeLine (l .count) 1 0) o
+  unfolding stepLine stepOctets
+  fed-space p e = (rw (p, e), rw p)
 
-pub held-other : (l : Line) (c : ℕ) (o : List ℕ) → (l .phase ≡ 2 → ⊥) → stepOctets l c o ≡ o
-unfolding stepOctets
-held-other l c o r = simp (ne-eqb (l .phase) 2 r)
+  pub fed-gap : l .phase ≡ 3 → (c ≡ 32 → ⊥) → Fed badLine o
+  unfolding stepLine stepOctets
+  fed-gap p e = (rw (p, ne-eqb c 32 e), rw p)
 
-pub step-second : (l : Line) (c : ℕ) → l .phase ≡ 2 → l .count < 254 → digitOf c < 16 → stepLine l c ≡ madeLine (l .count + 1) 3 0
-unfolding stepLine
-step-second l c p n d = rw p (simp (lt-leb 16 (digitOf c) d, lt-ltb (l .count) 254 n))
+  pub fed-none : (l .phase ≡ 4 → ⊥) → (l .phase ≡ 3 → ⊥) → 16 ≤ digitOf c → Fed badLine o
+  unfolding stepLine stepOctets
+  fed-none p q d = (rw (ne-eqb (l .phase) 4 p, ne-eqb (l .phase) 3 q, le-leb 16 (digitOf c) d), by-test (eqb (l .phase) 2) (λ e. rw (e, le-leb 16 (digitOf c) d)) (λ e. rw e))
 
-pub held-second : (l : Line) (c : ℕ) (o : List ℕ) → l .phase ≡ 2 → l .count < 254 → digitOf c < 16
-    → stepOctets l c o ≡ set o (l .count) (octetOf (l .high) (digitOf c))
-unfolding stepOctets
-held-second l c o p n d = rw p (simp (lt-leb 16 (digitOf c) d, lt-ltb (l .count) 254 n))
+  pub fed-first : (l .phase ≡ 4 → ⊥) → (l .phase ≡ 3 → ⊥) → (l .phase ≡ 2 → ⊥) → digitOf c < 16 → Fed (madeLine (l .count) 2 (digitOf c)) o
+  unfolding stepLine stepOctets
+  fed-first p q r d = (rw (ne-eqb (l .phase) 4 p, ne-eqb (l .phase) 3 q, ne-eqb (l .phase) 2 r, lt-leb 16 (digitOf c) d), rw (ne-eqb (l .phase) 2 r))
 
-pub step-full : (l : Line) (c : ℕ) → l .phase ≡ 2 → 254 ≤ l .count → digitOf c < 16 → stepLine l c ≡ madeLine 255 3 0
-unfolding stepLine
-step-full l c p n d = rw p (simp (lt-leb 16 (digitOf c) d, le-ltb (l .count) 254 n))
+  pub fed-second : l .phase ≡ 2 → l .count < 254 → digitOf c < 16 → Fed (madeLine (l .count + 1) 3 0) (set o (l .count) (octetOf (l .high) (digitOf c)))
+  unfolding stepLine stepOctets
+  fed-second p n d = (rw (p, lt-leb 16 (digitOf c) d, lt-ltb (l .count) 254 n), rw (p, lt-leb 16 (digitOf c) d, lt-ltb (l .count) 254 n))
 
-pub held-full : (l : Line) (c : ℕ) (o : List ℕ) → l .phase ≡ 2 → 254 ≤ l .count → stepOctets l c o ≡ o
-unfolding stepOctets
-held-full l c o p n = rw (p, le-ltb (l .count) 254 n) (go (leb 16 (digitOf c)))
-  where
-    go : (b : Bool) → cond b o o ≡ o
-    go true = refl
-    go false = refl
-
-pub step-space : (l : Line) (c : ℕ) → l .phase ≡ 3 → c ≡ 32 → stepLine l c ≡ madeLine (l .count) 1 0
-unfolding stepLine
-step-space l c p e = rw (p, e)
-
-pub step-gap : (l : Line) (c : ℕ) → l .phase ≡ 3 → (c ≡ 32 → ⊥) → stepLine l c ≡ badLine
-unfolding stepLine
-step-gap l c p e = rw (p, ne-eqb c 32 e)
-
-pub step-bad : (l : Line) (c : ℕ) → l .phase ≡ 4 → stepLine l c ≡ l
-unfolding stepLine
-step-bad l c p = rw (eq-eqb (l .phase) 4 p)
+  pub fed-full : l .phase ≡ 2 → 254 ≤ l .count → digitOf c < 16 → Fed (madeLine 255 3 0) o
+  unfolding stepLine stepOctets
+  fed-full p n d = (rw (p, lt-leb 16 (digitOf c) d, le-ltb (l .count) 254 n), rw (p, lt-leb 16 (digitOf c) d, le-ltb (l .count) 254 n))
 
 -- two digits
 turns-octet : (l : Line) (o t : List ℕ) (a b : ℕ) → l .phase ≤ 1 → l .count < 254 → digitOf a < 16 → digitOf b < 16
     → turn (turn (state l o t) a) b ≡ state (madeLine (l .count + 1) 3 0) (set o (l .count) (octetOf (digitOf a) (digitOf b))) t
 turns-octet l o t a b h k d e =
     let m = madeLine (l .count) 2 (digitOf a) in
-    let p : l .phase ≡ 4 → ⊥ = λ x. omega arith in
-    let q : l .phase ≡ 3 → ⊥ = λ x. omega arith in
-    let r : l .phase ≡ 2 → ⊥ = λ x. omega arith in
-    let first : turn (state l o t) a ≡ state m o t =
-    turn-open l o t a (digit-open a d) ∙ rw (step-first l a p q r d, held-other l a o r) in
-    ap (λ x. turn x b) first ∙ turn-open m o t b (digit-open b e) ∙ rw (step-second m b refl k e, held-second m b o refl k e)
+    let f = fed-first l a o (λ x. omega arith) (λ x. omega arith) (λ x. omega arith) d in
+    let g = fed-second m b o refl k e in
+    ap (λ x. turn x b) (turn-open l o t a (digit-open a d) ∙ rw (← f .0, ← f .1)) ∙ turn-open m o t b (digit-open b e) ∙ rw (← g .0, ← g .1)
 
 -- ---- characters one after the other
 
@@ -197,16 +124,11 @@ heard-on s from l o w p h e at m q i f t = turns-both s from (w .at) at (state l
 -- three
 turns-three : (s : List ℕ) (at : ℕ) (q : State) → at + 3 ≤ length s → turns q (part s at (at + 3)) ≡ turn (turn (turn q (getD s at 0)) (getD s (at + 1) 0)) (getD s (at + 2) 0)
 turns-three s at q h =
-    let h₀ : at ≤ at = omega arith in
-    let h₁ : at ≤ at + 1 = omega arith in
-    let h₂ : at ≤ at + 2 = omega arith in
-    let e₁ : turns q (part s at (at + 1)) ≡ turn q (getD s at 0) = turns-more s at at q h₀ (omega arith) (turns-none s at q) in
-    let e₂ : turns q (part s at (at + 1 + 1)) ≡ turn (turn q (getD s at 0)) (getD s (at + 1) 0) = turns-more s at (at + 1) q h₁ (omega arith) e₁ in
+    let e₁ = turns-more s at at q (omega arith) (omega arith) (turns-none s at q) in
+    let e₂ = turns-more s at (at + 1) q (omega arith) (omega arith) e₁ in
     let n₂ : at + 1 + 1 ≡ at + 2 = omega arith in
-    let e₃ : turns q (part s at (at + 2 + 1)) ≡ turn (turn (turn q (getD s at 0)) (getD s (at + 1) 0)) (getD s (at + 2) 0) =
-    turns-more s at (at + 2) q h₂ (omega arith) (rw n₂ at e₂) in
     let n₃ : at + 2 + 1 ≡ at + 3 = omega arith in
-    rw n₃ at e₃
+    rw n₃ at (turns-more s at (at + 2) q (omega arith) (omega arith) (rw n₂ at e₂))
 
 -- ---- whole octets
 
@@ -214,18 +136,10 @@ abbrev pub Taken : List ℕ → ℕ → ℕ → ℕ → Line → List ℕ → Li
 Taken s from at k l o p = (t : List ℕ) → turns (state l o t) (part s from at) ≡ state (spacedLine l k) p t
 
 spaced-phase : (l : Line) (k : ℕ) → l .phase ≤ 1 → spacedLine l k .phase ≤ 1
-spaced-phase l k h = go (eqb k 0)
-  where
-    go : (b : Bool) → (cond b l (madeLine (l .count + k) 1 0)) .phase ≤ 1
-    go true = h
-    go false = omega arith
+spaced-phase l k h = by-test (eqb k 0) (λ e. rw e h) (λ e. rw e (omega arith))
 
 spaced-count : (l : Line) (k : ℕ) → spacedLine l k .count ≡ l .count + k
-spaced-count l k = go (eqb k 0) refl
-  where
-    go : (b : Bool) → eqb k 0 ≡ b → (cond b l (madeLine (l .count + k) 1 0)) .count ≡ l .count + k
-    go true e = let z : k ≡ 0 = eqb-true k 0 e in omega arith
-    go false e = refl
+spaced-count l k = by-test (eqb k 0) (λ e. rw e (omega (arith, eqb-true k 0 e))) (λ e. rw e)
 
 -- nothing is taken yet
 pub taken-none : (s : List ℕ) (from : ℕ) (l : Line) (o : List ℕ) → Taken s from from 0 l o o

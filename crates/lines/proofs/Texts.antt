@@ -1,13 +1,6 @@
 -- The text of octets, put one after the other, and a text that stands at the start of a buffer.
--- Assumes nothing.
-use Prim.Native.Nat.{ℕ, _+_, _-_, _/_, _%_, _≤_, _<_}
-use mathlib.Core.Path.{_≡_, ap, _∙_}
-use mathlib.Core.List.{List, [], _∷_, _++_, append-assoc}
-use native.Mathlib.Omega.{arith}
-use native.Mathlib.Nat.{sub-zero}
-use lib.ListN.{length, getD, take}
-use Rattle.coding.specs.Reader.{part}
-use Rattle.coding.proofs.Parts.{part-none, part-cons}
+use Rattle.prelude.proofs.Prelude.{ℕ, _+_, _/_, _%_, _≤_, _<_, _≡_, ap, _∙_, List, [], _∷_, _++_, append-assoc, arith, sub-zero, length, getD, take}
+use Rattle.coding.{specs.Reader.part, proofs.Parts.part-none, proofs.Parts.part-cons}
 use Rattle.lines.specs.Text.{glyph, hexText}
 
 -- an octet's two digits and what comes after them

@@ -1,18 +1,11 @@
 -- A refusal is no outcome that changes something: one test over the numbers, which is computed.
-use Prim.Native.Nat.{ℕ, _≤_, _<_}
-use mathlib.Core.Path.{_≡_, refl, sym, _∙_, ap}
-use mathlib.Core.List.{List, [], _∷_}
-use mathlib.Core.Bool.{Bool, true, false, not, _&&_, _||_}
-use mathlib.Core.Logic.{_⊎_, inl, inr}
-use lib.Dec.{eqb, leb}
-use native.Mathlib.Omega.{arith}
-use borrow.Author.Tests.{not-true, not-false, leb-true, le-leb, lt-leb}
-use Rattle.types.specs.Frames.{readOf}
-use Rattle.types.proofs.Theorems.{refusal}
-use Rattle.same_final.specs.Same.{each}
-use Rattle.same_final.proofs.Each.{each-fails}
+use Rattle.prelude.proofs.Prelude.{ℕ, _≤_, _≡_, refl, sym, _∙_, ap, List, [], _∷_, Bool, true, false, not, _&&_, _||_, _⊎_, inl, inr, eqb, leb, arith, not-true, not-false, leb-true, le-leb}
+use Rattle.prelude.proofs.Prelude.{lt-leb}
+use Rattle.types.{specs.Frames.readOf, proofs.Theorems.refusal}
+use Rattle.same_final.{proofs.Each.each-fails}
 use Rattle.outcomes.specs.Outcome.{among, refusals, isRefusal}
 use Rattle.phases.proofs.Choice.{by-test, by-number, never, first-of, second-of}
+pub use Rattle.same_final.proofs.Ways.{ways}
 
 -- a number that passes a test is none that fails it
 pub apart : (t : ℕ → Bool) (n k : ℕ) → t n ≡ true → t k ≡ false → eqb n k ≡ false

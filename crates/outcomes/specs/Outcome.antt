@@ -4,6 +4,7 @@ use mathlib.Core.List.{List, [], _∷_}
 use mathlib.Core.Bool.{Bool, false, not, _&&_, _||_, cond}
 use lib.Dec.{eqb, leb}
 use Rattle.types.specs.declared.Charge.{Charge}
+use Rattle.types.specs.declared.Front.{Front}
 use Rattle.types.specs.declared.Record.{Record}
 use Rattle.types.specs.declared.Answer.{Answer}
 use Rattle.types.specs.Frames.{readOf}
@@ -103,10 +104,10 @@ judgeFigure k s c =
 -- invoke 30: 32; the service's request pending: 26; not available: 23
 abbrev pub judgeInvoke : Known → Record → Outcome
 judgeInvoke k c =
-    cond (eqb (c .operation) 30) (noService 32)
-    (cond (has (k .pending .asked) (serviceOf (c .operation))) (outcome 26 (serviceOf (c .operation)))
-    (cond (isNotAvailable (c .charge)) (outcome 23 (serviceOf (c .operation)))
-    (judgeFigure k (serviceOf (c .operation)) (c .charge))))
+    cond (eqb (c .front .operation) 30) (noService 32)
+    (cond (has (k .pending .asked) (serviceOf (c .front .operation))) (outcome 26 (serviceOf (c .front .operation)))
+    (cond (isNotAvailable (c .charge)) (outcome 23 (serviceOf (c .front .operation)))
+    (judgeFigure k (serviceOf (c .front .operation)) (c .charge))))
 
 -- a result fits S if it is a list or a special arrangement, D and E if it is NULL
 abbrev pub fits : ℕ → Charge → Bool
@@ -123,16 +124,16 @@ judgeFailure s = cond (eqb s 0) (noService 30) (outcome 25 s)
 -- frames: 1 invoke, 2 return result, 3 return error, 4 reject; a reject with NULL in place of an identifier is 30 too
 abbrev pub judgeFrame : Known → Record → Outcome
 judgeFrame k c =
-    cond (eqb (c .frame) 1) (judgeInvoke k c)
-    (cond (eqb (c .frame) 2) (judgeResult (holderOf (k .pending) (c .id)) (c .charge))
-    (cond (eqb (c .unnamed) 1) (noService 30) (judgeFailure (holderOf (k .pending) (c .id)))))
+    cond (eqb (c .front .frame) 1) (judgeInvoke k c)
+    (cond (eqb (c .front .frame) 2) (judgeResult (holderOf (k .pending) (c .front .id)) (c .charge))
+    (cond (eqb (c .front .unnamed) 1) (noService 30) (judgeFailure (holderOf (k .pending) (c .front .id)))))
 
 -- a component received in Suspended: 27, ahead of every other outcome; its service is an invoke's, and none for operation 30
-abbrev pub invokeService : Record → ℕ
-invokeService c = cond (eqb (c .frame) 1 && not (eqb (c .operation) 30)) (serviceOf (c .operation)) 0
+abbrev pub invokeService : Front → ℕ
+invokeService f = cond (eqb (f .frame) 1 && not (eqb (f .operation) 30)) (serviceOf (f .operation)) 0
 
 unfoldable pub judgeRecord : Known → Record → Outcome
-judgeRecord k c = cond (eqb (k .phase) Suspended) (outcome 27 (invokeService c)) (judgeFrame k c)
+judgeRecord k c = cond (eqb (k .phase) Suspended) (outcome 27 (invokeService (c .front))) (judgeFrame k c)
 
 -- a decoding refusal is the event's, in Suspended too
 abbrev pub judgeAnswer : Known → Answer → Outcome

@@ -1,14 +1,15 @@
 -- The outcome of a component, by the numbers that inner functions are handed. `resolves` (step/proofs/Steps.antt) ties it to `judgeRecord`.
 use Prim.Native.Nat.{ℕ}
-use mathlib.Core.Bool.{Bool, not, _&&_, _||_, cond}
+use mathlib.Core.Bool.{Bool, _&&_, _||_, cond}
 use lib.Dec.{eqb}
 use mathlib.Core.List.{List}
 use Rattle.types.specs.declared.Charge.{Charge}
 use Rattle.types.specs.declared.Figure.{Figure}
+use Rattle.types.specs.declared.Front.{Front}
 use Rattle.values.specs.Sets.{has}
 use Rattle.phases.specs.declared.Outcome.{Outcome}
 use Rattle.phases.specs.Phases.{Establishment, Active, Clearing, Suspended, S, D, E, outcome, noService}
-use Rattle.outcomes.specs.Outcome.{serviceOf, Requests, holderOf, judgeFailure}
+use Rattle.outcomes.specs.Outcome.{serviceOf, Requests, holderOf, judgeFailure, invokeService}
 
 -- ---- the outcome of a component but for comparing finals: one that is claimed is 22
 
@@ -38,18 +39,14 @@ fitsBy s kind = cond (eqb s S) (eqb kind 4 || eqb kind 5) (eqb kind 0)
 abbrev pub claimResult : ℕ → ℕ → Outcome
 claimResult s kind = cond (eqb s 0) (noService 30) (cond (fitsBy s kind) (outcome 24 s) (outcome 31 s))
 
-abbrev pub claimFrame : ℕ → Requests → ℕ → ℕ → ℕ → ℕ → ℕ → ℕ → Outcome
-claimFrame phase q frame operation unnamed id kind total =
-    cond (eqb frame 1) (claimInvoke phase q operation kind total)
-    (cond (eqb frame 2) (claimResult (holderOf q id) kind)
-    (cond (eqb unnamed 1) (noService 30) (judgeFailure (holderOf q id))))
+abbrev pub claimFrame : ℕ → Requests → Front → ℕ → ℕ → Outcome
+claimFrame phase q f kind total =
+    cond (eqb (f .frame) 1) (claimInvoke phase q (f .operation) kind total)
+    (cond (eqb (f .frame) 2) (claimResult (holderOf q (f .id)) kind)
+    (cond (eqb (f .unnamed) 1) (noService 30) (judgeFailure (holderOf q (f .id)))))
 
-abbrev pub serviceBy : ℕ → ℕ → ℕ
-serviceBy frame operation = cond (eqb frame 1 && not (eqb operation 30)) (serviceOf operation) 0
-
-unfoldable pub claimRecord : ℕ → Requests → ℕ → ℕ → ℕ → ℕ → ℕ → ℕ → Outcome
-claimRecord phase q frame operation unnamed id kind total =
-    cond (eqb phase Suspended) (outcome 27 (serviceBy frame operation)) (claimFrame phase q frame operation unnamed id kind total)
+unfoldable pub claimRecord : ℕ → Requests → Front → ℕ → ℕ → Outcome
+claimRecord phase q f kind total = cond (eqb phase Suspended) (outcome 27 (invokeService f)) (claimFrame phase q f kind total)
 
 -- a charge from its parts
 abbrev pub chargeFrom : Figure → List ℕ → List ℕ → Charge

@@ -4,13 +4,14 @@
 use phases::Outcome;
 use phases::Status;
 use types::Charge;
+use types::Front;
 ghost use mathlib.Core.Path.{_≡_};
 ghost use mathlib.Core.Bool.{not, _&&_};
 ghost use lib.Dec.{eqb};
 ghost use Rattle.phases.specs.Phases.{outcome};
-ghost use Rattle.outcomes.specs.Outcome.{serviceOf, holderOf, judgeFinal, judgeFailure};
+ghost use Rattle.outcomes.specs.Outcome.{serviceOf, holderOf, judgeFinal, judgeFailure, invokeService};
 ghost use Rattle.outcomes.specs.Status.{requestsOf, firstFigure, noted, placeOf};
-ghost use Rattle.outcomes.specs.Parts.{runsBy, closesBy, claimFigure, claimInvoke, fitsBy, claimResult, claimFrame, serviceBy, claimRecord, chargeFrom};
+ghost use Rattle.outcomes.specs.Parts.{runsBy, closesBy, claimFigure, claimInvoke, fitsBy, claimResult, claimFrame, claimRecord, chargeFrom};
 
 // ---- the outcome of a component, but for comparing finals: one that is claimed is 22
 
@@ -187,25 +188,17 @@ fn failure_outcome(service: u8) -> Outcome
     }
 }
 
-fn frame_outcome(
-    t: Status,
-    frame: u8,
-    operation: u8,
-    unnamed: u8,
-    id: u16,
-    kind: u8,
-    total: u8,
-) -> Outcome
-    ensures { λ r. ⌜ r ≡ claimFrame (t .phase) (requestsOf t) frame operation unnamed id kind total ⌝ }
+fn frame_outcome(t: Status, f: Front, kind: u8, total: u8) -> Outcome
+    ensures { λ r. ⌜ r ≡ claimFrame (t .phase) (requestsOf t) f kind total ⌝ }
 {
-    if frame == 1 {
-        return invoke_outcome(t, operation, kind, total);
+    if f.frame == 1 {
+        return invoke_outcome(t, f.operation, kind, total);
     }
-    let service = holder(t, id);
-    if frame == 2 {
+    let service = holder(t, f.id);
+    if f.frame == 2 {
         return result_outcome(service, kind);
     }
-    if unnamed == 1 {
+    if f.unnamed == 1 {
         return Outcome {
             number: 30,
             service: 0,
@@ -215,37 +208,29 @@ fn frame_outcome(
 }
 
 // The service of an invoke that is no request, and 0 for any other component.
-fn service_by(frame: u8, operation: u8) -> u8
-    ensures { λ r. ⌜ r ≡ serviceBy frame operation ⌝ }
+fn service_by(f: Front) -> u8
+    ensures { λ r. ⌜ r ≡ invokeService f ⌝ }
 {
-    if frame != 1 {
+    if f.frame != 1 {
         return 0;
     }
-    if operation == 30 {
+    if f.operation == 30 {
         return 0;
     }
-    service_of(operation)
+    service_of(f.operation)
 }
 
-pub fn claimed(
-    t: Status,
-    frame: u8,
-    operation: u8,
-    unnamed: u8,
-    id: u16,
-    kind: u8,
-    total: u8,
-) -> Outcome
-    ensures { λ r. ⌜ r ≡ claimRecord (t .phase) (requestsOf t) frame operation unnamed id kind total ⌝ }
+pub fn claimed(t: Status, f: Front, kind: u8, total: u8) -> Outcome
+    ensures { λ r. ⌜ r ≡ claimRecord (t .phase) (requestsOf t) f kind total ⌝ }
 {
     if t.phase == 5 {
-        let service = service_by(frame, operation);
+        let service = service_by(f);
         return Outcome {
             number: 27,
             service,
         };
     }
-    frame_outcome(t, frame, operation, unnamed, id, kind, total)
+    frame_outcome(t, f, kind, total)
 }
 
 // ---- what a component does

@@ -1,24 +1,13 @@
 -- The starts of an accepted element rise, so a place is among them once, and the place after it lies inside the element.
--- Assumes nothing.
-use Prim.Native.Nat.{ℕ, zero, suc, _+_, _-_, _≤_, _<_}
-use native.Mathlib.Omega.{arith}
-use mathlib.Core.Path.{_≡_, refl, sym, ap, _∙_, subst}
-use mathlib.Core.Bool.{Bool, true, false, cond}
-use mathlib.Core.List.{List, [], _∷_}
-use lib.ListN.{length, getD, take}
-use lib.Dec.{eqb}
-use borrow.Author.Tests.{eqb-true, eq-eqb, ne-eqb}
-use Rattle.coding.specs.declared.Extent.{Extent}
-use Rattle.coding.specs.Reader.{Ans, after, lengthAt, part}
-use Rattle.coding.specs.Reader.Ans.{got}
-use Rattle.coding.proofs.Basic.{never, chain, same-got, picked, unpicked}
-use Rattle.coding.proofs.Parts.{part-cons, part-none}
-use Rattle.coding.proofs.Header.{read-element, element-range}
-use Rattle.facility.specs.Element.{tiled, led, elementOf}
-use Rattle.facility.specs.Parts.{startsOf, firstOr}
-use Rattle.facility.proofs.Tiles.{answer-found}
-use Rattle.pass.specs.Pass.{noComponent, componentUpTo, amongStarts, passOf}
-use Rattle.pass.specs.Places.{afterIn, emptyAt}
+use Rattle.prelude.proofs.Prelude.{ℕ, zero, suc, _+_, _-_, _≤_, _<_, arith, _≡_, refl, sym, ap, _∙_, Bool, true, false, List, [], _∷_, length, getD, take, eqb, eqb-true, eq-eqb, ne-eqb}
+use Rattle.coding.{specs.declared.Extent.Extent, specs.Reader.lengthAt, specs.Reader.part, specs.Reader.Ans.got, proofs.Basic.never, proofs.Basic.chain, proofs.Basic.same-got}
+use Rattle.coding.{proofs.Basic.picked, proofs.Basic.unpicked, proofs.Parts.part-cons, proofs.Parts.part-none, proofs.Header.read-element, proofs.Header.element-range}
+use Rattle.facility.{specs.Element.tiled, specs.Element.led, specs.Element.elementOf, specs.Parts.startsOf, specs.Parts.firstOr, proofs.Tiles.answer-found}
+use Rattle.pass.specs.{Pass.noComponent, Pass.componentUpTo, Pass.amongStarts, Pass.passOf, Places.afterIn, Places.emptyAt}
+
+pub by-test : {P : Type 0} (b : Bool) → (b ≡ true → P) → (b ≡ false → P) → P
+by-test true f g = f refl
+by-test false f g = g refl
 
 -- each start lies below the next, the last below the end
 abbrev pub Rises : ℕ → List ℕ → Type 0
@@ -39,21 +28,13 @@ goes-on s i {v} {n} e =
 tiled-rises : (turns : ℕ) (s : List ℕ) (i : ℕ) (xs : List ℕ) {last : ℕ} → tiled turns s i (length s) ≡ got xs last → Rises (length s) xs × (firstOr (length s) xs ≡ i)
 unfolding tiled
 tiled-rises zero s i xs e = absurd (never e)
-tiled-rises (suc turns) s i xs {last} e = go (eqb i (length s)) refl e (λ n ys m. tiled-rises turns s n ys {last = m})
-  where
-    go : (b : Bool) → eqb i (length s) ≡ b
-        → cond b (got [] i)
-        (after (lengthAt i s (i + 1) (length s)) (λ contents next. after (tiled turns s next (length s)) (λ starts last. got (i ∷ starts) last))) ≡ got xs last
-        → ((n : ℕ) (ys : List ℕ) (m : ℕ) → tiled turns s n (length s) ≡ got ys m → Rises (length s) ys × (firstOr (length s) ys ≡ n))
-        → Rises (length s) xs × (firstOr (length s) xs ≡ i)
-    go true q r more =
-        same-got (λ ys m. Rises (length s) ys × (firstOr (length s) ys ≡ i)) r (tt, sym (eqb-true i (length s) q))
-    go false q r more =
-        let a = chain _ _ r in
-        let b = chain _ _ (a .3) in
-        let t = more (a .1) (b .0) (b .1) (b .2) in
-        let u : i < firstOr (length s) (b .0) = omega (arith, goes-on s i (a .2) .0, t .1) in
-        same-got (λ ys m. Rises (length s) ys × (firstOr (length s) ys ≡ i)) (b .3) ((u, t .0), refl)
+tiled-rises (suc turns) s i xs {last} e = by-test (eqb i (length s))
+    (λ q. same-got (λ ys m. Rises (length s) ys × (firstOr (length s) ys ≡ i)) (rw q at e) (tt, sym (eqb-true i (length s) q)))
+    (λ q. let a = chain _ _ (rw q at e) in
+    let b = chain _ _ (a .3) in
+    let t = tiled-rises turns s (a .1) (b .0) {last = b .1} (b .2) in
+    let u : i < firstOr (length s) (b .0) = omega (arith, goes-on s i (a .2) .0, t .1) in
+    same-got (λ ys m. Rises (length s) ys × (firstOr (length s) ys ≡ i)) (b .3) ((u, t .0), refl))
 
 -- the starts of an accepted element, the first of which is at 3
 pub starts-rise : (s : List ℕ) → elementOf s .number ≡ 0 → Rises (length s) (startsOf (elementOf s)) × (firstOr (length s) (startsOf (elementOf s)) ≡ 3)
@@ -68,25 +49,17 @@ pub among-found : (s : List ℕ) (place : ℕ) (xs : List ℕ) → Rises (length
     → (place < q) × (q ≤ length s) × (amongStarts s place xs ≡ componentUpTo s place q)
 unfolding afterIn amongStarts
 among-found s place [] r q e n = absurd (n (sym e))
-among-found s place (a ∷ xs) r q e n = go (eqb a place) refl e (λ f. among-found s place xs (r .1) q f n)
-  where
-    go : (b : Bool) → eqb a place ≡ b → cond b (firstOr (length s) xs) (afterIn place (length s) xs) ≡ q
-        → (afterIn place (length s) xs ≡ q → (place < q) × (q ≤ length s) × (amongStarts s place xs ≡ componentUpTo s place q))
-        → (place < q) × (q ≤ length s) × (cond b (componentUpTo s a (firstOr (length s) xs)) (amongStarts s place xs) ≡ componentUpTo s place q)
-    go true t f more =
-        let z : a ≡ place = eqb-true a place t in
-        (omega (arith, r .0, z, f), omega (arith, first-inside (length s) xs (r .1), f), ap (λ (k : ℕ). componentUpTo s k (firstOr (length s) xs)) z ∙ ap (λ (k : ℕ). componentUpTo s place k) f)
-    go false t f more = more f
+among-found s place (a ∷ xs) r q e n = by-test (eqb a place)
+    (λ t. let z : a ≡ place = eqb-true a place t in
+    let f : firstOr (length s) xs ≡ q = rw t at e in
+    (omega (arith, r .0), omega (arith, first-inside (length s) xs (r .1)), rw t (ap (λ (k : ℕ). componentUpTo s k (firstOr (length s) xs)) z ∙ ap (λ (k : ℕ). componentUpTo s place k) f)))
+    (λ t. let m = among-found s place xs (r .1) q (rw t at e) n in (m .0, m .1, rw t (m .2)))
 
 pub among-none : (s : List ℕ) (place : ℕ) (xs : List ℕ) → Rises (length s) xs → afterIn place (length s) xs ≡ 0 → amongStarts s place xs ≡ noComponent 16
 unfolding afterIn amongStarts
 among-none s place [] r e = refl
-among-none s place (a ∷ xs) r e = go (eqb a place) e (among-none s place xs (r .1))
-  where
-    go : (b : Bool) → cond b (firstOr (length s) xs) (afterIn place (length s) xs) ≡ 0 → (afterIn place (length s) xs ≡ 0 → amongStarts s place xs ≡ noComponent 16)
-        → cond b (componentUpTo s a (firstOr (length s) xs)) (amongStarts s place xs) ≡ noComponent 16
-    go true f more = absurd (omega (arith, r .0, f))
-    go false f more = more f
+among-none s place (a ∷ xs) r e = by-test (eqb a place)
+    (λ t. let f : firstOr (length s) xs ≡ 0 = rw t at e in absurd (omega (arith, r .0))) (λ t. rw t (among-none s place xs (r .1) (rw t at e)))
 
 -- ---- the loop over the starts: what is left of them from i on
 

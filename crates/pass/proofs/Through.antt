@@ -1,22 +1,10 @@
 -- Going through an element from its first place gives what its parts give by themselves, in their order, and then the end.
--- Assumes nothing.
-use Prim.Native.Nat.{ℕ, zero, suc, _≤_, _<_}
-use native.Mathlib.Omega.{arith}
-use mathlib.Core.Path.{_≡_, refl, sym, ap, _∙_, subst}
-use mathlib.Core.Logic.{_⊎_, inl, inr}
-use mathlib.Core.Bool.{Bool, true, false, cond}
-use mathlib.Core.List.{List, [], _∷_, _++_, append-assoc, map}
-use lib.ListN.{length}
-use lib.Dec.{eqb}
-use borrow.Author.Tests.{eq-eqb, ne-eqb, eqb-true}
+use Rattle.prelude.proofs.Prelude.{ℕ, zero, suc, _≤_, _<_, arith, _≡_, refl, sym, ap, _∙_, subst, _⊎_, inl, inr, List, [], _∷_, _++_, append-assoc, map, length, eqb, eq-eqb, ne-eqb}
+use Rattle.prelude.proofs.Prelude.{eqb-true}
 use Rattle.coding.proofs.Basic.{picked, unpicked}
-use Rattle.types.specs.declared.Answer.{Answer}
-use Rattle.types.specs.Frames.{readOf}
-use Rattle.facility.specs.Element.{elementOf}
-use Rattle.facility.specs.Parts.{startsOf, firstOr, partsOf}
-use Rattle.pass.specs.Pass.{Passed, atEnd, noComponent, componentUpTo, amongStarts, passOf, Through}
-use Rattle.pass.specs.Pass.Through.{over, next}
-use Rattle.pass.specs.Places.{afterIn}
+use Rattle.types.{specs.declared.Answer.Answer, specs.Frames.readOf, proofs.Places.pick}
+use Rattle.facility.specs.{Element.elementOf, Parts.startsOf, Parts.firstOr, Parts.partsOf}
+use Rattle.pass.specs.{Pass.Passed, Pass.atEnd, Pass.noComponent, Pass.componentUpTo, Pass.amongStarts, Pass.passOf, Pass.Through, Pass.Through.over, Pass.Through.next, Places.afterIn}
 use Rattle.pass.proofs.Order.{Rises, first-inside, starts-rise, among-found, among-none}
 
 -- ---- each start is found at its own place
@@ -66,31 +54,16 @@ through-once s p (x ∷ xs) (y ∷ ys) (next {after = q} e t) (next {after = r} 
 
 -- ---- every place gives one of four: 15, 16, the end, a component with the place after it
 
+abbrev OneOfFour : List ℕ → ℕ → Passed → Type 0
+OneOfFour s place x = (x ≡ noComponent 15) ⊎ ((x ≡ noComponent 16) ⊎ ((x ≡ atEnd) ⊎ ((q : ℕ) × (place < q) × (q ≤ length s) × (x ≡ componentUpTo s place q))))
+
 pub one-of-four : (s : List ℕ) (place : ℕ)
     → (passOf s place ≡ noComponent 15) ⊎ ((passOf s place ≡ noComponent 16) ⊎ ((passOf s place ≡ atEnd) ⊎ ((q : ℕ) × (place < q) × (q ≤ length s) × (passOf s place ≡ componentUpTo s place q))))
 unfolding passOf
-one-of-four s place = go (eqb (elementOf s .number) 0) refl
+one-of-four s place =
+    pick (OneOfFour s place) (eqb (elementOf s .number) 0) _ _
+    (λ e. pick (OneOfFour s place) (eqb place (length s)) _ _ (λ f. inr (inr (inl refl))) (λ f. found (eqb-true _ 0 e) _ refl)) (λ e. inl refl)
   where
-    found : elementOf s .number ≡ 0 → (q : ℕ) → afterIn place (length s) (startsOf (elementOf s)) ≡ q
-        → (amongStarts s place (startsOf (elementOf s)) ≡ noComponent 16) ⊎ ((q : ℕ) × (place < q) × (q ≤ length s) × (amongStarts s place (startsOf (elementOf s)) ≡ componentUpTo s place q))
-    found fine zero e = inl (among-none s place _ (starts-rise s fine .0) e)
-    found fine (suc q) e = let f = among-found s place _ (starts-rise s fine .0) (suc q) e (λ z. omega (arith, z)) in inr (suc q, f .0, f .1, f .2)
-
-    split : {B : Type 0} {x : Passed} → ((x ≡ noComponent 16) ⊎ B) → ((x ≡ noComponent 16) ⊎ ((x ≡ atEnd) ⊎ B))
-    split (inl e) = inl e
-    split (inr b) = inr (inr b)
-
-    here : (b : Bool) → elementOf s .number ≡ 0
-        → (cond b atEnd (amongStarts s place (startsOf (elementOf s))) ≡ noComponent 16)
-        ⊎ ((cond b atEnd (amongStarts s place (startsOf (elementOf s))) ≡ atEnd)
-        ⊎ ((q : ℕ) × (place < q) × (q ≤ length s) × (cond b atEnd (amongStarts s place (startsOf (elementOf s))) ≡ componentUpTo s place q)))
-    here true fine = inr (inl refl)
-    here false fine = split (found fine _ refl)
-
-    go : (b : Bool) → eqb (elementOf s .number) 0 ≡ b
-        → (cond b (cond (eqb place (length s)) atEnd (amongStarts s place (startsOf (elementOf s)))) (noComponent 15) ≡ noComponent 15)
-        ⊎ ((cond b (cond (eqb place (length s)) atEnd (amongStarts s place (startsOf (elementOf s)))) (noComponent 15) ≡ noComponent 16)
-        ⊎ ((cond b (cond (eqb place (length s)) atEnd (amongStarts s place (startsOf (elementOf s)))) (noComponent 15) ≡ atEnd)
-        ⊎ ((q : ℕ) × (place < q) × (q ≤ length s) × (cond b (cond (eqb place (length s)) atEnd (amongStarts s place (startsOf (elementOf s)))) (noComponent 15) ≡ componentUpTo s place q))))
-    go true e = inr (here (eqb place (length s)) (eqb-true _ 0 e))
-    go false e = inl refl
+    found : elementOf s .number ≡ 0 → (q : ℕ) → afterIn place (length s) (startsOf (elementOf s)) ≡ q → OneOfFour s place (amongStarts s place (startsOf (elementOf s)))
+    found fine zero e = inr (inl (among-none s place _ (starts-rise s fine .0) e))
+    found fine (suc q) e = let f = among-found s place _ (starts-rise s fine .0) (suc q) e (λ z. omega (arith, z)) in inr (inr (inr (suc q, f .0, f .1, f .2)))

@@ -14,13 +14,6 @@ pub struct Next {
     pub answer: read::Refusal,
 }
 
-fn wide(x: u8) -> usize
-    ensures { λ r. ⌜ r ≡ x ⌝ }
-    ensures small { λ r. ⌜ r < 256 ⌝ }
-{
-    x as usize
-}
-
 // The place after the component that begins at a place; 0 where none does.
 fn after_of(starts: [u8; 127], count: usize, place: usize, end: usize) -> usize
     requires { ⌜ count ≤ 127 ⌝ }
@@ -28,9 +21,9 @@ fn after_of(starts: [u8; 127], count: usize, place: usize, end: usize) -> usize
 {
     let mut i: usize = 0;
     while i < count {
-        if wide(starts[i]) == place {
+        if read_lengths::wide(starts[i]) == place {
             if i + 1 < count {
-                return wide(starts[i + 1]);
+                return read_lengths::wide(starts[i + 1]);
             }
             return end;
         }
@@ -77,7 +70,7 @@ fn find(octets: &[u8], place: usize) -> Found
         };
     }
     let starts = tiles.starts;
-    let count = wide(tiles.count);
+    let count = read_lengths::wide(tiles.count);
     let after = after_of(starts, count, place, octets.len());
     Found {
         after,

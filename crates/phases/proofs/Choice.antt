@@ -1,10 +1,5 @@
 -- Choices by a test.
-use Prim.Native.Nat.{ℕ}
-use mathlib.Core.Path.{_≡_, refl, ap}
-use mathlib.Core.Bool.{Bool, true, false, not, _&&_, _||_, cond, and-false, or-false}
-use lib.Dec.{eqb}
-use native.Mathlib.Omega.{arith}
-use borrow.Author.Tests.{eqb-true, eq-eqb, ne-eqb, le-leb, lt-leb}
+use Rattle.prelude.proofs.Prelude.{ℕ, _≡_, refl, ap, Bool, true, false, not, _&&_, _||_, cond, and-false, or-false, eqb, arith, eqb-true, eq-eqb, ne-eqb, le-leb, lt-leb}
 
 pub if-same : {A : Type 0} (b : Bool) (x : A) → cond b x x ≡ x
 if-same true x = refl

@@ -1,12 +1,6 @@
 -- An event that is no component, by the code's tests.
-use Prim.Native.Nat.{ℕ}
-use mathlib.Core.Path.{_≡_, sym}
-use mathlib.Core.Bool.{true, false, _&&_}
-use lib.Dec.{eqb}
-use Rattle.phases.specs.declared.Event.{Event}
-use Rattle.phases.specs.declared.Status.{Status}
-use Rattle.phases.specs.Phases.{Idle, Setup, clashes, moved}
-use Rattle.phases.specs.Parts.{nextPhase, moving, movingOf}
+use Rattle.prelude.proofs.Prelude.{ℕ, _≡_, sym, true, false, _&&_, eqb}
+use Rattle.phases.specs.{declared.Event.Event, declared.Status.Status, Phases.Idle, Phases.Setup, Phases.clashes, Phases.moved, Parts.nextPhase, Parts.moving, Parts.movingOf}
 use Rattle.phases.proofs.Transitions.{next-none, next-some}
 
 module _ (t : Status) (e : Event) (n : ℕ) (leads : n ≡ nextPhase (e .kind) (t .phase)) where

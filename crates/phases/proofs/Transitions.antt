@@ -1,14 +1,7 @@
 -- What the table of transitions says. A rule of the table is one test over its rows, which is computed; one law turns it into the rule of every event in every phase.
-use Prim.Native.Nat.{ℕ, zero, suc, _≤_, _<_, _+_, _*_, _/_, _%_, _^_}
-use mathlib.Core.Path.{_≡_, refl, sym, _∙_}
-use mathlib.Core.List.{List, [], _∷_}
-use mathlib.Core.Bool.{Bool, true, false, not, _&&_, _||_, cond}
-use lib.Dec.{eqb, leb}
-use lib.ListN.{getD}
-use native.Mathlib.Omega.{arith}
-use borrow.Author.Tests.{eqb-true, leb-true}
-use Rattle.same_final.specs.Same.{each}
-use Rattle.same_final.proofs.Each.{each-fails}
+use Rattle.prelude.proofs.Prelude.{ℕ, zero, suc, _≤_, _<_, _+_, _*_, _/_, _%_, _^_, _≡_, refl, sym, _∙_, List, [], _∷_, Bool, true, false, not, _&&_, _||_, eqb, leb, getD, arith, eqb-true}
+use Rattle.prelude.proofs.Prelude.{leb-true}
+use Rattle.same_final.{specs.Same.each, proofs.Each.each-fails}
 use Rattle.phases.specs.Phases.{Idle, Ended, Setup, Released, Component, Transition, goes, transitions, isFor, allowedBy, leadsBy, allowed, leadsTo}
 use Rattle.phases.specs.Parts.{nextPhase}
 use Rattle.phases.proofs.Choice.{by-test, first-of, second-of, implied, never}

@@ -1,20 +1,10 @@
 -- The cast of an amount's thousandths is exact, and the machine's division of it by 1000 is the double nearest to the quotient. Assumes nothing.
-use mathlib.Core.Path.{_≡_, subst}
-use Prim.Native.Nat.{ℕ, suc, _*_, _^_, _≤_, _<_}
-use native.Mathlib.Omega.{arith}
-use mathlib.Core.Bool.{Bool, true, false}
-use lib.Dec.{T, le→leb}
-use lib.IntN.{ℤ, pos, negsuc}
-use lib.Pow.{pow-pos}
-use lib.Ieee.{Float, nan, inf, fin, binary64, up, down, ofInt, ofBits, div, round, inFloat, toUnsigned}
-use lib.Ieee.Exact.{HasValue}
-use lib.Ieee.Back.{round-whole, unsigned-back}
-use lib.Ieee.Scale.{round-same}
+use Rattle.prelude.proofs.Prelude.{_≡_, subst, ℕ, suc, _*_, _^_, _≤_, _<_, arith, Bool, true, false, T, le→leb, ℤ, pos, negsuc, pow-pos, Float, nan, inf, fin, binary64, up, down, ofInt}
+use Rattle.prelude.proofs.Prelude.{ofBits, div, round, inFloat, toUnsigned, HasValue, round-whole, unsigned-back, round-same}
 use Rattle.types.specs.declared.Charge.{Charge}
 use Rattle.values.proofs.Bounded.{bounded}
 use Rattle.same_final.specs.Same.{thousandths}
-use Rattle.closing.specs.Range.{inRange}
-use Rattle.closing.proofs.Small.{small}
+use Rattle.closing.{specs.Range.inRange, proofs.Small.small}
 use Rattle.price.specs.Price.{asDouble, quotientOf}
 
 pub in-range : (n : ℕ) → n ≤ 16777215000000 → T (inFloat binary64 (pos n))

@@ -1,20 +1,15 @@
 -- Closing figures to try, and their prices: one statement over one table.
-use Prim.Native.Nat.{ℕ}
-use mathlib.Core.Path.{_≡_, refl}
-use mathlib.Core.List.{List, [], _∷_, map}
-use lib.Ieee.{binary64, ofBits, ofInt, round}
-use Rattle.coding.specs.Contents.{every}
-use Rattle.coding.specs.Codec.{prim, cons, nothing, pair, alt, over, maybe, some·more, leafOver, marked, sort, shape, canonical, pad, padded}
-use Rattle.coding.specs.Leaves.{number, string, nullLeaf, integer, identifier, listing, listed, only, given}
-use Rattle.coding.specs.Rows.{rows, table}
-use Rattle.types.specs.declared.Money.{Money}
-use Rattle.types.specs.declared.Charge.{Charge}
-use Rattle.types.specs.Charges.{kept, noAssociation, byIdentifier, scaled, currencyLeaf, currency, money, digitsLeaf, identified, publicParty, plainParty, party, unassociated, association}
-use Rattle.types.specs.Entries.{unit, unitRows}
-use Rattle.types.specs.Arguments.{bare, plain, listFigure, totalled, associated, sign, inMoney, inUnits, during, subtotals, ending, settled, finals, rates, arrangement, available, chargeOf}
+use Rattle.prelude.proofs.Prelude.{ℕ, _≡_, refl, List, [], _∷_, map, binary64, ofBits, ofInt, round}
+use Rattle.coding.specs.{Contents.every, Codec.prim, Codec.cons, Codec.nothing, Codec.pair, Codec.alt, Codec.over, Codec.maybe, Codec.some·more, Codec.leafOver, Codec.marked, Codec.sort}
+use Rattle.coding.specs.{Codec.shape, Codec.canonical, Codec.pad, Codec.padded, Leaves.number, Leaves.string, Leaves.nullLeaf, Leaves.integer, Leaves.identifier, Leaves.listing}
+use Rattle.coding.specs.{Leaves.listed, Leaves.only, Leaves.given, Rows.rows, Rows.table}
+use Rattle.types.specs.{declared.Money.Money, declared.Charge.Charge, Charges.kept, Charges.noAssociation, Charges.byIdentifier, Charges.scaled, Charges.currencyLeaf, Charges.currency}
+use Rattle.types.specs.{Charges.money, Charges.digitsLeaf, Charges.identified, Charges.publicParty, Charges.plainParty, Charges.party, Charges.unassociated, Charges.association}
+use Rattle.types.specs.{Entries.unit, Entries.unitRows, Arguments.bare, Arguments.plain, Arguments.listFigure, Arguments.totalled, Arguments.associated, Arguments.sign, Arguments.inMoney}
+use Rattle.types.specs.{Arguments.inUnits, Arguments.during, Arguments.subtotals, Arguments.ending, Arguments.settled, Arguments.finals, Arguments.rates, Arguments.arrangement}
+use Rattle.types.specs.{Arguments.available, Arguments.chargeOf}
 use Rattle.closing.specs.Range.{inRange}
-use Rattle.price.specs.declared.Priced.{Priced}
-use Rattle.price.specs.Price.{noAmount, asDouble, quotientOf, priceOf}
+use Rattle.price.specs.{declared.Priced.Priced, Price.noAmount, Price.asDouble, Price.quotientOf, Price.priceOf}
 
 -- EUR, and so many octets more
 abbrev pub euro : List ℕ → List ℕ

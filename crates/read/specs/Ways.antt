@@ -7,7 +7,7 @@ use lib.ListN.{replicate}
 use lib.Dec.{eqb}
 use Rattle.coding.specs.Reader.{Ans, after, closed}
 use Rattle.coding.specs.Reader.Ans.{halt}
-use Rattle.types.specs.declared.Charge.{Charge}
+use Rattle.types.specs.declared.Front.{Front}
 use Rattle.types.specs.declared.Record.{Record}
 use Rattle.types.specs.declared.Answer.{Answer}
 use Rattle.types.specs.Frames.{noRecord, answered}
@@ -17,8 +17,8 @@ use Rattle.read.specs.declared.Refusal.{Refusal}
 use Rattle.read.specs.Whole.{wholeAnswer}
 
 -- an invoke of operation 30
-abbrev pub isRequest : Head → Bool
-isRequest h = eqb (h .frame) 1 && eqb (h .operation) 30
+abbrev pub isRequest : Front → Bool
+isRequest f = eqb (f .frame) 1 && eqb (f .operation) 30
 
 -- the offset's low octet is kept; an offset has no other (`offset-small`)
 abbrev pub held : Answer → Answer
@@ -27,10 +27,6 @@ held a = record { number = a .number; offset = a .offset % 256; value = a .value
 -- no charge is stored
 abbrev pub plainAnswer : Refusal → List ℕ → Answer
 plainAnswer r front = wholeAnswer r front (replicate 48 0) (replicate 32 0) (replicate 192 0)
-
--- the record of an argument or result
-abbrev pub carriedBy : Head → ℕ → Charge → Record
-carriedBy h d c = record { frame = h .frame; unnamed = 0; id = h .id; operation = h .operation; error = 0; problem = 0; detail = d; charge = c }
 
 -- ---- how an argument or result ends
 

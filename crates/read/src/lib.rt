@@ -2,19 +2,17 @@
 //
 // What is read is stored in a record's parts, which are lent: its front of 8 octets, its figure of 48 and its list's two arrays.
 ghost use mathlib.Core.Path.{_≡_};
-ghost use mathlib.Core.Bool.{true};
-ghost use mathlib.Core.List.{List};
-ghost use Prim.Native.Nat.{ℕ, _≤_, _%_};
+ghost use Prim.Native.Nat.{_≤_, _%_};
 ghost use lib.ListN.{length, replicate};
 ghost use Rattle.coding.specs.Reader.Ans.{halt};
 ghost use Rattle.coding.specs.Shown.{shown};
 ghost use Rattle.types.specs.Arguments.{noCharge, chargeOf};
-ghost use Rattle.types.specs.Frames.{request, carrying, accepted, refusedAt, offsetOf, answered, readOf};
-ghost use Rattle.types.specs.Stored.{Blank, storedCharge, recordIn};
-ghost use Rattle.read_heads.specs.Heads.{faultBy, headRecord, tailOf};
+ghost use Rattle.types.specs.Frames.{frontBy, request, carrying, refusedAt, offsetOf, answered, readOf};
+ghost use Rattle.types.specs.Stored.{Blank, frontIn};
+ghost use Rattle.read_heads.specs.Heads.{faultBy, tailOf};
 ghost use Rattle.read_lists.specs.Readers.{whole};
 ghost use Rattle.read.specs.Whole.{wholeAnswer};
-ghost use Rattle.read.specs.Ways.{isRequest, held, plainAnswer, carriedBy, endsWell, Ended};
+ghost use Rattle.read.specs.Ways.{isRequest, held, plainAnswer, endsWell, Ended};
 
 // 0 where a component is accepted; or the refusal's number, with 40 to 45 the offset of the octet at which reading stopped.
 #[repr(C)]
@@ -51,44 +49,46 @@ fn refused(fault: u8, place: usize) -> Refusal
 }
 
 // ---- the front, in zeros
+//
+// A head's front is taken field by field: copied whole it is one word, put together and taken apart, 11 instructions for each component.
 
 // Of an argument or result: the rest of its front is zero.
-fn keep_front(front: &mut [u8; 8], h: read_heads::Head, detail: u8)
+fn keep_front(front: &mut [u8; 8], frame: u8, id: u16, operation: u8, detail: u8)
     requires { ⌜ now front ≡ replicate 8 0 ⌝ }
-    ensures { λ _. ⌜ ((f n r : List ℕ) → recordIn (now (front .exit)) f n r ≡ carriedBy h detail (storedCharge f n r)) ⌝ }
+    ensures { λ _. ⌜ frontIn (now (front .exit)) ≡ frontBy frame 0 id operation 0 0 detail ⌝ }
 {
-    front[0] = h.frame;
-    front[2] = (h.id % 256) as u8;
-    front[3] = (h.id / 256) as u8;
-    front[4] = h.operation;
+    front[0] = frame;
+    front[2] = (id % 256) as u8;
+    front[3] = (id / 256) as u8;
+    front[4] = operation;
     front[7] = detail;
 }
 
 // Of an error or a reject, which have neither argument nor result.
 fn keep_head(front: &mut [u8; 8], h: read_heads::Head)
     requires { ⌜ now front ≡ replicate 8 0 ⌝ }
-    ensures { λ _. ⌜ plainAnswer (record { number = 0; offset = 0 }) (now (front .exit)) ≡ accepted (headRecord h) ⌝ }
+    ensures { λ _. ⌜ frontIn (now (front .exit)) ≡ h .front ⌝ }
 {
-    front[0] = h.frame;
-    front[1] = h.unnamed;
-    front[2] = (h.id % 256) as u8;
-    front[3] = (h.id / 256) as u8;
-    front[4] = h.operation;
-    front[5] = h.error;
-    front[6] = h.problem;
-    front[7] = h.detail;
+    front[0] = h.front.frame;
+    front[1] = h.front.unnamed;
+    front[2] = (h.front.id % 256) as u8;
+    front[3] = (h.front.id / 256) as u8;
+    front[4] = h.front.operation;
+    front[5] = h.front.error;
+    front[6] = h.front.problem;
+    front[7] = h.front.detail;
 }
 
 // ---- arguments and results
 
 // An invoke of operation 30.
 fn is_request(h: read_heads::Head) -> bool
-    ensures { λ r. ⌜ r ≡ isRequest h ⌝ }
+    ensures { λ r. ⌜ r ≡ isRequest (h .front) ⌝ }
 {
-    if h.frame != 1 {
+    if h.front.frame != 1 {
         return false;
     }
-    if h.operation != 30 {
+    if h.front.operation != 30 {
         return false;
     }
     true
@@ -122,14 +122,14 @@ fn ends_well(fault: u8, number: u32) -> bool
 
 // The argument of operation 30.
 fn asked(s: &[u8], h: read_heads::Head, front: &mut [u8; 8]) -> Refusal
-    requires { ⌜ (h .stop ≤ length (now s)) × (isRequest h ≡ true) ⌝ }
+    requires { ⌜ h .stop ≤ length (now s) ⌝ }
     requires { ⌜ now front ≡ replicate 8 0 ⌝ }
-    ensures { λ r. ⌜ plainAnswer r (now (front .exit)) ≡ held (answered (tailOf (request (h .id)) h (now (s .entry)))) ⌝ }
+    ensures { λ r. ⌜ plainAnswer r (now (front .exit)) ≡ held (answered (tailOf (request (h .front .id)) h (now (s .entry)))) ⌝ }
 {
     let n = read_elements::natural_at(s, h.at, h.stop, 0x0a, 0, 2);
     let r = ended(h, n.fault, n.place, n.next);
     if ends_well(n.fault, r.number) {
-        keep_front(front, h, n.value as u8);
+        keep_front(front, 1, h.front.id, 30, n.value as u8);
     }
     r
 }
@@ -148,7 +148,7 @@ fn charge_at(
     requires { ⌜ Blank (now figure) (now numbers) (now rows) ⌝ }
     ensures { λ r. ⌜ whole r (now (figure .exit)) (now (numbers .exit)) (now (rows .exit)) ≡ shown noCharge ((chargeOf operation) .read (now (s .entry)) at end) ⌝ }
 {
-    if read_elements::is_tag(s, at, end, 0x05) {
+    if read_lengths::is_tag(s, at, end, 0x05) {
         return read_elements::null_at(s, at, end, 0x05);
     }
     read_lists::charge_into(s, at, end, operation, numbers, rows, figure)
@@ -165,12 +165,12 @@ fn carried(
 ) -> Refusal
     requires { ⌜ h .stop ≤ length (now s) ⌝ }
     requires { ⌜ (now front ≡ replicate 8 0) × Blank (now figure) (now numbers) (now rows) ⌝ }
-    ensures { λ r. ⌜ wholeAnswer r (now (front .exit)) (now (figure .exit)) (now (numbers .exit)) (now (rows .exit)) ≡ held (answered (tailOf (carrying (h .frame) (h .id) (h .operation)) h (now (s .entry)))) ⌝ }
+    ensures { λ r. ⌜ wholeAnswer r (now (front .exit)) (now (figure .exit)) (now (numbers .exit)) (now (rows .exit)) ≡ held (answered (tailOf (carrying (h .front .frame) (h .front .id) (h .front .operation)) h (now (s .entry)))) ⌝ }
 {
-    let f = charge_at(s, h.at, h.stop, h.operation, numbers, rows, figure);
+    let f = charge_at(s, h.at, h.stop, h.front.operation, numbers, rows, figure);
     let r = ended(h, f.fault, f.place, f.next);
     if ends_well(f.fault, r.number) {
-        keep_front(front, h, 0);
+        keep_front(front, h.front.frame, h.front.id, h.front.operation, 0);
         return r;
     }
     *figure = [0; 48];
@@ -194,10 +194,10 @@ pub fn read_into(
     *numbers = [0; 32];
     *rows = [0; 192];
     let h = read_heads::head_of(octets);
-    if h.frame == 0 {
+    if h.front.frame == 0 {
         return refused(h.fault, h.at);
     }
-    if 3 <= h.frame {
+    if 3 <= h.front.frame {
         keep_head(front, h);
         return NONE;
     }
@@ -216,20 +216,15 @@ pub fn read(octets: &[u8]) -> types::Answer
     let mut numbers: [u32; 32] = [0; 32];
     let mut rows: [u8; 192] = [0; 192];
     let r = read_into(octets, &mut front, &mut figure, &mut numbers, &mut rows);
-    let f = types::figure_of(&figure);
+    let front = parts::front_of(&front);
+    let figure = parts::figure_of(&figure);
     types::Answer {
         number: r.number,
         offset: r.offset,
         value: types::Record {
-            frame: front[0],
-            unnamed: front[1],
-            id: types::number16(front[2], front[3]),
-            operation: front[4],
-            error: front[5],
-            problem: front[6],
-            detail: front[7],
+            front,
             charge: types::Charge {
-                figure: f,
+                figure,
                 entries: types::Entries {
                     numbers,
                     octets: rows,

@@ -1,4 +1,3 @@
 -- What the proofs of the readers cite, beside the laws of the coding.
-mod Sought
 mod Patterns
 pub mod Shortcut

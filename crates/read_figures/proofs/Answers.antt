@@ -1,14 +1,7 @@
 -- What the returns of a reader cite that stores what it reads and answers where it ended.
--- Assumes nothing.
-use Prim.Native.Nat.{ℕ}
-use mathlib.Core.Path.{_≡_, ap, sym, _∙_}
-use mathlib.Core.Bool.{false}
-use lib.Dec.{eqb}
-use borrow.Author.Tests.{eq-eqb, ne-eqb}
+use Rattle.prelude.proofs.Prelude.{ℕ, _≡_, ap, sym, _∙_, false, eqb, eq-eqb, ne-eqb}
 use Rattle.read_elements.specs.declared.Empty.{Empty}
-use Rattle.coding.specs.Reader.{Ans, Ruling, after, ruled}
-use Rattle.coding.specs.Shown.{shown, verdict}
-use Rattle.coding.proofs.Reading.{step, passes}
+use Rattle.coding.{specs.Reader.Ans, specs.Reader.Ruling, specs.Reader.after, specs.Reader.ruled, specs.Shown.shown, specs.Shown.verdict, proofs.Reading.step, proofs.Reading.passes}
 use Rattle.types.specs.Stored.{stored}
 
 module _ {A : Type 0} (z w : A) where
@@ -16,19 +9,14 @@ module _ {A : Type 0} (z w : A) where
   unfolding stored
   is-stored h = rw (eq-eqb _ _ h)
 
-  not-stored : {k : ℕ} → (k ≡ 0 → ⊥) → stored z k w ≡ z
-  unfolding stored
-  not-stored h = rw (ne-eqb _ _ h)
-
   module _ {r : Empty} {t : ℕ × ℕ × A × ℕ} where
-    -- a fault, whatever is stored
-    pub refused : {k p : ℕ} → r ≡ record { fault = k; place = p; next = 0 } → (k ≡ 0 → ⊥) → (k, p, z, 0) ≡ t → (r .fault, r .place, stored z (r .fault) w, r .next) ≡ t
-    refused e k0 h = rw (e, not-stored k0) h
-
-    -- a fault that is named by its number
+    -- a fault, whatever is stored: named by its number, or by that it is none of 0
     pub surplus : {k p : ℕ} → r ≡ record { fault = k; place = p; next = 0 } → eqb k 0 ≡ false → (k, p, z, 0) ≡ t → (r .fault, r .place, stored z (r .fault) w, r .next) ≡ t
     unfolding stored
     surplus e k0 h = rw (e, k0) h
+
+    pub refused : {k p : ℕ} → r ≡ record { fault = k; place = p; next = 0 } → (k ≡ 0 → ⊥) → (k, p, z, 0) ≡ t → (r .fault, r .place, stored z (r .fault) w, r .next) ≡ t
+    refused e k0 h = surplus e (ne-eqb _ _ k0) h
 
     -- what is stored
     pub arrived : {n : ℕ} → r ≡ record { fault = 0; place = 0; next = n } → (0, 0, w, n) ≡ t → (r .fault, r .place, stored z (r .fault) w, r .next) ≡ t

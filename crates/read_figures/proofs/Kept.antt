@@ -1,19 +1,9 @@
 -- What stores to a figure leave: an amount, an association.
--- Assumes nothing.
-use Prim.Native.Nat.{ℕ, _+_, _*_, _-_, _/_, _%_, _≤_, min}
-use native.Mathlib.Omega.{arith}
-use native.Mathlib.Nat.{add-zero}
-use mathlib.Core.Path.{_≡_, refl, sym, ap, _∙_}
-use mathlib.Core.Bool.{Bool}
-use mathlib.Core.List.{List, [], _∷_, _++_}
-use lib.ListN.{length, set, take, drop, replicate, length-take, length-drop, take-append-drop}
-use lib.Seq.{drop-drop, take-at, drop-at}
-use Rattle.coding.specs.Reader.{part}
-use Rattle.coding.specs.Codec.{pad}
-use Rattle.types.specs.declared.Scaled.{Scaled}
-use Rattle.types.specs.Charges.{noAssociation, byIdentifier}
-use Rattle.types.specs.Stored.{moneyIn, associationIn}
-use Rattle.types.proofs.Stored.{spread, by-front}
+use Rattle.prelude.proofs.Prelude.{ℕ, _+_, _*_, _-_, _/_, _%_, min, arith, add-zero, _≡_, refl, sym, ap, _∙_, Bool, List, [], _∷_, _++_, length, set, take, drop, replicate, length-take}
+use Rattle.prelude.proofs.Prelude.{length-drop, take-append-drop, drop-drop, take-at, drop-at}
+use Rattle.coding.specs.{Reader.part, Codec.pad}
+use Rattle.types.{specs.declared.Scaled.Scaled, specs.Charges.noAssociation, specs.Charges.byIdentifier, specs.Stored.moneyIn, specs.Stored.associationIn, proofs.Stored.spread}
+use Rattle.types.{proofs.Stored.by-front}
 use Rattle.read_figures.specs.Beside.{Unassociated, SameBeside}
 use Rattle.read_figures.proofs.Texts.{Passed, placed-length}
 
@@ -35,16 +25,15 @@ blank-amount s e = sym (drop-drop 5 11 s) ∙ ap (drop 5) e
 
 -- ---- a currency, up to 11
 
-module _ {ok : ℕ → Bool} {s : List ℕ} {start i : ℕ} {figure : List ℕ} (p : Passed ok 10 (0 ∷ []) (replicate 37 0) s start i figure)
-    (fits : start + i ≤ length s) (short : i ≤ 10) where
-  pub currency-beside : (n : ℕ) → (drop 11 figure ≡ replicate 37 0) × (drop 11 (set figure 0 n) ≡ replicate 37 0)
-  currency-beside n =
-      let e = drop-at (pad 10 0 (part s start (start + i))) (replicate 37 0) 10 (placed-length 10 s start i fits short) in
-      rw (p .stored) (e, e)
+module _ {ok : ℕ → Bool} {s : List ℕ} {start stop i : ℕ} {figure : List ℕ} (p : Passed ok 10 (0 ∷ []) (replicate 37 0) s start stop i figure) where
+  pub currency-beside : (drop 11 figure ≡ replicate 37 0) × ((n : ℕ) → drop 11 (set figure 0 n) ≡ replicate 37 0)
+  currency-beside =
+      let e = drop-at (pad 10 0 (part s start (start + i))) (replicate 37 0) 10 (placed-length _ _ _ _ _ _ _ i p) in
+      rw (p .stored) (e, λ n. e)
 
   pub currency-kept : (n : ℕ) → (moneyIn (set figure 0 n)) .currency ≡ record { count = n; octets = pad 10 0 (part s start (start + i)) }
   unfolding part
-  currency-kept n = rw (p .stored) (simp (take-at (pad 10 0 (part s start (start + i))) (replicate 37 0) 10 (placed-length 10 s start i fits short)))
+  currency-kept n = rw (p .stored) (simp (take-at (pad 10 0 (part s start (start + i))) (replicate 37 0) 10 (placed-length _ _ _ _ _ _ _ i p)))
 
 -- ---- an amount, from 11 on
 
@@ -103,7 +92,10 @@ module _ (xs : List ℕ) (long : length xs ≡ 20) (n kind plan : ℕ) where
   digits-in =
       by-beside _ (λ f back. let e = drop-at xs back 20 long in ((refl, e), (refl, e), simp (add-zero, take-at xs back 20 long)))
 
-module _ {ok : ℕ → Bool} (entry : List ℕ) {s : List ℕ} {start i : ℕ} {figure : List ℕ} (p : Passed ok 20 (take 16 entry ++ replicate 6 0) (drop 42 entry) s start i figure)
-    (free : Unassociated entry) (fits : start + i ≤ length s) (short : i ≤ 20) where
-  pub digits-kept : (n kind plan : ℕ) → Digits (pad 20 0 (part s start (start + i))) (placed-length 20 s start i fits short) n kind plan entry figure
-  digits-kept n kind plan = rw (p .stored) (digits-in _ (placed-length 20 s start i fits short) n kind plan entry free)
+module _ {ok : ℕ → Bool} (entry : List ℕ) {s : List ℕ} {start stop i : ℕ} {figure : List ℕ}
+    (p : Passed ok 20 (take 16 entry ++ replicate 6 0) (drop 42 entry) s start stop i figure) (free : Unassociated entry) where
+  pub digits-kept : (n kind plan : ℕ) → Digits (pad 20 0 (part s start (start + i))) (placed-length _ _ _ _ _ _ _ i p) n kind plan entry figure
+  digits-kept n kind plan = rw (p .stored) (digits-in _ (placed-length _ _ _ _ _ _ _ i p) n kind plan entry free)
+
+  pub digits-beside : SameBeside entry figure
+  digits-beside = digits-kept 0 0 0 .0

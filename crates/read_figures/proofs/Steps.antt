@@ -1,21 +1,10 @@
 -- How the numbers of associations are read, each as one sequence of steps.
--- Assumes nothing.
-use Prim.Native.Nat.{ℕ}
-use mathlib.Core.Path.{_≡_, refl, sym, _∙_}
-use mathlib.Core.Bool.{Bool, true, false, not, cond}
-use mathlib.Core.List.{List}
-use lib.Dec.{eqb}
-use borrow.Author.Tests.{eq-eqb, ne-eqb}
-use Rattle.coding.specs.Reader.{Ans, after, opened, closed, constructed, primitive, ruled, Ruling, mapped, narrowed}
-use Rattle.coding.specs.Reader.Ans.{got, halt}
-use Rattle.coding.specs.Reader.Fault.{contents}
-use Rattle.coding.specs.Reader.Ruling.{good, bad}
-use Rattle.coding.specs.Shown.{shown}
-use Rattle.coding.specs.Codec.{Leaf, prim, cons, pair, over, canonical}
-use Rattle.coding.specs.Leaves.{number, only}
-use Rattle.coding.proofs.Reading.{flat, after-assoc}
-use Rattle.types.specs.declared.Association.{Association}
-use Rattle.types.specs.Charges.{digitsLeaf, isPlan, plainParty, publicParty}
+use Rattle.prelude.proofs.Prelude.{ℕ, _≡_, refl, sym, _∙_, Bool, true, false, not, cond, List, eqb, eq-eqb, ne-eqb}
+use Rattle.coding.{specs.Reader.Ans, specs.Reader.after, specs.Reader.opened, specs.Reader.closed, specs.Reader.constructed, specs.Reader.primitive, specs.Reader.ruled, specs.Reader.Ruling}
+use Rattle.coding.{specs.Reader.mapped, specs.Reader.narrowed, specs.Reader.Ans.got, specs.Reader.Ans.halt, specs.Reader.Fault.contents, specs.Reader.Ruling.good, specs.Reader.Ruling.bad}
+use Rattle.coding.{specs.Shown.shown, specs.Codec.Leaf, specs.Codec.prim, specs.Codec.cons, specs.Codec.pair, specs.Codec.over, specs.Codec.canonical, specs.Leaves.number, specs.Leaves.only}
+use Rattle.coding.{proofs.Reading.flat, proofs.Reading.after-assoc}
+use Rattle.types.specs.{declared.Association.Association, Charges.digitsLeaf, Charges.isPlan, Charges.plainParty, Charges.publicParty}
 use Rattle.read_figures.specs.Numbers.{byDigits, numbered}
 
 -- ---- contents for another type; contents of which only some values pass
@@ -48,7 +37,7 @@ digits-told tag kind plan s at end g = simp (after-assoc, judged-told)
 
 -- ---- numbers
 
-after-same : {A : Type 0} (x : Ans A) → after x got ≡ x
+pub after-same : {A : Type 0} (x : Ans A) → after x got ≡ x
 unfolding after
 after-same (got v n) = refl
 after-same (halt w p) = refl

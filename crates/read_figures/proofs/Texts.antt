@@ -1,19 +1,8 @@
 -- A loop over a string's octets into a part of a figure: what is known after some of them, and what each way out says.
--- Assumes nothing.
-use Prim.Native.Nat.{ℕ, suc, _+_, _-_, _≤_, _<_}
-use native.Mathlib.Omega.{arith}
-use native.Mathlib.Nat.{sub-zero}
-use mathlib.Core.Path.{_≡_, _∙_}
-use mathlib.Core.Bool.{Bool, true, false}
-use mathlib.Core.List.{List, [], _∷_, _++_, append-assoc}
-use lib.ListN.{length, getD, set, replicate, length-append, length-replicate}
-use lib.Seq.{set-at}
-use borrow.Author.Tests.{le-ltb, lt-ltb}
-use Rattle.coding.specs.Reader.{part, mapped}
-use Rattle.coding.specs.Contents.{every, text}
-use Rattle.coding.specs.Codec.{pad}
-use Rattle.coding.specs.Shown.{verdict}
-use Rattle.coding.proofs.Parts.{part-none, part-length, part-more, every-more, every-stop}
+use Rattle.prelude.proofs.Prelude.{ℕ, suc, _+_, _-_, _≤_, _<_, arith, sub-zero, _≡_, _∙_, Bool, true, false, List, [], _∷_, _++_, append-assoc, length, getD, set, replicate, length-append}
+use Rattle.prelude.proofs.Prelude.{length-replicate, set-at, le-ltb, lt-ltb}
+use Rattle.coding.{specs.Reader.part, specs.Reader.mapped, specs.Contents.every, specs.Contents.text, specs.Codec.pad, specs.Shown.verdict, proofs.Parts.part-none, proofs.Parts.part-length}
+use Rattle.coding.{proofs.Parts.part-more, proofs.Parts.every-more, proofs.Parts.every-stop}
 
 -- one octet more, stored behind those that lie after the front
 placed-more : (most : ℕ) (front xs back : List ℕ) (v k : ℕ) → length front + length xs ≡ k → length xs < most →
@@ -26,66 +15,79 @@ placed-more most front xs back v k e h =
     let l : length (front ++ xs) ≡ k = length-append front xs ∙ e in
     rw (a, b) (simp append-assoc (simp append-assoc at (set-at (front ++ xs) 0 (replicate m 0 ++ back) v k l)))
 
--- the first i octets passed the test and are stored
-pub record Passed (ok : ℕ → Bool) (most : ℕ) (front back s : List ℕ) (start i : ℕ) (figure : List ℕ) : Type 0 where
+-- the first i octets of a string passed the test and are stored; the string lies inside the octets and is not too long
+pub record Passed (ok : ℕ → Bool) (most : ℕ) (front back s : List ℕ) (start stop i : ℕ) (figure : List ℕ) : Type 0 where
   pub stored : figure ≡ front ++ (pad most 0 (part s start (start + i)) ++ back)
   pub fine : every ok (part s start (start + i)) ≡ true
+  pub within : start + i ≤ stop
+  pub inside : stop ≤ length s
+  pub short : stop - start ≤ most
 
-module _ (ok : ℕ → Bool) (most : ℕ) (front back s : List ℕ) (start : ℕ) where
-  pub passed-start : {figure : List ℕ} → figure ≡ front ++ (replicate most 0 ++ back) → Passed ok most front back s start 0 figure
+module _ (ok : ℕ → Bool) (most : ℕ) (front back s : List ℕ) (start stop : ℕ) where
+  pub passed-start : {figure : List ℕ} → start ≤ stop → stop ≤ length s → stop - start ≤ most → figure ≡ front ++ (replicate most 0 ++ back) →
+      Passed ok most front back s start stop 0 figure
   unfolding pad every
-  passed-start e =
+  passed-start a b d e =
       let none = part-none s start (start + 0) (omega arith) in
-      record { stored = rw (none, sub-zero) e; fine = rw none }
+      record { stored = rw (none, sub-zero) e; fine = rw none; within = omega arith; inside = b; short = d }
 
-  pub passed-more : (i at : ℕ) {figure : List ℕ} → Passed ok most front back s start i figure → length front ≡ at → start + i < length s → i < most →
-      ok (getD s (start + i) 0) ≡ true → Passed ok most front back s start (i + 1) (set figure (at + i) (getD s (start + i) 0))
-  passed-more i at p e h l o =
-      let further : start + (i + 1) ≡ start + i + 1 = omega arith in
-      let long : length (part s start (start + i)) ≡ i = part-length s start (start + i) (omega arith) ∙ omega arith in
-      record {
-        stored = rw (further, part-more s start (start + i) (omega arith) h, p .stored) (placed-more most front (part s start (start + i)) back _ (at + i) (omega arith) (omega arith));
-        fine = rw further (every-more ok s start (start + i) (omega arith) h (p .fine) o);
-      }
+  module _ (i : ℕ) {figure : List ℕ} (p : Passed ok most front back s start stop i figure) where
+    long : length (part s start (start + i)) ≡ i
+    long = part-length s start (start + i) (omega arith) ∙ omega arith
 
--- they fill their place
-pub placed-length : (most : ℕ) (s : List ℕ) (start i : ℕ) → start + i ≤ length s → i ≤ most → length (pad most 0 (part s start (start + i))) ≡ most
-unfolding pad
-placed-length most s start i h m = let l = part-length s start (start + i) h in simp (length-append, length-replicate) (omega arith)
+    pub passed-more : (at : ℕ) → length front ≡ at → i < stop - start → ok (getD s (start + i) 0) ≡ true →
+        Passed ok most front back s start stop (i + 1) (set figure (at + i) (getD s (start + i) 0))
+    passed-more at e l o =
+        let further : start + (i + 1) ≡ start + i + 1 = omega arith in
+        let next : start + i < length s = omega arith in
+        record {
+          stored = rw (further, part-more s start (start + i) (omega arith) next, p .stored)
+              (placed-more most front (part s start (start + i)) back _ (at + i) (omega (arith, long)) (omega (arith, long)));
+          fine = rw further (every-more ok s start (start + i) (omega arith) next (p .fine) o);
+          within = omega arith;
+          inside = p .inside;
+          short = p .short;
+        }
 
-module _ (ok : ℕ → Bool) (most : ℕ) (s : List ℕ) (start : ℕ) {A : Type 0} (z : A) (stop : ℕ) (fits : stop ≤ length s) where
-  pub text-empty : (to : List ℕ → A) → stop - start ≡ 0 → (43, z) ≡ verdict z (mapped to (text 1 most ok (part s start stop)))
+    -- they fill their place
+    pub placed-length : length (pad most 0 (part s start (start + i))) ≡ most
+    unfolding pad
+    placed-length = simp (length-append, length-replicate) (omega (arith, long))
+
+-- ---- what the contents are: none, too many, one that fails, all passed
+
+module _ (ok : ℕ → Bool) (most : ℕ) (s : List ℕ) (start : ℕ) {A : Type 0} (z : A) (stop : ℕ) where
+  pub text-empty : (to : List ℕ → A) → stop ≤ length s → stop - start ≡ 0 → (43, z) ≡ verdict z (mapped to (text 1 most ok (part s start stop)))
   unfolding text mapped verdict
-  text-empty to h =
-      let e : length (part s start stop) ≡ 0 = part-length s start stop fits ∙ h in
-      rw e
+  text-empty to fits h = rw (part-length s start stop fits ∙ h)
 
-  pub text-long : (to : List ℕ → A) → most < stop - start → (44, z) ≡ verdict z (mapped to (text 1 most ok (part s start stop)))
+  pub text-long : (to : List ℕ → A) → stop ≤ length s → most < stop - start → (44, z) ≡ verdict z (mapped to (text 1 most ok (part s start stop)))
   unfolding text mapped verdict
-  text-long to h =
+  text-long to fits h =
       let l = part-length s start stop fits in
       let some : 1 ≤ length (part s start stop) = omega arith in
       let long : most < length (part s start stop) = omega arith in
       simp (le-ltb _ _ some, lt-ltb _ _ long)
 
-  module _ (i : ℕ) {front back figure : List ℕ} (p : Passed ok most front back s start i figure) where
-    pub text-bad : (to : List ℕ → A) → start + i < stop → stop - start ≤ most → ok (getD s (start + i) 0) ≡ false → (44, z) ≡ verdict z (mapped to (text 1 most ok (part s start stop)))
+  module _ (i : ℕ) {front back figure : List ℕ} (p : Passed ok most front back s start stop i figure) where
+    pub text-bad : (to : List ℕ → A) → i < stop - start → ok (getD s (start + i) 0) ≡ false → (44, z) ≡ verdict z (mapped to (text 1 most ok (part s start stop)))
     unfolding text mapped verdict
-    text-bad to h m o =
-        let l = part-length s start stop fits in
+    text-bad to h o =
+        let l = part-length s start stop (p .inside) in
         let some : 1 ≤ length (part s start stop) = omega arith in
-        let short : length (part s start stop) ≤ most = omega arith in
-        simp (le-ltb _ _ some, le-ltb _ _ short, every-stop ok s start (start + i) stop (omega arith) h fits (p .fine) o)
+        let few : length (part s start stop) ≤ most = omega arith in
+        simp (le-ltb _ _ some, le-ltb _ _ few, every-stop ok s start (start + i) stop (omega arith) (omega arith) (p .inside) (p .fine) o)
 
     -- the value is made of the count and the octets stored
-    pub text-kept : (to : ℕ → List ℕ → A) → start + i ≡ stop → 1 ≤ i → i ≤ most →
+    pub text-kept : (to : ℕ → List ℕ → A) → stop - start ≤ i → 1 ≤ i →
         (0, to (stop - start) (pad most 0 (part s start (start + i)))) ≡ verdict z (mapped (λ xs. to (length xs) (pad most 0 xs)) (text 1 most ok (part s start stop)))
     unfolding text mapped verdict
-    text-kept to e n m =
-        let l = part-length s start stop fits in
+    text-kept to n m =
+        let l = part-length s start stop (p .inside) in
+        let e : start + i ≡ stop = omega arith in
         let some : 1 ≤ length (part s start stop) = omega arith in
-        let short : length (part s start stop) ≤ most = omega arith in
+        let few : length (part s start stop) ≤ most = omega arith in
         let fine : every ok (part s start stop) ≡ true = rw e at (p .fine) in
-        simp (le-ltb _ _ some, le-ltb _ _ short, fine) (rw (e, l))
+        simp (le-ltb _ _ some, le-ltb _ _ few, fine) (rw (e, l))
 
 pub ruleset texts = (text-empty, text-long, text-bad)

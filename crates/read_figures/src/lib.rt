@@ -81,7 +81,7 @@ fn currency_at(s: &[u8], at: usize, end: usize, figure: &mut [u8; 48]) -> read_e
     ensures { λ r. ⌜ (r .fault, r .place, stored noCurrency (r .fault) ((moneyIn (now (figure .exit))) .currency), r .next) ≡ shown noCurrency ((currency 0x81) .read (now (s .entry)) at end) ⌝ }
     ensures rest { λ _. ⌜ drop 11 (now (figure .exit)) ≡ replicate 37 0 ⌝ }
 {
-    let e = read_elements::open_at(s, at, end, 0x81);
+    let e = read_lengths::open_at(s, at, end, 0x81);
     if e.fault != 0 {
         return halted(e.fault, e.place);
     }
@@ -119,11 +119,11 @@ pub fn scaled_at(s: &[u8], at: usize, end: usize, tag: u8) -> ScaledRead
     ensures { λ r. ⌜ (r .fault, r .place, r .value, r .next) ≡ shown noScaled ((scaled tag) .read (now (s .entry)) at end) ⌝ }
     ensures bounded { λ r. ⌜ (r .value .number ≤ 16777215) × (r .value .scale ≤ 6) ⌝ }
 {
-    let e = read_elements::open_at(s, at, end, tag);
+    let e = read_lengths::open_at(s, at, end, tag);
     if e.fault != 0 {
         return no_scaled(e.fault, e.place);
     }
-    let n = read_elements::natural_at(s, e.value.start, e.value.stop, 0x81, 0, 16777215);
+    let n = read_elements::natural_at(s, e.value.start, e.value.stop, 0x81, 0, types::MOST);
     if n.fault != 0 {
         return no_scaled(n.fault, n.place);
     }
@@ -225,7 +225,7 @@ fn digits_at(
     ensures { λ r. ⌜ (r .fault, r .place, stored noAssociation (r .fault) (associationIn (now (figure .exit))), r .next) ≡ shown noAssociation (primitive tag (numbered kind plan) (now (s .entry)) at end) ⌝ }
     ensures rest { λ _. ⌜ SameBeside (now (figure .entry)) (now (figure .exit)) ⌝ }
 {
-    let e = read_elements::open_long(s, at, end, tag);
+    let e = read_lengths::open_long(s, at, end, tag);
     if e.fault != 0 {
         return halted(e.fault, e.place);
     }
@@ -243,7 +243,7 @@ fn public_at(s: &[u8], at: usize, end: usize, figure: &mut [u8; 48]) -> read_ele
     ensures { λ r. ⌜ (r .fault, r .place, stored noAssociation (r .fault) (associationIn (now (figure .exit))), r .next) ≡ shown noAssociation (publicParty .read (now (s .entry)) at end) ⌝ }
     ensures rest { λ _. ⌜ SameBeside (now (figure .entry)) (now (figure .exit)) ⌝ }
 {
-    let e = read_elements::open_long(s, at, end, 0xa1);
+    let e = read_lengths::open_long(s, at, end, 0xa1);
     if e.fault != 0 {
         return halted(e.fault, e.place);
     }
@@ -271,7 +271,7 @@ fn number_at(s: &[u8], at: usize, end: usize, figure: &mut [u8; 48]) -> read_ele
     ensures { λ r. ⌜ (r .fault, r .place, stored noAssociation (r .fault) (associationIn (now (figure .exit))), r .next) ≡ shown noAssociation ((sort 0xa1 (ofKind 3) publicParty plainParty) .read (now (s .entry)) at end) ⌝ }
     ensures rest { λ _. ⌜ SameBeside (now (figure .entry)) (now (figure .exit)) ⌝ }
 {
-    if read_elements::is_tag(s, at, end, 0xa1) {
+    if read_lengths::is_tag(s, at, end, 0xa1) {
         return public_at(s, at, end, figure);
     }
     digits_at(s, at, end, 0x80, 2, 0, figure)
@@ -284,7 +284,7 @@ fn party_at(s: &[u8], at: usize, end: usize, figure: &mut [u8; 48]) -> read_elem
     ensures { λ r. ⌜ (r .fault, r .place, stored noAssociation (r .fault) (associationIn (now (figure .exit))), r .next) ≡ shown noAssociation (party .read (now (s .entry)) at end) ⌝ }
     ensures rest { λ _. ⌜ SameBeside (now (figure .entry)) (now (figure .exit)) ⌝ }
 {
-    let e = read_elements::open_long(s, at, end, 0xa0);
+    let e = read_lengths::open_long(s, at, end, 0xa0);
     if e.fault != 0 {
         return halted(e.fault, e.place);
     }
@@ -326,10 +326,10 @@ pub fn association_at(
     ensures { λ r. ⌜ (r .fault, r .place, stored noAssociation (r .fault) (associationIn (now (figure .exit))), r .next) ≡ shown noAssociation (association .read (now (s .entry)) at end) ⌝ }
     ensures rest { λ _. ⌜ SameBeside (now (figure .entry)) (now (figure .exit)) ⌝ }
 {
-    if read_elements::is_tag(s, at, end, 0x02) {
+    if read_lengths::is_tag(s, at, end, 0x02) {
         return identified_at(s, at, end, figure);
     }
-    if read_elements::is_tag(s, at, end, 0xa0) {
+    if read_lengths::is_tag(s, at, end, 0xa0) {
         return party_at(s, at, end, figure);
     }
     reached(at)

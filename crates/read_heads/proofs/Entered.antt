@@ -1,28 +1,13 @@
 -- The component's own element, and then its contents by its first octet.
--- Assumes nothing.
-use Prim.Native.Nat.{ℕ, zero, suc, _+_, _-_, _≤_, _<_}
-use native.Mathlib.Omega.{arith}
-use mathlib.Core.Path.{_≡_, refl, ap, sym, _∙_}
-use mathlib.Core.Bool.{true, false}
-use mathlib.Core.List.{List, [], _∷_}
-use lib.ListN.{length, getD}
-use lib.Dec.{leb}
-use borrow.Author.Tests.{ne-eqb, lt-leb}
-use Rattle.coding.specs.Reader.{Ans, after, closed, lengthAt, opened, enteredAny, oneOf}
-use Rattle.coding.specs.Reader.Ans.{got, halt}
-use Rattle.coding.specs.Reader.Fault.{named}
-use Rattle.coding.specs.Codec.{frames}
-use Rattle.coding.specs.Shown.{shown}
-use Rattle.coding.specs.declared.Extent.{Extent}
-use Rattle.read_elements.specs.declared.Opened.{Opened}
-use Rattle.coding.proofs.Header.{opened-there, opened-sound, spans-range}
-use Rattle.coding.proofs.Frames.{any-got}
-use Rattle.coding.proofs.Reading.{got-of}
-use Rattle.types.specs.Frames.{outside, component, frame, invoke, returnResult, returnError, reject, readWhole}
+use Rattle.prelude.proofs.Prelude.{ℕ, _≤_, _<_, arith, _≡_, refl, ap, sym, _∙_, true, false, List, [], _∷_, length, getD, leb, eq-eqb, ne-eqb, lt-leb, ap₂}
+use Rattle.coding.{specs.Reader.Ans, specs.Reader.after, specs.Reader.closed, specs.Reader.lengthAt, specs.Reader.opened, specs.Reader.enteredAny, specs.Reader.oneOf, specs.Reader.Ans.got}
+use Rattle.coding.{specs.Reader.Ans.halt, specs.Reader.Fault.named, specs.Codec.Run, specs.Codec.frames, specs.Shown.shown, specs.declared.Extent.Extent, proofs.Header.opened-there}
+use Rattle.coding.{proofs.Header.opened-sound, proofs.Header.spans-range, proofs.Frames.any-got, proofs.Reading.got-of}
+use Rattle.read_lengths.specs.declared.Opened.{Opened}
+use Rattle.types.specs.{declared.Record.Record, Frames.outside, Frames.component, Frames.frame, Frames.readWhole}
 use Rattle.types.proofs.Theorems.{read-short}
 use Rattle.read_heads.specs.Heads.{faultBy, contentsOf}
-use Rattle.read_heads.proofs.Answers.{goes, refuses}
-use Rattle.read_heads.proofs.Codes.{none-of}
+use Rattle.read_heads.proofs.{Answers.goes, Answers.refuses, Codes.none-of, Codes.count, Codes.counted}
 
 abbrev pub tags : List ℕ
 tags = 0xa1 ∷ 0xa2 ∷ 0xa3 ∷ 0xa4 ∷ []
@@ -46,31 +31,14 @@ module _ (s : List ℕ) (l : length s ≤ 254) (z : Extent) {k p n : ℕ} {v : E
   unfolding component frames
   read-refused h = rw (read-short s l) (refuses _ _ z e h)
 
-  read-entered : k ≡ 0 → contentsOf (frame (getD s 0 0)) s (v .start) (v .stop) ≡ readWhole s
-  unfolding component frames contentsOf
-  read-entered h =
-      let last : n ≡ length s = entered-ends s v n (got-of _ z e h) .2 in
-      rw (read-short s l) (goes _ _ z e h (ap (λ m. after ((frame (getD s 0 0)) .read s (v .start) (v .stop)) (λ w j. closed w j (v .stop) m)) (sym last)))
-
   -- by the first octet
-  module _ (h : k ≡ 0) where
-    pub as-invoke : getD s 0 0 ≡ 0xa1 → contentsOf invoke s (v .start) (v .stop) ≡ readWhole s
-    unfolding frame
-    as-invoke t = ap (λ o. contentsOf (frame o) s (v .start) (v .stop)) (sym t) ∙ read-entered h
+  pub read-entered : {f : Run Record} → frame (getD s 0 0) ≡ f → k ≡ 0 → contentsOf f s (v .start) (v .stop) ≡ readWhole s
+  unfolding component frames contentsOf
+  read-entered q h =
+      let last : n ≡ length s = entered-ends s v n (got-of _ z e h) .2 in
+      rw (read-short s l) (goes _ _ z e h (ap₂ (λ g m. after (g .read s (v .start) (v .stop)) (λ w j. closed w j (v .stop) m)) (sym q) (sym last)))
 
-    pub as-result : getD s 0 0 ≡ 0xa2 → contentsOf returnResult s (v .start) (v .stop) ≡ readWhole s
-    unfolding frame
-    as-result t = ap (λ o. contentsOf (frame o) s (v .start) (v .stop)) (sym t) ∙ read-entered h
-
-    pub as-error : getD s 0 0 ≡ 0xa3 → contentsOf returnError s (v .start) (v .stop) ≡ readWhole s
-    unfolding frame
-    as-error t = ap (λ o. contentsOf (frame o) s (v .start) (v .stop)) (sym t) ∙ read-entered h
-
-    pub as-reject : (getD s 0 0 ≡ 0xa1 → ⊥) → (getD s 0 0 ≡ 0xa2 → ⊥) → (getD s 0 0 ≡ 0xa3 → ⊥) → contentsOf reject s (v .start) (v .stop) ≡ readWhole s
-    unfolding frame
-    as-reject a b d = sym (rw (ne-eqb _ _ a, ne-eqb _ _ b, ne-eqb _ _ d)) ∙ read-entered h
-
-pub ruleset framing = (read-refused, as-invoke, as-result, as-error, as-reject)
+pub ruleset framing = (read-refused, read-entered, eq-eqb, ne-eqb)
 
 -- nothing follows
 pub alone : {A : Type 0} (x : Ans A) (z : A) {t : ℕ × ℕ × A × ℕ} → t ≡ shown z (after x (λ v n. got v n)) → t ≡ shown z x
@@ -92,15 +60,5 @@ pub tag-above : (n : ℕ) → 0xa4 < n → oneOf tags n ≡ false
 tag-above n l = none-of (λ k. leb k 0xa4) tags n refl (lt-leb n 0xa4 l)
 
 pub tag-among : (n : ℕ) → 0xa1 ≤ n → n ≤ 0xa4 → oneOf tags n ≡ true
-unfolding oneOf
-tag-among n l h =
-    let e : n ≡ 0xa1 + (n - 0xa1) = omega arith in
-    let k : n - 0xa1 ≤ 3 = omega arith in
-    rw e (go (n - 0xa1) k)
-  where
-    go : (k : ℕ) → k ≤ 3 → oneOf tags (0xa1 + k) ≡ true
-    go zero b = refl
-    go (suc zero) b = refl
-    go (suc (suc zero)) b = refl
-    go (suc (suc (suc zero))) b = refl
-    go (suc (suc (suc (suc k)))) b = absurd (omega arith)
+unfolding count
+tag-among n l h = counted 0xa1 4 n l (omega arith)

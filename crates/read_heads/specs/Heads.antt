@@ -10,9 +10,9 @@ use Rattle.coding.specs.Reader.Ans.{got, halt}
 use Rattle.coding.specs.Reader.Fault.{missing, unexpected, cut, form, shortest, contents, limit, named}
 use Rattle.coding.specs.Codec.{Run, pickRun, prim}
 use Rattle.coding.specs.Leaves.{number}
+use Rattle.types.specs.declared.Front.{Front}
 use Rattle.types.specs.declared.Record.{Record}
-use Rattle.types.specs.Arguments.{noCharge}
-use Rattle.types.specs.Frames.{operations, errors, argument, carrying}
+use Rattle.types.specs.Frames.{frontBy, noFront, uncharged, operations, errors, argument, carrying}
 use Rattle.read_heads.specs.declared.Head.{Head}
 use Rattle.read_heads.specs.declared.Caller.{Caller}
 use Rattle.read_heads.specs.declared.Problem.{Problem}
@@ -52,17 +52,9 @@ contentsOf f s start stop = after (f .read s start stop) (λ v last. closed v la
 
 -- ---- what is left to read
 
-abbrev pub headRecord : Head → Record
-headRecord h = record {
-  frame = h .frame;
-  unnamed = h .unnamed;
-  id = h .id;
-  operation = h .operation;
-  error = h .error;
-  problem = h .problem;
-  detail = h .detail;
-  charge = noCharge;
-}
+-- reading stopped at a place
+abbrev pub noHead : ℕ → ℕ → Head
+noHead fault at = record { fault = fault; at = at; stop = 0; next = 0; end = 0; front = noFront }
 
 -- the argument or result lies from at to stop, in an element that ends at next, in contents that end at end
 unfoldable pub tailOf : Run Record → Head → List ℕ → Ans Record
@@ -71,9 +63,10 @@ tailOf f h s =
 
 unfoldable pub restOf : Head → List ℕ → Ans Record
 restOf h s =
-    cond (eqb (h .frame) 0) (halt (faultBy (h .fault)) (h .at))
-    (cond (leb 3 (h .frame)) (got (headRecord h) (length s))
-    (tailOf (pickRun (eqb (h .frame) 1) (argument (h .id) (h .operation)) (carrying 2 (h .id) (h .operation))) h s))
+    let f : Front = h .front in
+    cond (eqb (f .frame) 0) (halt (faultBy (h .fault)) (h .at))
+    (cond (leb 3 (f .frame)) (got (uncharged f) (length s))
+    (tailOf (pickRun (eqb (f .frame) 1) (argument (f .id) (f .operation)) (carrying 2 (f .id) (f .operation))) h s))
 
 -- ---- a reject's parts
 
@@ -81,7 +74,7 @@ abbrev pub callerBy : Caller → Unit {0} ⊎ ℕ
 callerBy c = cond (eqb (c .unnamed) 1) (inl tt) (inr (c .id))
 
 abbrev pub rejectedBy : Caller → ℕ → ℕ → Record
-rejectedBy c tag n = record { frame = 4; unnamed = c .unnamed; id = c .id; operation = 0; error = 0; problem = tag; detail = n; charge = noCharge }
+rejectedBy c tag n = uncharged (frontBy 4 (c .unnamed) (c .id) 0 0 tag n)
 
 unfoldable pub problemIn : ℕ → ℕ → Reader Problem
 problemIn tag most s at end = after ((prim tag (number 0 most)) .read s at end) (λ n next. got (record { tag = tag; detail = n }) next)

@@ -1,33 +1,28 @@
 // Heads of components: all that stands before an argument or result. Of a return error or a reject, all.
+pub mod values;
+
 ghost use mathlib.Core.Path.{_≡_};
 ghost use mathlib.Core.List.{[], _∷_};
 ghost use mathlib.Core.Logic.{inr};
 ghost use Prim.Native.Nat.{ℕ, _+_, _≤_, _<_};
 ghost use lib.ListN.{length};
-ghost use Rattle.coding.specs.Reader.{part, enteredAny};
+ghost use Rattle.coding.specs.Reader.{enteredAny};
 ghost use Rattle.coding.specs.Reader.Fault.{named};
-ghost use Rattle.coding.specs.Codec.{oneOf};
-ghost use Rattle.coding.specs.Leaves.{listing};
-ghost use Rattle.coding.specs.Shown.{shown, verdict};
-ghost use Rattle.types.specs.Frames.{outside, numberOf, operations, errors, value, invoke, returnResult, returnError, reject, caller, rejects, readWhole};
-ghost use Rattle.read_heads.specs.Heads.{outsideCode, argumentCode, faultBy, knownIn, unknownIn, contentsOf, restOf, callerBy, rejectedBy, problemIn, problemsIn};
+ghost use Rattle.coding.specs.Shown.{shown};
+ghost use Rattle.types.specs.Frames.{outside, numberOf, value, invoke, returnResult, returnError, reject, caller, rejects, readWhole};
+ghost use Rattle.read_heads.specs.Heads.{outsideCode, argumentCode, faultBy, contentsOf, noHead, restOf, callerBy, rejectedBy, problemIn, problemsIn};
 
 // What stands before an argument or result, which lies from at to stop, in an element that ends at next, in a component whose contents end at end; of a
 // return error or reject, all.
-// frame: 0 where reading stopped, with the fault, whose place is at; else as in a record.
+// The front's frame is 0 where reading stopped, with the fault, whose place is at.
+// The front stands last, beside other zeros: apart from them its zeros are one word, in which it is then put together, 16 instructions for each component.
 pub struct Head {
     pub fault: u8,
-    pub frame: u8,
-    pub unnamed: u8,
-    pub id: u16,
-    pub operation: u8,
-    pub error: u8,
-    pub problem: u8,
-    pub detail: u8,
     pub at: usize,
     pub stop: usize,
     pub next: usize,
     pub end: usize,
+    pub front: types::Front,
 }
 
 // ---- faults
@@ -77,181 +72,27 @@ pub fn number_of(fault: u8) -> u8
     6
 }
 
-// ---- operation and error values
-
-pub fn known_operation(n: u32) -> bool
-    ensures { λ r. ⌜ r ≡ oneOf operations n ⌝ }
-{
-    if n < 30 {
-        return false;
-    }
-    if 36 < n {
-        return false;
-    }
-    true
-}
-
-pub fn known_error(n: u32) -> bool
-    ensures { λ r. ⌜ r ≡ oneOf errors n ⌝ }
-{
-    if n == 0 {
-        return true;
-    }
-    if n == 3 {
-        return true;
-    }
-    if n == 4 {
-        return true;
-    }
-    if n == 7 {
-        return true;
-    }
-    if n == 26 {
-        return true;
-    }
-    false
-}
-
-fn is_charging_request(n: u32) -> bool
-    ensures { λ r. ⌜ r ≡ oneOf (30 ∷ []) n ⌝ }
-{
-    if n == 30 {
-        return true;
-    }
-    false
-}
-
-fn is_known(frame: u8, n: u32) -> bool
-    ensures { λ r. ⌜ r ≡ oneOf (knownIn frame) n ⌝ }
-{
-    if frame == 1 {
-        return known_operation(n);
-    }
-    if frame == 2 {
-        return is_charging_request(n);
-    }
-    known_error(n)
-}
-
-// The fault of a value that is not known.
-fn unknown(frame: u8) -> u8
-    ensures { λ r. ⌜ r ≡ 100 + unknownIn frame ⌝ }
-{
-    if frame == 3 {
-        return 108;
-    }
-    107
-}
-
-// The contents of an operation or error value.
-fn value_in(s: &[u8], start: usize, stop: usize, frame: u8) -> read_elements::Verdict
-    requires { ⌜ (start ≤ stop) × (stop ≤ length (now s)) ⌝ }
-    ensures { λ r. ⌜ (r .fault, r .value) ≡ verdict 0 (listing (unknownIn frame) (knownIn frame) (part (now (s .entry)) start stop)) ⌝ }
-    ensures bounded { λ r. ⌜ r .value < 256 ⌝ }
-{
-    if !read_elements::is_shortest(s, start, stop) {
-        return read_elements::Verdict {
-            fault: 43,
-            value: 0,
-        };
-    }
-    if 4 < stop - start {
-        return read_elements::Verdict {
-            fault: 44,
-            value: 0,
-        };
-    }
-    if read_elements::is_negative(s, start, stop) {
-        let fault = unknown(frame);
-        return read_elements::Verdict { fault, value: 0 };
-    }
-    let n = read_elements::magnitude(s, start, stop);
-    if is_known(frame, n) {
-        return read_elements::Verdict { fault: 0, value: n };
-    }
-    let fault = unknown(frame);
-    read_elements::Verdict { fault, value: 0 }
-}
-
-fn value_long(s: &[u8], at: usize, end: usize, frame: u8) -> read_elements::NumberRead
-    requires { ⌜ end ≤ length (now s) ⌝ }
-    ensures { λ r. ⌜ (r .fault, r .place, r .value, r .next) ≡ shown 0 ((value (unknownIn frame) (knownIn frame)) .read (now (s .entry)) at end) ⌝ }
-    ensures bounded { λ r. ⌜ r .value < 256 ⌝ }
-{
-    if read_elements::is_tag(s, at, end, 0x06) {
-        let fault = unknown(frame);
-        return read_elements::NumberRead {
-            fault,
-            place: at,
-            value: 0,
-            next: 0,
-        };
-    }
-    let e = read_elements::open_at(s, at, end, 0x02);
-    if e.fault != 0 {
-        return read_elements::NumberRead {
-            fault: e.fault,
-            place: e.place,
-            value: 0,
-            next: 0,
-        };
-    }
-    let v = value_in(s, e.value.start, e.value.stop, frame);
-    if v.fault != 0 {
-        return read_elements::NumberRead {
-            fault: v.fault,
-            place: at,
-            value: 0,
-            next: 0,
-        };
-    }
-    read_elements::NumberRead {
-        fault: 0,
-        place: 0,
-        value: v.value,
-        next: e.next,
-    }
-}
-
-// The same, where the value is a known one of one octet at once.
-fn value_at(s: &[u8], at: usize, end: usize, frame: u8) -> read_elements::NumberRead
-    requires { ⌜ end ≤ length (now s) ⌝ }
-    ensures { λ r. ⌜ (r .fault, r .place, r .value, r .next) ≡ shown 0 ((value (unknownIn frame) (knownIn frame)) .read (now (s .entry)) at end) ⌝ }
-    ensures bounded { λ r. ⌜ r .value < 256 ⌝ }
-{
-    let x = read_elements::tiny(s, at, end, 0x02) as u32;
-    if x < 128 {
-        if is_known(frame, x) {
-            return read_elements::NumberRead {
-                fault: 0,
-                place: 0,
-                value: x,
-                next: at + 3,
-            };
-        }
-    }
-    value_long(s, at, end, frame)
-}
-
 // ---- heads
 
 // Reading stopped at a place.
 fn no_head(fault: u8, at: usize) -> Head
-    ensures { λ r. ⌜ r ≡ record { fault = fault; frame = 0; unnamed = 0; id = 0; operation = 0; error = 0; problem = 0; detail = 0; at = at; stop = 0; next = 0; end = 0 } ⌝ }
+    ensures { λ r. ⌜ r ≡ noHead fault at ⌝ }
 {
     Head {
         fault,
-        frame: 0,
-        unnamed: 0,
-        id: 0,
-        operation: 0,
-        error: 0,
-        problem: 0,
-        detail: 0,
         at,
         stop: 0,
         next: 0,
         end: 0,
+        front: types::Front {
+            frame: 0,
+            unnamed: 0,
+            id: 0,
+            operation: 0,
+            error: 0,
+            problem: 0,
+            detail: 0,
+        },
     }
 }
 
@@ -265,7 +106,7 @@ fn invoke_head(s: &[u8], start: usize, n: usize) -> Head
     if i.fault != 0 {
         return no_head(i.fault, i.place);
     }
-    let o = value_at(s, i.next, n, 1);
+    let o = values::value_at(s, i.next, n, 1);
     if o.fault != 0 {
         return no_head(o.fault, o.place);
     }
@@ -273,17 +114,19 @@ fn invoke_head(s: &[u8], start: usize, n: usize) -> Head
     let operation = o.value as u8;
     Head {
         fault: 0,
-        frame: 1,
-        unnamed: 0,
-        id,
-        operation,
-        error: 0,
-        problem: 0,
-        detail: 0,
         at: o.next,
         stop: n,
         next: n,
         end: n,
+        front: types::Front {
+            frame: 1,
+            unnamed: 0,
+            id,
+            operation,
+            error: 0,
+            problem: 0,
+            detail: 0,
+        },
     }
 }
 
@@ -297,11 +140,11 @@ fn result_head(s: &[u8], start: usize, n: usize) -> Head
     if i.fault != 0 {
         return no_head(i.fault, i.place);
     }
-    let e = read_elements::open_at(s, i.next, n, 0x30);
+    let e = read_lengths::open_at(s, i.next, n, 0x30);
     if e.fault != 0 {
         return no_head(e.fault, e.place);
     }
-    let o = value_long(s, e.value.start, e.value.stop, 2);
+    let o = values::value_long(s, e.value.start, e.value.stop, 2);
     if o.fault != 0 {
         return no_head(o.fault, o.place);
     }
@@ -309,17 +152,19 @@ fn result_head(s: &[u8], start: usize, n: usize) -> Head
     let operation = o.value as u8;
     Head {
         fault: 0,
-        frame: 2,
-        unnamed: 0,
-        id,
-        operation,
-        error: 0,
-        problem: 0,
-        detail: 0,
         at: o.next,
         stop: e.value.stop,
         next: e.next,
         end: n,
+        front: types::Front {
+            frame: 2,
+            unnamed: 0,
+            id,
+            operation,
+            error: 0,
+            problem: 0,
+            detail: 0,
+        },
     }
 }
 
@@ -333,7 +178,7 @@ fn error_head(s: &[u8], start: usize, n: usize) -> Head
     if i.fault != 0 {
         return no_head(i.fault, i.place);
     }
-    let o = value_at(s, i.next, n, 3);
+    let o = values::value_at(s, i.next, n, 3);
     if o.fault != 0 {
         return no_head(o.fault, o.place);
     }
@@ -344,17 +189,19 @@ fn error_head(s: &[u8], start: usize, n: usize) -> Head
     let error = o.value as u8;
     Head {
         fault: 0,
-        frame: 3,
-        unnamed: 0,
-        id,
-        operation: 0,
-        error,
-        problem: 0,
-        detail: 0,
         at: 0,
         stop: 0,
         next: 0,
         end: 0,
+        front: types::Front {
+            frame: 3,
+            unnamed: 0,
+            id,
+            operation: 0,
+            error,
+            problem: 0,
+            detail: 0,
+        },
     }
 }
 
@@ -376,7 +223,7 @@ fn caller_at(s: &[u8], at: usize, end: usize) -> CallerRead
     ensures { λ r. ⌜ (r .fault, r .place, callerBy (r .value), r .next) ≡ shown (inr 0) (caller .read (now (s .entry)) at end) ⌝ }
     ensures proper { λ r. ⌜ ((tag detail : ℕ) → rejects (callerBy (r .value)) tag detail ≡ rejectedBy (r .value) tag detail) ⌝ }
 {
-    if read_elements::is_tag(s, at, end, 0x05) {
+    if read_lengths::is_tag(s, at, end, 0x05) {
         let z = read_elements::null_at(s, at, end, 0x05);
         if z.fault != 0 {
             return CallerRead {
@@ -450,13 +297,13 @@ fn problems_at(s: &[u8], at: usize, end: usize) -> ProblemRead
     requires { ⌜ end ≤ length (now s) ⌝ }
     ensures { λ r. ⌜ (r .fault, r .place, r .value, r .next) ≡ shown (record { tag = 0; detail = 0 }) (problemsIn (now (s .entry)) at end) ⌝ }
 {
-    if read_elements::is_tag(s, at, end, 0x80) {
+    if read_lengths::is_tag(s, at, end, 0x80) {
         return problem_at(s, at, end, 0x80, 2);
     }
-    if read_elements::is_tag(s, at, end, 0x81) {
+    if read_lengths::is_tag(s, at, end, 0x81) {
         return problem_at(s, at, end, 0x81, 7);
     }
-    if read_elements::is_tag(s, at, end, 0x82) {
+    if read_lengths::is_tag(s, at, end, 0x82) {
         return problem_at(s, at, end, 0x82, 2);
     }
     problem_at(s, at, end, 0x83, 4)
@@ -481,22 +328,24 @@ fn reject_head(s: &[u8], start: usize, n: usize) -> Head
     }
     Head {
         fault: 0,
-        frame: 4,
-        unnamed: i.value.unnamed,
-        id: i.value.id,
-        operation: 0,
-        error: 0,
-        problem: p.value.tag,
-        detail: p.value.detail,
         at: 0,
         stop: 0,
         next: 0,
         end: 0,
+        front: types::Front {
+            frame: 4,
+            unnamed: i.value.unnamed,
+            id: i.value.id,
+            operation: 0,
+            error: 0,
+            problem: p.value.tag,
+            detail: p.value.detail,
+        },
     }
 }
 
 // The component's own element: its first octet, its length, its end, and nothing after it.
-pub fn enter(s: &[u8]) -> read_elements::Opened
+pub fn enter(s: &[u8]) -> read_lengths::Opened
     ensures { λ r. ⌜ (r .fault, r .place, r .value, r .next) ≡ shown (record { start = 0; stop = 0 }) (enteredAny (0xa1 ∷ 0xa2 ∷ 0xa3 ∷ 0xa4 ∷ []) outside (named 5) (now (s .entry)) 0 (length (now (s .entry)))) ⌝ }
     ensures there { λ r. ⌜ ((r .fault ≡ 0) → (0 < length (now (s .entry)))) ⌝ }
     ensures inside { λ r. ⌜ r .value .stop ≤ length (now (s .entry)) ⌝ }
@@ -512,7 +361,7 @@ pub fn enter(s: &[u8]) -> read_elements::Opened
     if 0xa4 < tag {
         return shut_out(104, 0);
     }
-    let e = read_elements::open_at(s, 0, n, tag);
+    let e = read_lengths::open_at(s, 0, n, tag);
     if e.fault != 0 {
         return shut_out(outer(e.fault), e.place);
     }
@@ -520,7 +369,7 @@ pub fn enter(s: &[u8]) -> read_elements::Opened
         return shut_out(105, e.next);
     }
     let value = e.value;
-    read_elements::Opened {
+    read_lengths::Opened {
         fault: 0,
         place: 0,
         value,
@@ -528,10 +377,10 @@ pub fn enter(s: &[u8]) -> read_elements::Opened
     }
 }
 
-fn shut_out(fault: u8, place: usize) -> read_elements::Opened
+fn shut_out(fault: u8, place: usize) -> read_lengths::Opened
     ensures { λ r. ⌜ r ≡ record { fault = fault; place = place; value = record { start = 0; stop = 0 }; next = 0 } ⌝ }
 {
-    read_elements::Opened {
+    read_lengths::Opened {
         fault,
         place,
         value: coding::Extent { start: 0, stop: 0 },

@@ -1,23 +1,10 @@
 -- A loop that reads entries into the two arrays, for any type of entry and any rows.
--- Assumes nothing.
-use Prim.Native.Nat.{ℕ, _+_, _-_, _*_, _≤_, _<_}
-use native.Mathlib.Omega.{arith}
-use mathlib.Core.Path.{_≡_, refl, ap₂, _∙_}
-use mathlib.Core.List.{List, [], _∷_, _++_}
-use lib.ListN.{length, getD, length-append, replicate, set}
-use lib.Seq.{sets}
-use Rattle.coding.specs.Reader.{Ans, Reader, after, listOf, part}
-use Rattle.coding.specs.Reader.Ans.{got}
-use Rattle.coding.specs.Codec.{pad}
-use Rattle.coding.specs.Rows.{rows}
-use Rattle.coding.specs.Shown.{shown}
-use Rattle.coding.proofs.Reading.{gives}
-use Rattle.coding.proofs.Rows.{rows-more-at}
-use Rattle.coding.proofs.Lists.{Going, going-start, going-more, list-done, list-fault, list-limit, list-strange, list-none}
-use Rattle.types.specs.declared.Charge.{Charge}
+use Rattle.prelude.proofs.Prelude.{ℕ, _+_, _*_, _≤_, _<_, arith, _≡_, refl, ap₂, _∙_, List, [], _∷_, _++_, length, getD, length-append, replicate, set, sets}
+use Rattle.coding.{specs.Reader.Ans, specs.Reader.Reader, specs.Reader.after, specs.Reader.listOf, specs.Reader.part, specs.Reader.Ans.got, specs.Codec.pad, specs.Rows.rows}
+use Rattle.coding.{specs.Shown.shown, proofs.Reading.gives, proofs.Rows.rows-more-at, proofs.Lists.Going, proofs.Lists.going-start, proofs.Lists.going-more, proofs.Lists.list-done}
+use Rattle.coding.{proofs.Lists.list-fault, proofs.Lists.list-limit, proofs.Lists.list-strange, proofs.Lists.list-none}
+use Rattle.types.specs.{declared.Charge.Charge, Arguments.noCharge, Arguments.listFigure, Stored.figureIn, Stored.Blank}
 use Rattle.read_elements.specs.declared.Empty.{Empty}
-use Rattle.types.specs.Arguments.{noCharge, listFigure}
-use Rattle.types.specs.Stored.{figureIn, Blank}
 use Rattle.read_lists.specs.Readers.{whole}
 use Rattle.read_figures.proofs.Answers.{refused, arrived}
 

@@ -1,4 +1,3 @@
-pub mod Answers
 pub mod Stores
 pub mod Steps
 pub mod Kept

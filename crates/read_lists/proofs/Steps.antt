@@ -1,24 +1,34 @@
--- Types read in the code's steps: the same answers.
--- Assumes nothing.
-use Prim.Native.Nat.{ℕ, _≤_}
-use native.Mathlib.Omega.{arith}
-use mathlib.Core.Path.{_≡_, refl, sym}
-use mathlib.Core.Bool.{Bool, true, false, _&&_, _||_, cond}
-use mathlib.Core.List.{List}
-use lib.Dec.{leb, eqb}
-use borrow.Author.Tests.{eqb-true, eqb-false, eq-eqb, ne-eqb, leb-true, le-ltb}
-use Rattle.coding.specs.Reader.{Ans, after, opened, closed, optional, constructed, choice, tagged}
-use Rattle.coding.specs.Reader.Ans.{got, halt}
-use Rattle.coding.specs.Shown.{shown}
-use Rattle.coding.specs.Codec.{Run, cons, nothing, pair, alt, maybe, sort, canonical, over, pickRun}
-use Rattle.coding.specs.Leaves.{given}
-use Rattle.coding.proofs.Basic.{and-left, and-right}
-use Rattle.coding.proofs.Reading.{flat}
-use Rattle.types.specs.declared.Charge.{Charge}
-use Rattle.types.specs.Charges.{flag, noAssociation, unassociated, association}
-use Rattle.types.specs.Entries.{unit}
-use Rattle.types.specs.Arguments.{noCharge, totalled, during, ending, sign, subtotals, settled, finals, associated, inMoney, inUnits, arrangement, rates, available}
+-- Types read in the code's steps: the same answers; what the returns cite beside the laws of readers and of stores.
+use Rattle.prelude.proofs.Prelude.{ℕ, _≤_, arith, _≡_, refl, sym, Bool, true, false, _&&_, _||_, cond, List, leb, eqb, eqb-true, eqb-false, eq-eqb, ne-eqb, leb-true, le-ltb}
+use Rattle.coding.{specs.Reader.Ans, specs.Reader.after, specs.Reader.opened, specs.Reader.closed, specs.Reader.optional, specs.Reader.constructed, specs.Reader.choice, specs.Reader.tagged}
+use Rattle.coding.{specs.Reader.Ans.got, specs.Reader.Ans.halt, specs.Shown.shown, specs.Codec.Run, specs.Codec.cons, specs.Codec.nothing, specs.Codec.pair, specs.Codec.alt}
+use Rattle.coding.{specs.Codec.maybe, specs.Codec.sort, specs.Codec.canonical, specs.Codec.over, specs.Codec.pickRun, specs.Leaves.given, proofs.Basic.and-left, proofs.Basic.and-right}
+use Rattle.coding.{proofs.Reading.flat, proofs.Reading.step, proofs.Reading.stay, proofs.Reading.shut, proofs.Reading.remains}
+use Rattle.read_figures.proofs.Steps.{after-same}
+use Rattle.types.specs.{declared.Charge.Charge, Charges.flag, Charges.noAssociation, Charges.unassociated, Charges.association, Entries.unit, Arguments.noCharge, Arguments.totalled}
+use Rattle.types.specs.{Arguments.during, Arguments.ending, Arguments.sign, Arguments.subtotals, Arguments.settled, Arguments.finals, Arguments.associated, Arguments.inMoney}
+use Rattle.types.specs.{Arguments.inUnits, Arguments.arrangement, Arguments.rates, Arguments.available}
 use Rattle.read_lists.specs.Readers.{unitNumber, isTariff, amountBy, typeBy, billingBy, pricedBy, settledBy, framedBy, figureBy, figureOf}
+
+-- ---- how answers go on
+
+-- nothing over in an inner element, or something
+module _ {A B : Type 0} (v : A) (f : A → ℕ → Ans B) (y : B) (at end next : ℕ) where
+  pub shut-in : {t : ℕ × ℕ × B × ℕ} → at ≡ end → t ≡ shown y (f v next) → t ≡ shown y (after (closed v at end next) f)
+  shut-in e h = step _ f v y (shut v v at end next e) refl h
+
+  pub remains-in : (at ≡ end → ⊥) → (41, at, y, 0) ≡ shown y (after (closed v at end next) f)
+  remains-in e = stay _ f v y (remains v v at end next e) (λ (k : _≡_ {A = ℕ} 41 0). omega arith)
+
+pub ruleset inner = (shut-in, remains-in)
+
+-- what follows changes nothing
+pub ended : {A : Type 0} (x : Ans A) (f : A → ℕ → Ans A) (y : A) {t : ℕ × ℕ × A × ℕ} → ((v : A) (n : ℕ) → f v n ≡ got v n) → t ≡ shown y x → t ≡ shown y (after x f)
+unfolding after
+ended (got v n) f y g h = rw g h
+ended (halt w p) f y g h = h
+
+-- ---- units
 
 pub unit-read : (s : List ℕ) (at end : ℕ) →
     unit .read s at end ≡
@@ -30,11 +40,6 @@ unfolding unit cons constructed canonical over pair alt maybe optional given uni
 unit-read s at end = simp flat
 
 -- ---- 33 to 36
-
-after-same : {A : Type 0} (x : Ans A) → after x got ≡ x
-unfolding after
-after-same (got v n) = refl
-after-same (halt w p) = refl
 
 pub pick-read : (b : Bool) (f g : Run Charge) (s : List ℕ) (at end : ℕ) → (pickRun b f g) .read s at end ≡ cond b (f .read s at end) (g .read s at end)
 pick-read true f g s at end = refl

@@ -1,23 +1,13 @@
 -- What stores into the parts of a charge make of it.
--- Assumes nothing.
-use Prim.Native.Nat.{ℕ, _+_, _*_, _≤_}
-use native.Mathlib.Omega.{arith}
-use mathlib.Core.Path.{_≡_, refl, ap, subst, _∙_}
-use mathlib.Core.Bool.{Bool, true}
-use mathlib.Core.List.{List, _++_}
-use lib.Dec.{leb}
-use borrow.Author.Tests.{leb-true}
-use lib.ListN.{length, getD, set, take, drop, replicate, length-set, length-take, length-drop, take-append-drop}
-use lib.Seq.{length-take-le}
+use Rattle.prelude.proofs.Prelude.{ℕ, _≡_, refl, _∙_, Bool, true, List, leb, leb-true, set, drop, replicate, length-set}
 use Rattle.read_elements.specs.declared.Empty.{Empty}
 use Rattle.coding.specs.Reader.{part}
 use Rattle.types.specs.declared.Charge.{Charge}
 use Rattle.types.specs.Charges.{flag, noAssociation}
 use Rattle.types.specs.Arguments.{plain, moneyFigure, noCharge, totalled, associated}
 use Rattle.types.specs.Stored.{moneyIn, associationIn, figureIn, storedCharge, Blank, stored}
-use Rattle.types.proofs.Stored.{by-octets, kind-stored, totalled-stored, unassociated-stored, money-long, money-figure, money-unassociated, beside-figure}
-use Rattle.read_figures.specs.Beside.{Unassociated, SameBeside}
-use Rattle.read_figures.proofs.Answers.{arrived}
+use Rattle.types.proofs.Stored.{kind-stored, totalled-stored, unassociated-stored, money-long, money-figure, money-unassociated, beside-figure}
+use Rattle.read_figures.{specs.Beside.Unassociated, specs.Beside.SameBeside, proofs.Answers.arrived, proofs.Kept.unassociated-none}
 use Rattle.read_lists.specs.Readers.{whole, Clear}
 
 -- ---- no association is stored yet
@@ -33,15 +23,6 @@ pub stored-clear : (figure : List ℕ) (i x : ℕ) → leb 42 i ≡ true → Cle
 stored-clear figure i x h u = (length-set figure i x ∙ u .0, unassociated-stored figure i x (leb-true 42 i h) ∙ u .1)
 
 pub ruleset clear = (blank-clear, money-clear, stored-clear)
-
-unassociated : (s : List ℕ) → Unassociated s → associationIn s ≡ noAssociation
-unfolding part
-unassociated s u =
-    let l : 42 ≤ length s = omega (arith, length-take 26 (drop 16 s), length-drop 16 s, ap length u) in
-    subst (λ (t : List ℕ). Unassociated t → associationIn t ≡ noAssociation) (take-append-drop 42 s)
-    (by-octets 42 (λ (m : List ℕ). Unassociated (m ++ drop 42 s) → associationIn (m ++ drop 42 s) ≡ noAssociation) (λ f. ap
-    (λ (l : List ℕ). record { id = getD l 0 0 + 256 * getD l 1 0; count = getD l 2 0 + 256 * getD l 3 0; kind = getD l 4 0; plan = getD l 5 0; digits = drop 6 l }))
-    (take 42 s) (length-take-le 42 s l)) u
 
 -- ---- what was stored last, and the charge that it makes
 
@@ -63,4 +44,4 @@ module _ (s numbers octets : List ℕ) {r : Empty} {v : ℕ × ℕ × Charge × 
 
     pub none-stored : Unassociated s → (0, 0, associated noAssociation (storedCharge s numbers octets), n) ≡ v → whole r s numbers octets ≡ v
     unfolding figureIn
-    none-stored u h = arrived _ _ at (rw (← unassociated s u) at h)
+    none-stored u h = arrived _ _ at (rw (← unassociated-none s u) at h)

@@ -45,7 +45,7 @@ fn unit_number_at(s: &[u8], at: usize, end: usize) -> UnitsRead
     requires { ⌜ end ≤ length (now s) ⌝ }
     ensures { λ r. ⌜ (r .fault, r .place, r .value, r .next) ≡ shown noUnits (unitNumber (now (s .entry)) at end) ⌝ }
 {
-    if read_elements::is_tag(s, at, end, 0x05) {
+    if read_lengths::is_tag(s, at, end, 0x05) {
         let z = read_elements::null_at(s, at, end, 0x05);
         if z.fault != 0 {
             return no_units(z.fault, z.place);
@@ -57,7 +57,7 @@ fn unit_number_at(s: &[u8], at: usize, end: usize) -> UnitsRead
             next: z.next,
         };
     }
-    let n = read_elements::natural_at(s, at, end, 0x02, 0, 16777215);
+    let n = read_elements::natural_at(s, at, end, 0x02, 0, types::MOST);
     if n.fault != 0 {
         return no_units(n.fault, n.place);
     }
@@ -78,7 +78,7 @@ fn unit_at(s: &[u8], at: usize, end: usize) -> UnitsRead
     requires { ⌜ end ≤ length (now s) ⌝ }
     ensures { λ r. ⌜ (r .fault, r .place, r .value, r .next) ≡ shown noUnits (unit .read (now (s .entry)) at end) ⌝ }
 {
-    let e = read_elements::open_at(s, at, end, 0x30);
+    let e = read_lengths::open_at(s, at, end, 0x30);
     if e.fault != 0 {
         return no_units(e.fault, e.place);
     }
@@ -210,7 +210,7 @@ fn rates_at(
     requires { ⌜ Blank (now figure) (now numbers) (now octets) ⌝ }
     ensures { λ r. ⌜ whole r (now (figure .exit)) (now (numbers .exit)) (now (octets .exit)) ≡ shown noCharge (rates .read (now (s .entry)) at end) ⌝ }
 {
-    let e = read_elements::open_at(s, at, end, 0x30);
+    let e = read_lengths::open_at(s, at, end, 0x30);
     if e.fault != 0 {
         return read_figures::halted(e.fault, e.place);
     }
@@ -316,11 +316,11 @@ fn priced_at(
     ensures { λ r. ⌜ whole r (now (figure .exit)) (now (numbers .exit)) (now (octets .exit)) ≡ shown noCharge ((pricedOf operation) .read (now (s .entry)) at end) ⌝ }
     ensures clear { λ _. ⌜ Clear (now (figure .exit)) ⌝ }
 {
-    let e = read_elements::open_at(s, at, end, 0x30);
+    let e = read_lengths::open_at(s, at, end, 0x30);
     if e.fault != 0 {
         return read_figures::halted(e.fault, e.place);
     }
-    let a = read_elements::open_at(s, e.value.start, e.value.stop, 0xa1);
+    let a = read_lengths::open_at(s, e.value.start, e.value.stop, 0xa1);
     if a.fault != 0 {
         return read_figures::halted(a.fault, a.place);
     }
@@ -371,22 +371,22 @@ fn settled_at(
     ensures { λ r. ⌜ whole r (now (figure .exit)) (now (numbers .exit)) (now (octets .exit)) ≡ shown noCharge ((settledOf operation) .read (now (s .entry)) at end) ⌝ }
     ensures clear { λ _. ⌜ Unassociated (now (figure .exit)) ⌝ }
 {
-    if read_elements::is_tag(s, at, end, 0x81) {
+    if read_lengths::is_tag(s, at, end, 0x81) {
         return read_figures::free_at(s, at, end, figure);
     }
     priced_at(s, at, end, operation, numbers, octets, figure)
 }
 
 // 35 and 36 have a 30 around the charge and its association; 33 and 34 have none.
-fn frame_at(s: &[u8], at: usize, end: usize, operation: u8) -> read_elements::Opened
+fn frame_at(s: &[u8], at: usize, end: usize, operation: u8) -> read_lengths::Opened
     requires { ⌜ end ≤ length (now s) ⌝ }
     ensures { λ r. ⌜ (r .fault, r .place, r .value, r .next) ≡ shown (record { start = 0; stop = 0 }) (framedBy (isSubtotal operation) (now (s .entry)) at end) ⌝ }
     ensures inside { λ r. ⌜ r .value .stop ≤ end ⌝ }
 {
     if !is_subtotal(operation) {
-        return read_elements::open_at(s, at, end, 0x30);
+        return read_lengths::open_at(s, at, end, 0x30);
     }
-    read_elements::Opened {
+    read_lengths::Opened {
         fault: 0,
         place: 0,
         value: coding::Extent {
@@ -466,7 +466,7 @@ fn is_arranged(s: &[u8], at: usize, end: usize, operation: u8) -> bool
     if operation != 30 {
         return false;
     }
-    read_elements::is_tag(s, at, end, 0x02)
+    read_lengths::is_tag(s, at, end, 0x02)
 }
 
 // The charge into the parts that are lent.

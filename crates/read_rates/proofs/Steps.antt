@@ -1,13 +1,8 @@
 -- A duration read in the code's steps: the same answers.
-use Prim.Native.Nat.{ℕ}
-use mathlib.Core.Path.{_≡_}
-use mathlib.Core.List.{List}
-use Rattle.coding.specs.Reader.{after, opened, closed, optional, constructed}
-use Rattle.coding.specs.Codec.{prim, cons, pair, maybe, canonical, over}
-use Rattle.coding.specs.Leaves.{number}
-use Rattle.coding.proofs.Reading.{flat}
-use Rattle.types.specs.Charges.{scaled, money}
-use Rattle.types.specs.Rates.{duration}
+use Rattle.prelude.proofs.Prelude.{ℕ, _≡_, List}
+use Rattle.coding.{specs.Reader.after, specs.Reader.opened, specs.Reader.closed, specs.Reader.optional, specs.Reader.constructed, specs.Codec.prim, specs.Codec.cons, specs.Codec.pair}
+use Rattle.coding.{specs.Codec.maybe, specs.Codec.canonical, specs.Codec.over, specs.Leaves.number, proofs.Reading.flat}
+use Rattle.types.specs.{Charges.scaled, Charges.money, Rates.duration}
 use Rattle.read_rates.specs.Readers.{stepTime, ratedAs}
 
 pub duration-read : (s : List ℕ) (at end : ℕ) →

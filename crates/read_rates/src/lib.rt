@@ -35,7 +35,7 @@ fn step_at(s: &[u8], at: usize, end: usize) -> StepRead
     requires { ⌜ end ≤ length (now s) ⌝ }
     ensures { λ r. ⌜ (r .fault, r .place, r .value, r .next) ≡ shown noStep (stepTime (now (s .entry)) at end) ⌝ }
 {
-    if read_elements::is_tag(s, at, end, 0xa5) {
+    if read_lengths::is_tag(s, at, end, 0xa5) {
         let t = read_figures::scaled_at(s, at, end, 0xa5);
         if t.fault != 0 {
             return StepRead {
@@ -83,7 +83,7 @@ fn money_at(s: &[u8], at: usize, end: usize) -> MoneyRead
             next: 0,
         };
     }
-    let value = types::money_of(&f);
+    let value = parts::money_of(&f);
     MoneyRead {
         fault: 0,
         place: 0,
@@ -162,7 +162,7 @@ fn duration_at(s: &[u8], at: usize, end: usize) -> RateRead
     requires { ⌜ end ≤ length (now s) ⌝ }
     ensures { λ r. ⌜ (r .fault, r .place, r .value, r .next) ≡ shown noRate (duration .read (now (s .entry)) at end) ⌝ }
 {
-    let e = read_elements::open_at(s, at, end, 0xa1);
+    let e = read_lengths::open_at(s, at, end, 0xa1);
     if e.fault != 0 {
         return no_rate(e.fault, e.place);
     }
@@ -193,7 +193,7 @@ fn flat_at(s: &[u8], at: usize, end: usize) -> RateRead
     requires { ⌜ end ≤ length (now s) ⌝ }
     ensures { λ r. ⌜ (r .fault, r .place, r .value, r .next) ≡ shown noRate (flatRate .read (now (s .entry)) at end) ⌝ }
 {
-    let e = read_elements::open_at(s, at, end, 0xa2);
+    let e = read_lengths::open_at(s, at, end, 0xa2);
     if e.fault != 0 {
         return no_rate(e.fault, e.place);
     }
@@ -212,7 +212,7 @@ fn volume_at(s: &[u8], at: usize, end: usize) -> RateRead
     requires { ⌜ end ≤ length (now s) ⌝ }
     ensures { λ r. ⌜ (r .fault, r .place, r .value, r .next) ≡ shown noRate (volume .read (now (s .entry)) at end) ⌝ }
 {
-    let e = read_elements::open_at(s, at, end, 0xa3);
+    let e = read_lengths::open_at(s, at, end, 0xa3);
     if e.fault != 0 {
         return no_rate(e.fault, e.place);
     }
@@ -266,19 +266,19 @@ fn price_at(s: &[u8], at: usize, end: usize) -> RateRead
     requires { ⌜ end ≤ length (now s) ⌝ }
     ensures { λ r. ⌜ (r .fault, r .place, r .value, r .next) ≡ shown noRate (price .read (now (s .entry)) at end) ⌝ }
 {
-    if read_elements::is_tag(s, at, end, 0xa1) {
+    if read_lengths::is_tag(s, at, end, 0xa1) {
         return duration_at(s, at, end);
     }
-    if read_elements::is_tag(s, at, end, 0xa2) {
+    if read_lengths::is_tag(s, at, end, 0xa2) {
         return flat_at(s, at, end);
     }
-    if read_elements::is_tag(s, at, end, 0xa3) {
+    if read_lengths::is_tag(s, at, end, 0xa3) {
         return volume_at(s, at, end);
     }
-    if read_elements::is_tag(s, at, end, 0x02) {
+    if read_lengths::is_tag(s, at, end, 0x02) {
         return coded_at(s, at, end);
     }
-    if read_elements::is_tag(s, at, end, 0x84) {
+    if read_lengths::is_tag(s, at, end, 0x84) {
         return plain_rate_at(s, at, end, 0x84, 5);
     }
     plain_rate_at(s, at, end, 0x85, 6)
@@ -289,7 +289,7 @@ pub fn rate_at(s: &[u8], at: usize, end: usize) -> RateRead
     requires { ⌜ end ≤ length (now s) ⌝ }
     ensures { λ r. ⌜ (r .fault, r .place, r .value, r .next) ≡ shown noRate (rate .read (now (s .entry)) at end) ⌝ }
 {
-    let e = read_elements::open_at(s, at, end, 0x30);
+    let e = read_lengths::open_at(s, at, end, 0x30);
     if e.fault != 0 {
         return no_rate(e.fault, e.place);
     }

@@ -1,16 +1,6 @@
 -- Rejects sent remain the same: 40 to 45 are answered as 9 was.
--- Assumes nothing.
-use Prim.Native.Nat.{ℕ, _≤_}
-use mathlib.Core.Path.{_≡_, ap, sym, _∙_}
-use mathlib.Core.Bool.{false, cond}
-use mathlib.Core.List.{List}
-use mathlib.Core.Logic.{_⊎_, inl, inr}
-use lib.Dec.{leb, eqb}
-use borrow.Author.Tests.{le-leb, lt-leb, ne-eqb}
-use native.Mathlib.Omega.{arith}
-use Rattle.types.specs.declared.Record.{Record}
-use Rattle.types.specs.Frames.{rejects, readOf}
-use Rattle.types.proofs.Theorems.{refusal}
+use Rattle.prelude.proofs.Prelude.{ℕ, _≤_, _≡_, ap, sym, _∙_, false, cond, List, _⊎_, inl, inr, leb, eqb, le-leb, lt-leb, ne-eqb, arith}
+use Rattle.types.{specs.declared.Record.Record, specs.Frames.rejects, specs.Frames.readOf, proofs.Theorems.refusal}
 use Rattle.reply.specs.Reply.{firstOf, identifierOf, replyBy, replyTo}
 
 -- the one number that 40 to 45 have in document 01

@@ -1,25 +1,13 @@
 -- A reply that names the component names it by its own identifier, which was read.
--- Assumes nothing.
-use Prim.Native.Nat.{ℕ, _+_, _≤_}
-use native.Mathlib.Omega.{arith}
-use mathlib.Core.Path.{_≡_, refl, sym, ap, _∙_, subst}
-use mathlib.Core.List.{List, [], _∷_}
-use mathlib.Core.Bool.{Bool, true, false, _||_, true≢false, cond}
-use mathlib.Core.Logic.{_⊎_, inl, inr}
-use lib.ListN.{length, getD}
-use lib.Dec.{ltb, leb, eqb}
-use borrow.Author.Tests.{eqb-true, eq-eqb}
-use Rattle.coding.specs.Reader.{Ans, Fault, after, blamed, enteredAny, lengthAt, closed}
-use Rattle.coding.specs.Reader.Ans.{got, halt}
-use Rattle.coding.specs.Reader.Fault.{missing, unexpected, cut, form, shortest, contents, limit, named}
-use Rattle.coding.specs.Codec.{prim, oneOf, pickRun, leads, frames}
-use Rattle.coding.specs.Leaves.{identifier}
-use Rattle.coding.specs.declared.Extent.{Extent}
-use Rattle.coding.proofs.Basic.{followed, or-false}
-use Rattle.coding.proofs.Header.{opened-sound, spans-range}
-use Rattle.coding.proofs.Frames.{any-got}
+use Rattle.prelude.proofs.Prelude.{ℕ, _≤_, arith, _≡_, refl, sym, ap, _∙_, subst, List, [], Bool, true, false, _||_, true≢false, cond, inr, length, getD, ltb, leb, eqb, eqb-true, eq-eqb}
+use Rattle.prelude.proofs.Prelude.{ne-eqb, leb-false}
+use Rattle.coding.{specs.Reader.Ans, specs.Reader.Fault, specs.Reader.after, specs.Reader.blamed, specs.Reader.enteredAny, specs.Reader.lengthAt, specs.Reader.closed, specs.Reader.Ans.got}
+use Rattle.coding.{specs.Reader.Ans.halt, specs.Reader.Fault.missing, specs.Reader.Fault.unexpected, specs.Reader.Fault.cut, specs.Reader.Fault.form, specs.Reader.Fault.shortest}
+use Rattle.coding.{specs.Reader.Fault.contents, specs.Reader.Fault.limit, specs.Reader.Fault.named, specs.Codec.prim, specs.Codec.oneOf, specs.Codec.pickRun, specs.Codec.leads}
+use Rattle.coding.{specs.Codec.frames, specs.Leaves.identifier, specs.declared.Extent.Extent, proofs.Basic.or-false, proofs.Header.opened-sound, proofs.Header.spans-range}
+use Rattle.coding.{proofs.Frames.any-got}
 use Rattle.types.specs.declared.Record.{Record}
-use Rattle.types.specs.Frames.{outside, numberOf, rejects, callerOf, invoke, returnResult, returnError, reject, frame, component, answered, readWhole, readOf}
+use Rattle.types.specs.Frames.{outside, numberOf, callerOf, invoke, returnResult, returnError, reject, frame, component, answered, readWhole, readOf}
 use Rattle.types.proofs.Places.{Plain, Ends, Lengths, pick, length-ends, prim-placed, identifier-blames}
 use Rattle.read_heads.proofs.Entered.{tags}
 use Rattle.reply.specs.Reply.{firstOf, identifierRead, valueOr0, identifierOf, isSilent, isNamed, replyBy, replyTo}
@@ -29,27 +17,16 @@ use Rattle.reply.specs.Reply.{firstOf, identifierRead, valueOr0, identif
 abbrev Nameless : Fault → Type 0
 Nameless w = isNamed (numberOf w) ≡ false
 
-unnamed : (w : Fault) → Plain w → Nameless w
+unnamed : (w : Fault) → Plain w → Nameless w × Nameless (outside w)
 unfolding oneOf
-unnamed missing a = refl
-unnamed unexpected a = refl
-unnamed cut a = refl
-unnamed form a = refl
-unnamed shortest a = refl
-unnamed contents a = refl
-unnamed limit a = refl
+unnamed missing a = (refl, refl)
+unnamed unexpected a = (refl, refl)
+unnamed cut a = (refl, refl)
+unnamed form a = (refl, refl)
+unnamed shortest a = (refl, refl)
+unnamed contents a = (refl, refl)
+unnamed limit a = (refl, refl)
 unnamed (named n) a = absurd a
-
-unnamed-outside : (w : Fault) → Plain w → Nameless (outside w)
-unfolding oneOf
-unnamed-outside missing a = refl
-unnamed-outside unexpected a = refl
-unnamed-outside cut a = refl
-unnamed-outside form a = refl
-unnamed-outside shortest a = refl
-unnamed-outside contents a = refl
-unnamed-outside limit a = refl
-unnamed-outside (named n) a = absurd a
 
 -- an answer's fault, if it has one
 abbrev Stops : Ans Extent → Type 0
@@ -64,7 +41,7 @@ entered-stops s =
   where
     go : (x : Ans Extent) → Lengths 0 x → Stops (after (blamed outside x) (λ v next. cond (eqb next (length s)) (got v next) (halt (named 5) next)))
     go (got v n) h = pick Stops (eqb n (length s)) _ _ (λ q. tt) (λ q. refl)
-    go (halt w p) h = unnamed-outside w (h .0)
+    go (halt w p) h = unnamed w (h .0) .1
 
 identifier-plain : (s : List ℕ) (a e : ℕ) → a ≤ e → Ends (λ w p. Plain w) a e ((prim 0x02 identifier) .read s a e)
 identifier-plain s a e l = prim-placed (λ w p. Plain w) (λ w p h. h) 0 0x02 identifier (identifier-blames (λ w p. Plain w) (λ w p h. h)) .ends s a e (omega arith) l
@@ -107,50 +84,37 @@ read-named s other h = go (enteredAny tags outside (named 5) s 0 (length s)) ref
         inner : (y : Ans ℕ) (k : ℕ → ℕ → Ans Record) → Ends (λ w p. Plain w) (x .start) (x .stop) y
             → isNamed (answered (after (after y k) (λ v last. closed v last (x .stop) next)) .number) ≡ true → (i n : ℕ) × (y ≡ got i n)
         inner (got i n) k st m = (i, n, refl)
-        inner (halt w p) k st m = absurd (true≢false (sym m ∙ unnamed w (st .0)))
+        inner (halt w p) k st m = absurd (true≢false (sym m ∙ unnamed w (st .0) .0))
 
 -- ---- and is the one sent
 
--- what holds of each number of a list holds of one that is in it
-abbrev Each : (ℕ → Type 0) → List ℕ → Type 0
-Each P [] = Unit {0}
-Each P (k ∷ ks) = P k × Each P ks
-
-each-has : (P : ℕ → Type 0) (ks : List ℕ) (n : ℕ) → Each P ks → oneOf ks n ≡ true → P n
-unfolding oneOf
-each-has P [] n a h = absurd (true≢false (sym h))
-each-has P (k ∷ ks) n a h = go (eqb n k) refl h (each-has P ks n (a .1))
-  where
-    go : (t : Bool) → eqb n k ≡ t → t || oneOf ks n ≡ true → (oneOf ks n ≡ true → P n) → P n
-    go true q r rest = subst P (sym (eqb-true n k q)) (a .0)
-    go false q r rest = rest r
-
-either-reject : (t : Bool) (i a b c d : ℕ) → callerOf (cond t (rejects (inr i) a b) (rejects (inr i) c d)) ≡ inr i
-either-reject true i a b c d = refl
-either-reject false i a b c d = refl
-
 sent : (n first i : ℕ) → isNamed n ≡ true → callerOf (replyBy n first i) ≡ inr i
-sent n first i =
-    let bad : callerOf (cond (eqb first 0xa2) (rejects (inr i) 0x82 2) (rejects (inr i) 0x81 2)) ≡ inr i = either-reject (eqb first 0xa2) i 0x82 2 0x81 2 in
-    each-has (λ n. callerOf (replyBy n first i) ≡ inr i) _ n
-    (either-reject (eqb first 0xa2) i 0x82 2 0x81 1, (refl, (bad, (bad, (bad, (bad, (bad, (bad, tt))))))))
+unfolding oneOf
+sent n first i h =
+    let P : Record → Type 0 = λ r. callerOf r ≡ inr i in
+    let other : (k : ℕ) → isNamed k ≡ false → eqb n k ≡ true → ⊥ = λ k f e. true≢false (sym h ∙ ap isNamed (eqb-true n k e) ∙ f) in
+    pick P (eqb n 4) _ _ (λ e. absurd (other 4 refl e)) (λ _. pick P (eqb n 6) _ _ (λ e. absurd (other 6 refl e)) (λ _.
+    pick P (eqb n 8) _ _ (λ _. refl) (λ e₈. pick P (eqb n 7) _ _ (λ _. pick P (eqb first 0xa2) _ _ (λ _. refl) (λ _. refl)) (λ e₇.
+    pick P (leb 40 n) _ _ (λ _. pick P (eqb first 0xa2) _ _ (λ _. refl) (λ _. refl)) (λ e.
+    let far : (k : ℕ) → 40 ≤ k → eqb n k ≡ false = λ k l. ne-eqb n k (λ z. omega (arith, leb-false 40 n e, l, z)) in
+    absurd (true≢false (sym (rw (e₇, e₈, far 40 (omega arith), far 41 (omega arith), far 42 (omega arith), far 43 (omega arith), far 44 (omega arith), far 45 (omega arith)) at h))))))))
+
+or-left-no : (a b : Bool) → a || b ≡ false → b ≡ false
+or-left-no true b e = absurd (true≢false e)
+or-left-no false b e = e
 
 -- where a reply is sent for a refusal that names the component, the component's identifier was read, and the reject is for that identifier
 pub named-reply : (s : List ℕ) → isSilent s ≡ false → isNamed (readOf s .number) ≡ true
     → (i n : ℕ) × (identifierRead s ≡ got i n) × (callerOf (replyTo s) ≡ inr i)
 unfolding isSilent replyTo identifierOf readOf readWhole oneOf
-named-reply s q h = go (ltb 254 (length s)) refl h
+named-reply s q h = by-length (ltb 254 (length s)) h
   where
-    or-left-no : (a b : Bool) → a || b ≡ false → b ≡ false
-    or-left-no true b e = absurd (true≢false e)
-    or-left-no false b e = e
-
     other : firstOf s ≡ 0xa4 → ⊥
     other e = true≢false (sym (eq-eqb (firstOf s) 0xa4 e) ∙ or-left-no (eqb (readOf s .number) 0) _ q)
 
-    go : (t : Bool) → ltb 254 (length s) ≡ t → isNamed (answered (cond t (halt (named 3) 0) (component .read s 0 (length s))) .number) ≡ true
+    by-length : (t : Bool) → isNamed (answered (cond t (halt (named 3) 0) (component .read s 0 (length s))) .number) ≡ true
         → (i n : ℕ) × (identifierRead s ≡ got i n) × (callerOf (replyTo s) ≡ inr i)
-    go true p m = absurd (true≢false (sym m))
-    go false p m =
+    by-length true m = absurd (true≢false (sym m))
+    by-length false m =
         let r = read-named s other m in
         (r .0, r .1, r .2, sent (readOf s .number) (firstOf s) (identifierOf s) h ∙ ap inr (ap valueOr0 (r .2)))

@@ -1,25 +1,10 @@
 -- An identifier from how it was read.
--- Assumes nothing.
-use Prim.Native.Nat.{ℕ, _+_, _<_}
-use native.Mathlib.Omega.{arith}
-use mathlib.Core.Path.{_≡_, refl, ap, _∙_}
-use mathlib.Core.Bool.{true, false}
-use mathlib.Core.List.{List, [], _∷_}
-use lib.ListN.{length, getD}
-use Rattle.coding.specs.Reader.{Ans, choice, lengthAt, opened, oneOf}
-use Rattle.coding.specs.Reader.Ans.{got, halt}
-use Rattle.coding.specs.Reader.Fault.{named}
-use Rattle.coding.specs.Codec.{prim}
-use Rattle.coding.specs.Leaves.{identifier}
-use Rattle.coding.specs.Shown.{shown}
-use Rattle.coding.specs.declared.Extent.{Extent}
-use Rattle.coding.proofs.Basic.{picked}
-use Rattle.coding.proofs.Header.{tagged-yes}
-use Rattle.coding.proofs.Frames.{any-lacks, any-strange, any-told, any-over, any-enters}
+use Rattle.prelude.proofs.Prelude.{ℕ, _<_, arith, _≡_, refl, ap, _∙_, true, false, List, [], _∷_, length, getD}
+use Rattle.coding.{specs.Reader.Ans, specs.Reader.choice, specs.Reader.lengthAt, specs.Reader.opened, specs.Reader.oneOf, specs.Reader.Ans.got, specs.Reader.Ans.halt}
+use Rattle.coding.{specs.Reader.Fault.named, specs.Codec.prim, specs.Leaves.identifier, specs.Shown.shown, specs.declared.Extent.Extent, proofs.Basic.picked, proofs.Header.tagged-yes}
+use Rattle.coding.{proofs.Frames.any-lacks, proofs.Frames.any-strange, proofs.Frames.any-told, proofs.Frames.any-over, proofs.Frames.any-enters}
 use Rattle.types.specs.Frames.{outside}
-use Rattle.read_heads.specs.Heads.{outsideCode}
-use Rattle.read_heads.proofs.Codes.{outside-code}
-use Rattle.read_heads.proofs.Entered.{tags}
+use Rattle.read_heads.{specs.Heads.outsideCode, proofs.Codes.outside-code, proofs.Entered.tags}
 use Rattle.reply.specs.Reply.{valueOr0, identifierOf}
 
 pub no-first : (s : List ℕ) → length s ≡ 0 → 0 ≡ getD s 0 0

@@ -1,76 +1,53 @@
 -- Every reply is a reject that may be written, of at most nine octets, and it is read back.
--- Assumes nothing.
-use Prim.Native.Nat.{ℕ, _≤_, _<_}
-use native.Mathlib.Omega.{arith}
-use mathlib.Core.Path.{_≡_, refl, ap, _∙_}
-use mathlib.Core.Bool.{Bool, true, false, cond}
-use mathlib.Core.Logic.{_⊎_, inl, inr}
-use mathlib.Core.List.{List, [], _++_}
-use lib.ListN.{length, length-append}
-use lib.Dec.{leb, eqb}
-use borrow.Author.Tests.{eq-eqb, ltb-true, le-leb}
-use Rattle.coding.specs.Reader.{Ans, after, enteredAny}
-use Rattle.coding.specs.Reader.Ans.{got, halt}
-use Rattle.coding.specs.Reader.Fault.{named}
-use Rattle.coding.specs.Codec.{prim}
-use Rattle.coding.specs.Leaves.{identifier}
-use Rattle.coding.specs.Written.{lead, fullNumber}
-use Rattle.coding.specs.declared.Extent.{Extent}
-use Rattle.coding.proofs.Basic.{and-both}
-use Rattle.coding.proofs.Laws.{Octets}
-use Rattle.coding.proofs.Combine.{primLaws}
-use Rattle.coding.proofs.Leaves.{identifierLaws}
-use Rattle.coding.proofs.Small.{small-length, id-range, id-length, null-length}
-use Rattle.coding.proofs.Writing.{lead-length-short}
-use Rattle.types.specs.declared.Record.{Record}
-use Rattle.types.specs.Arguments.{noCharge}
-use Rattle.types.specs.Frames.{component, outside, rejects, readOf, accepted}
-use Rattle.types.proofs.ArgumentLaws.{chargeEqual}
-use Rattle.types.proofs.Theorems.{reads-back}
+use Rattle.prelude.proofs.Prelude.{ℕ, _+_, _≤_, _<_, arith, _≡_, refl, ap, _∙_, Bool, true, false, cond, _⊎_, inl, inr, List, [], _++_, length, length-append, leb, eqb, eq-eqb, ltb-true}
+use Rattle.prelude.proofs.Prelude.{le-leb}
+use Rattle.coding.{specs.Reader.Ans, specs.Reader.after, specs.Reader.enteredAny, specs.Reader.Ans.got, specs.Reader.Ans.halt, specs.Reader.Fault.named, specs.Codec.prim}
+use Rattle.coding.{specs.Leaves.identifier, specs.Written.lead, specs.Written.fullNumber, specs.declared.Extent.Extent, proofs.Basic.and-both, proofs.Laws.Octets, proofs.Combine.primLaws}
+use Rattle.coding.{proofs.Leaves.identifierLaws, proofs.Small.small-length, proofs.Small.id-range, proofs.Small.id-length, proofs.Small.null-length, proofs.Writing.lead-length-short}
+use Rattle.types.{specs.declared.Record.Record, specs.Arguments.noCharge, specs.Frames.component, specs.Frames.outside, specs.Frames.rejects, specs.Frames.readOf, specs.Frames.accepted}
+use Rattle.types.{proofs.ArgumentLaws.chargeEqual, proofs.Theorems.reads-back, proofs.Places.pick}
+use Rattle.write.{specs.declared.Written.Written, specs.Parts.frontOf, specs.Parts.bodyOf, proofs.Valid.valid-parts, proofs.Octets.write-parts, specs.Outcome.writeOf}
 use Rattle.write_heads.specs.Fronts.{frontFine, frontOctets, idOctets, problemFine}
-use Rattle.write.specs.Parts.{frontOf, bodyOf}
-use Rattle.write.proofs.Valid.{valid-parts}
-use Rattle.write.proofs.Octets.{write-parts}
-use Rattle.write.specs.Outcome.{done, no, writeOf}
 use Rattle.read_heads.proofs.Entered.{tags, entered-ends}
 use Rattle.reply.specs.Reply.{valueOr0, identifierOf, firstOf, isSilent, replyBy, replyTo, replyOf}
-
--- a reject of a problem that there is, to NULL or to an identifier
-module _ (tag d : ℕ) (p : problemFine tag d ≡ true) (l : d < 128) where
-  null-fine : frontFine (frontOf (rejects (inl tt) tag d)) ≡ true
-  unfolding frontFine
-  null-fine = simp (eq-eqb tag tag refl, eq-eqb d d refl, p)
-
-  null-valid : component .valid (rejects (inl tt) tag d) ≡ true
-  null-valid = valid-parts (rejects (inl tt) tag d) (omega arith) ∙ and-both (frontFine (frontOf (rejects (inl tt) tag d))) _ null-fine (chargeEqual .self noCharge)
-
-  null-few : length (component .write (rejects (inl tt) tag d)) ≤ 9
-  unfolding frontOctets
-  null-few =
-      let body = bodyOf (frontOf (rejects (inl tt) tag d)) noCharge in
-      let b : length body ≡ 5 = omega (arith, length-append (lead 0x05 0 ++ fullNumber tag d) [], length-append (lead 0x05 0) (fullNumber tag d), null-length 0x05, small-length tag d l) in
-      omega (arith, ap length (write-parts (rejects (inl tt) tag d) null-fine), length-append (lead 0xa4 (length body)) body, b, lead-length-short 0xa4 (length body) (omega (arith, b)))
-
-  module _ (i : ℕ) (s : i < 0x10000) where
-    named-fine : frontFine (frontOf (rejects (inr i) tag d)) ≡ true
-    unfolding frontFine
-    named-fine = simp (eq-eqb i i refl, eq-eqb tag tag refl, eq-eqb d d refl, p)
-
-    named-valid : component .valid (rejects (inr i) tag d) ≡ true
-    named-valid = valid-parts (rejects (inr i) tag d) s ∙ and-both (frontFine (frontOf (rejects (inr i) tag d))) _ named-fine (chargeEqual .self noCharge)
-
-    named-few : length (component .write (rejects (inr i) tag d)) ≤ 9
-    unfolding frontOctets
-    named-few =
-        let body = bodyOf (frontOf (rejects (inr i) tag d)) noCharge in
-        let f = frontOf (rejects (inr i) tag d) in
-        let b : length body ≤ 7 =
-        omega (arith, length-append (idOctets f ++ fullNumber tag d) [], length-append (idOctets f) (fullNumber tag d), id-length 0x02 i, id-range i, small-length tag d l) in
-        omega (arith, ap length (write-parts (rejects (inr i) tag d) named-fine), length-append (lead 0xa4 (length body)) body, b, lead-length-short 0xa4 (length body) (omega (arith, b)))
 
 -- what is asked of a reply
 abbrev Sent : Record → Type 0
 Sent r = (component .valid r ≡ true) × (length (component .write r) ≤ 9)
+
+-- an identifier has 16 bits
+abbrev Small : Unit {0} ⊎ ℕ → Type 0
+Small (inl u) = Unit {0}
+Small (inr i) = i < 0x10000
+
+-- a reject of a problem that there is, to NULL or to an identifier
+module _ (tag d : ℕ) (p : problemFine tag d ≡ true) (l : d < 128) where
+  fine : (who : Unit {0} ⊎ ℕ) → frontFine (frontOf (rejects who tag d)) ≡ true
+  unfolding frontFine
+  fine (inl u) = simp (eq-eqb tag tag refl, eq-eqb d d refl, p)
+  fine (inr i) = simp (eq-eqb i i refl, eq-eqb tag tag refl, eq-eqb d d refl, p)
+
+  valid : (who : Unit {0} ⊎ ℕ) → Small who → component .valid (rejects who tag d) ≡ true
+  valid (inl u) s = valid-parts (rejects (inl u) tag d) (omega arith) ∙ and-both _ _ (fine (inl u)) (chargeEqual .self noCharge)
+  valid (inr i) s = valid-parts (rejects (inr i) tag d) s ∙ and-both _ _ (fine (inr i)) (chargeEqual .self noCharge)
+
+  abbrev body : Unit {0} ⊎ ℕ → List ℕ
+  body who = bodyOf (frontOf (rejects who tag d)) (rejects who tag d .charge)
+
+  short : (who : Unit {0} ⊎ ℕ) → length (body who) ≤ 7
+  unfolding frontOctets
+  short (inl u) = omega (arith, length-append (lead 0x05 0 ++ fullNumber tag d) [], length-append (lead 0x05 0) (fullNumber tag d), null-length 0x05, small-length tag d l)
+  short (inr i) =
+      let f = frontOf (rejects (inr i) tag d) in
+      omega (arith, length-append (idOctets f ++ fullNumber tag d) [], length-append (idOctets f) (fullNumber tag d), id-length 0x02 i, id-range i, small-length tag d l)
+
+  sent : (who : Unit {0} ⊎ ℕ) → Small who → Sent (rejects who tag d)
+  sent who s =
+      let r = rejects who tag d in
+      let b = short who in
+      let h = lead (0xa0 + r .front .frame) (length (body who)) in
+      let m = lead-length-short (0xa0 + r .front .frame) (length (body who)) (omega (arith, b)) in
+      (valid who s, omega (arith, ap length (write-parts r (fine who)), length-append h (body who), b, m))
 
 when : (t : Bool) (x y : Record) → Sent x → Sent y → Sent (cond t x y)
 when true x y a b = a
@@ -79,14 +56,13 @@ when false x y a b = b
 -- every reply that a refusal calls for may be written and is short
 pub replies : (n first i : ℕ) → i < 0x10000 → Sent (replyBy n first i)
 replies n first i s =
-    when (eqb n 4) _ _ (null-valid 0x80 0 refl (omega arith), null-few 0x80 0 refl (omega arith))
-    (when (eqb n 6) _ _ (null-valid 0x80 1 refl (omega arith), null-few 0x80 1 refl (omega arith))
-    (when (eqb n 8) _ _ (named-valid 0x83 2 refl (omega arith) i s, named-few 0x83 2 refl (omega arith) i s)
-    (when (eqb n 7) _ _ (when (eqb first 0xa2) _ _ (named-valid 0x82 2 refl (omega arith) i s, named-few 0x82 2 refl (omega arith) i s)
-    (named-valid 0x81 1 refl (omega arith) i s, named-few 0x81 1 refl (omega arith) i s))
-    (when (leb 40 n) _ _ (when (eqb first 0xa2) _ _ (named-valid 0x82 2 refl (omega arith) i s, named-few 0x82 2 refl (omega arith) i s)
-    (named-valid 0x81 2 refl (omega arith) i s, named-few 0x81 2 refl (omega arith) i s))
-    (null-valid 0x80 2 refl (omega arith), null-few 0x80 2 refl (omega arith))))))
+    let named : (tag d : ℕ) → problemFine tag d ≡ true → d < 128 → Sent (rejects (inr i) tag d) = λ tag d p l. sent tag d p l (inr i) s in
+    when (eqb n 4) _ _ (sent 0x80 0 refl (omega arith) (inl tt) tt)
+    (when (eqb n 6) _ _ (sent 0x80 1 refl (omega arith) (inl tt) tt)
+    (when (eqb n 8) _ _ (named 0x83 2 refl (omega arith))
+    (when (eqb n 7) _ _ (when (eqb first 0xa2) _ _ (named 0x82 2 refl (omega arith)) (named 0x81 1 refl (omega arith)))
+    (when (leb 40 n) _ _ (when (eqb first 0xa2) _ _ (named 0x82 2 refl (omega arith)) (named 0x81 2 refl (omega arith)))
+    (sent 0x80 2 refl (omega arith) (inl tt) tt)))))
 
 -- so it is read back
 pub reply-reads-back : (n first i : ℕ) → i < 0x10000 → readOf (component .write (replyBy n first i)) ≡ accepted (replyBy n first i)
@@ -94,14 +70,11 @@ reply-reads-back n first i s = let r = replies n first i s in reads-back (replyB
 
 -- ---- of any octets: the identifier has 16 bits, so the reply may be written, is short, and is refused 12 or not at all
 
-id-of-read : (s : List ℕ) (a e i m : ℕ) → Octets s → a ≤ e → e ≤ length s → (prim 0x02 identifier) .read s a e ≡ got i m → i < 0x10000
+small-read : (s : List ℕ) (a e : ℕ) → Octets s → a ≤ e → e ≤ length s → (r : Ans ℕ) → (prim 0x02 identifier) .read s a e ≡ r → valueOr0 r < 0x10000
 unfolding prim identifier
-id-of-read s a e i m os ae es q =
+small-read s a e os ae es (got i m) q =
     let L = primLaws 0x02 identifier identifierLaws refl in
     ltb-true i 0x10000 (L .fine s a m i (L .sound s a e m i os ae es q .1))
-
-small-read : (s : List ℕ) (a e : ℕ) → Octets s → a ≤ e → e ≤ length s → (r : Ans ℕ) → (prim 0x02 identifier) .read s a e ≡ r → valueOr0 r < 0x10000
-small-read s a e os ae es (got i m) q = id-of-read s a e i m os ae es q
 small-read s a e os ae es (halt w p) q = omega arith
 
 small-entered : (s : List ℕ) → Octets s → (r : Ans Extent) → enteredAny tags outside (named 5) s 0 (length s) ≡ r
@@ -124,13 +97,6 @@ pub only-12 : (s : List ℕ) (room : ℕ) → Octets s → (replyOf s room .numb
 unfolding replyOf writeOf
 only-12 s room os =
     let q = reply-sent s os in
-    go (isSilent s) (leb (length (component .write (replyTo s))) room) (q .0) (le-leb (length (component .write (replyTo s))) 254 (omega (arith, q .1)))
-  where
-    go : (a f : Bool) → component .valid (replyTo s) ≡ true → leb (length (component .write (replyTo s))) 254 ≡ true
-        → ((cond a (done 0) (cond (component .valid (replyTo s)) (cond (leb (length (component .write (replyTo s))) 254)
-        (cond f (done (length (component .write (replyTo s)))) (no 12)) (no 11)) (no 10))) .number ≡ 0)
-        ⊎ ((cond a (done 0) (cond (component .valid (replyTo s)) (cond (leb (length (component .write (replyTo s))) 254)
-        (cond f (done (length (component .write (replyTo s)))) (no 12)) (no 11)) (no 10))) .number ≡ 12)
-    go true f v l = inl refl
-    go false true v l = inl (rw (v, l))
-    go false false v l = inr (rw (v, l))
+    let l = le-leb (length (component .write (replyTo s))) 254 (omega (arith, q .1)) in
+    let P : Written → Type 0 = λ w. (w .number ≡ 0) ⊎ (w .number ≡ 12) in
+    pick P (isSilent s) _ _ (λ e. inl refl) (λ e. rw (q .0, l) (pick P (leb (length (component .write (replyTo s))) room) _ _ (λ f. inl refl) (λ f. inr refl)))

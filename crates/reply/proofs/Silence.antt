@@ -1,30 +1,13 @@
 -- What is answered, by what the component's refusal and first octet are.
--- Assumes nothing.
-use Prim.Native.Nat.{ℕ}
-use mathlib.Core.Path.{_≡_, refl}
-use mathlib.Core.Bool.{Bool, true, false, _||_}
-use mathlib.Core.List.{List}
-use lib.ListN.{length}
-use lib.Dec.{eqb}
-use borrow.Author.Tests.{eq-eqb, ne-eqb}
-use Rattle.types.specs.declared.Record.{Record}
-use Rattle.types.specs.Frames.{readOf}
-use Rattle.write.specs.declared.Written.{Written}
-use Rattle.write.specs.Outcome.{done, writeOf, leftOf}
+use Rattle.prelude.proofs.Prelude.{ℕ, _≡_, refl, Bool, true, false, _||_, List, length, eqb, eq-eqb, ne-eqb}
+use Rattle.types.specs.{declared.Record.Record, Frames.readOf}
+use Rattle.write.specs.{declared.Written.Written, Outcome.done, Outcome.writeOf, Outcome.leftOf}
 use Rattle.reply.specs.Reply.{firstOf, identifierOf, isSilent, replyBy, replyTo, replyOf, replyLeft}
 
 module _ (s : List ℕ) where
-  is-accepted : readOf s .number ≡ 0 → isSilent s ≡ true
-  unfolding isSilent
-  is-accepted e = simp (eq-eqb _ _ e)
-
   or-true : (b : Bool) → b || true ≡ true
   or-true true = refl
   or-true false = refl
-
-  is-reject : firstOf s ≡ 0xa4 → isSilent s ≡ true
-  unfolding isSilent
-  is-reject e = rw (eq-eqb _ _ e) (or-true (eqb (readOf s .number) 0))
 
   pub spoken : (readOf s .number ≡ 0 → ⊥) → (firstOf s ≡ 0xa4 → ⊥) → isSilent s ≡ false
   unfolding isSilent
@@ -36,10 +19,12 @@ module _ (s : List ℕ) where
     silent-both q = (rw q, rw q)
 
     pub silent-accepted : readOf s .number ≡ 0 → (done 0 ≡ replyOf s (length before)) × (before ≡ replyLeft s before)
-    silent-accepted e = silent-both (is-accepted e)
+    unfolding isSilent
+    silent-accepted e = silent-both (simp (eq-eqb _ _ e))
 
     pub silent-reject : firstOf s ≡ 0xa4 → (done 0 ≡ replyOf s (length before)) × (before ≡ replyLeft s before)
-    silent-reject e = silent-both (is-reject e)
+    unfolding isSilent
+    silent-reject e = silent-both (rw (eq-eqb _ _ e) (or-true (eqb (readOf s .number) 0)))
 
     pub replied : {w : Written} {after : List ℕ} (r : Record) → isSilent s ≡ false → r ≡ replyBy (readOf s .number) (firstOf s) (identifierOf s)
         → w ≡ writeOf r (length before) → after ≡ leftOf r before → (w ≡ replyOf s (length before)) × (after ≡ replyLeft s before)

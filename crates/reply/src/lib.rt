@@ -30,7 +30,7 @@ fn identifier_of(octets: &[u8]) -> u16
     if 0xa4 < tag {
         return 0;
     }
-    let e = read_elements::open_at(octets, 0, n, tag);
+    let e = read_lengths::open_at(octets, 0, n, tag);
     if e.fault != 0 {
         return 0;
     }
@@ -45,13 +45,15 @@ fn unnamed(problem: u8, detail: u8) -> types::Record
     ensures { λ r. ⌜ r ≡ rejects (inl tt) problem detail ⌝ }
 {
     types::Record {
-        frame: 4,
-        unnamed: 1,
-        id: 0,
-        operation: 0,
-        error: 0,
-        problem,
-        detail,
+        front: types::Front {
+            frame: 4,
+            unnamed: 1,
+            id: 0,
+            operation: 0,
+            error: 0,
+            problem,
+            detail,
+        },
         charge: types::NO_CHARGE,
     }
 }
@@ -60,13 +62,15 @@ fn named(id: u16, problem: u8, detail: u8) -> types::Record
     ensures { λ r. ⌜ r ≡ rejects (inr id) problem detail ⌝ }
 {
     types::Record {
-        frame: 4,
-        unnamed: 0,
-        id,
-        operation: 0,
-        error: 0,
-        problem,
-        detail,
+        front: types::Front {
+            frame: 4,
+            unnamed: 0,
+            id,
+            operation: 0,
+            error: 0,
+            problem,
+            detail,
+        },
         charge: types::NO_CHARGE,
     }
 }

@@ -1,16 +1,6 @@
 -- Currencies that differ in trailing spaces alone are equal, and no others; so equality is an equivalence. Assumes nothing.
-use Prim.Native.Nat.{ℕ, zero, suc, _≤_, _<_}
-use mathlib.Core.Path.{_≡_, refl, sym, ap, _∙_}
-use mathlib.Core.List.{List, [], _∷_, _++_, append-assoc, append-nil}
-use mathlib.Core.Bool.{Bool, true, false, cond}
-use mathlib.Core.Logic.{_↔_}
-use native.Mathlib.Omega.{arith}
-use native.Mathlib.Decide.{decLt}
-use native.Mathlib.Nat.{not-suc-le-zero}
-use lib.ListN.{length, getD, replicate, length-take, List·getD-eq-default}
-use lib.Seq.{getD-take}
-use lib.Dec.{eqb}
-use borrow.Author.Tests.{eqb-true}
+use Rattle.prelude.proofs.Prelude.{ℕ, zero, suc, _≤_, _<_, _≡_, refl, sym, ap, _∙_, List, [], _∷_, _++_, append-assoc, append-nil, Bool, true, false, _↔_, arith, decLt, ℕ-discrete}
+use Rattle.prelude.proofs.Prelude.{not-suc-le-zero, length, getD, replicate, length-take, List·getD-eq-default, getD-take, eqb, eq-eqb, ne-eqb}
 use Rattle.coding.proofs.Padded.{eqbEqual, listEqual}
 use Rattle.types.specs.declared.Currency.{Currency}
 use Rattle.same_final.specs.Currency.{ahead, trimmed, counted, equalCurrency}
@@ -29,12 +19,8 @@ pub spaces-more : (xs : List ℕ) (k : ℕ) → trimmed (xs ++ spaces k) ≡ tri
 spaces-more xs zero = ap trimmed (append-nil xs)
 spaces-more xs (suc k) = ap trimmed (sym (append-assoc xs (0x20 ∷ []) (spaces k))) ∙ (spaces-more (xs ++ (0x20 ∷ [])) k ∙ one-more xs)
 
-nothing-after : (x : ℕ) (xs : List ℕ) (k : ℕ) (b : Bool) → eqb x 0x20 ≡ b → xs ≡ spaces k → (j : ℕ) × (x ∷ xs ≡ cond b [] (x ∷ []) ++ spaces j)
-nothing-after x xs k true h e = (suc k, cc (eqb-true x 0x20 h))
-nothing-after x xs k false h e = (k, cc)
-
 in-front : (x : ℕ) (xs ts : List ℕ) (k : ℕ) → xs ≡ ts ++ spaces k → (j : ℕ) × (x ∷ xs ≡ ahead x ts ++ spaces j)
-in-front x xs [] k e = nothing-after x xs k (eqb x 0x20) refl e
+in-front x xs [] k e = elim (ℕ-discrete x 0x20) [ yes h ↦ (suc k, cc (eq-eqb x 0x20 h)) | no h ↦ (k, cc (ne-eqb x 0x20 h)) ]
 in-front x xs (t ∷ ts) k e = (k, ap (λ (l : List ℕ). x ∷ l) e)
 
 -- what is taken off is spaces
@@ -58,19 +44,16 @@ unfolding equalCurrency
 means c d = (listEqual eqb eqbEqual .equal _ _, λ e. rw e (listEqual eqb eqbEqual .self (trimmed (counted d))))
 
 pub alike : (c d : Currency) → (equalCurrency c d ≡ true) ↔ Alike (counted c) (counted d)
-alike c d = (forth, back)
-  where
-    forth : equalCurrency c d ≡ true → Alike (counted c) (counted d)
-    forth e = record {
-      text = trimmed (counted c);
-      first = only-spaces (counted c) .0;
-      second = only-spaces (counted d) .0;
-      one = only-spaces (counted c) .1;
-      other = rw (means c d .0 e) (only-spaces (counted d) .1);
-    }
-
-    back : Alike (counted c) (counted d) → equalCurrency c d ≡ true
-    back a = means c d .1 (ap trimmed (a .one) ∙ (spaces-more (a .text) (a .first) ∙ (sym (spaces-more (a .text) (a .second)) ∙ ap trimmed (sym (a .other)))))
+alike c d = (
+  λ e. record {
+    text = trimmed (counted c);
+    first = only-spaces (counted c) .0;
+    second = only-spaces (counted d) .0;
+    one = only-spaces (counted c) .1;
+    other = rw (means c d .0 e) (only-spaces (counted d) .1);
+  },
+  λ a. means c d .1 (ap trimmed (a .one) ∙ (spaces-more (a .text) (a .first) ∙ (sym (spaces-more (a .text) (a .second)) ∙ ap trimmed (sym (a .other))))),
+)
 
 pub reflexive : (c : Currency) → equalCurrency c c ≡ true
 reflexive c = means c c .1 refl
@@ -84,12 +67,8 @@ transitive b c d e f = means b d .1 (means b c .0 e ∙ means c d .0 f)
 -- ---- place by place, as if spaces went on for ever
 
 stays-ahead : (x : ℕ) (ts : List ℕ) (i : ℕ) → getD (ahead x ts) i 0x20 ≡ getD (x ∷ ts) i 0x20
-stays-ahead x [] i = by-octet (eqb x 0x20) refl i
-  where
-    by-octet : (b : Bool) → eqb x 0x20 ≡ b → (i : ℕ) → getD (cond b [] (x ∷ [])) i 0x20 ≡ getD (x ∷ []) i 0x20
-    by-octet true h zero = sym (eqb-true _ _ h)
-    by-octet true h (suc j) = refl
-    by-octet false h j = refl
+stays-ahead x [] zero = elim (ℕ-discrete x 0x20) [ yes h ↦ rw h | no h ↦ rw (ne-eqb x 0x20 h) ]
+stays-ahead x [] (suc i) = elim (ℕ-discrete x 0x20) [ yes h ↦ rw h | no h ↦ rw (ne-eqb x 0x20 h) ]
 stays-ahead x (t ∷ ts) i = refl
 
 pub stays : (xs : List ℕ) (i : ℕ) → getD (trimmed xs) i 0x20 ≡ getD xs i 0x20
@@ -116,11 +95,10 @@ differ c d i h = is-false (equalCurrency c d) (λ e. h (sym (stays (counted c) i
 -- no such place among the first n, which have all their octets
 pub agree : (c d : Currency) (n : ℕ) → length (counted c) ≤ n → length (counted d) ≤ n → ((i : ℕ) → i < n → getD (counted c) i 0x20 ≡ getD (counted d) i 0x20) →
     equalCurrency c d ≡ true
-agree c d n p q h = means c d .1 (same-places (counted c) (counted d) (λ i. by-place i (decLt i n)))
-  where
-    by-place : (i : ℕ) → Dec (i < n) → getD (counted c) i 0x20 ≡ getD (counted d) i 0x20
-    by-place i (yes l) = h i l
-    by-place i (no m) = List·getD-eq-default (counted c) 0x20 (omega arith) ∙ sym (List·getD-eq-default (counted d) 0x20 (omega arith))
+agree c d n p q h = means c d .1 (same-places (counted c) (counted d) (λ i. elim (decLt i n) [
+  | yes l ↦ h i l
+  | no m ↦ List·getD-eq-default (counted c) 0x20 (omega arith) ∙ sym (List·getD-eq-default (counted d) 0x20 (omega arith))
+]))
 
 -- ---- the octet at a place
 
@@ -135,5 +113,5 @@ place-in c i p h = any-default (c .octets) i 0 0x20 h ∙ sym (getD-take (c .cou
 pub place-past : (c : Currency) (i : ℕ) → c .count ≤ i → 0x20 ≡ getD (counted c) i 0x20
 place-past c i p = sym (List·getD-eq-default (counted c) 0x20 (simp length-take (omega arith)))
 
-pub few : (c : Currency) (n : ℕ) → length (c .octets) ≤ n → length (counted c) ≤ n
+pub few : (c : Currency) (n : ℕ) → length (c .octets) ≡ n → length (counted c) ≤ n
 few c n h = simp length-take (omega arith)

@@ -1,13 +1,8 @@
 -- Pairs of finals that differ in spaces and in little else: one statement over one table.
-use Prim.Native.Nat.{ℕ}
-use mathlib.Core.Path.{_≡_, refl}
-use mathlib.Core.Bool.{Bool, true, false}
-use mathlib.Core.List.{List, [], _∷_, map}
+use Rattle.prelude.proofs.Prelude.{ℕ, _≡_, refl, true, false, List, [], _∷_, map}
 use Rattle.coding.specs.Codec.{pad}
-use Rattle.types.specs.declared.Money.{Money}
-use Rattle.types.specs.Charges.{kept}
-use Rattle.same_final.specs.Currency.{trimmed, equalCurrency}
-use Rattle.same_final.specs.Same.{equalMoney}
+use Rattle.types.specs.{declared.Money.Money, Charges.kept}
+use Rattle.same_final.specs.{Currency.trimmed, Currency.equalCurrency, Same.equalMoney}
 
 abbrev pub inText : List ℕ → ℕ → ℕ → Money
 inText xs number multiplier = record { currency = kept xs; multiplier = multiplier; number = number }

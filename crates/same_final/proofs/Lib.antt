@@ -1,3 +1,4 @@
 pub mod Each
+pub mod Ways
 pub mod Currencies
 pub mod Examples

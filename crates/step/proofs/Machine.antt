@@ -1,18 +1,14 @@
 -- The machine values of an account and of what goes with it, which no walk by hand looks into.
--- Assumes nothing.
-use mathlib.Core.Path.{_≡_, refl}
-use Prim.Native.Nat.{ℕ}
-use mathlib.Core.List.{List, [], _∷_}
+use Rattle.prelude.proofs.Prelude.{_≡_, refl, ℕ, List, [], _∷_}
 use mir.Val.{Val}
 use denote.Laws.{Is, Tells}
-use denote.Struct.Laws as LL
 use Rattle.types.specs.declared.Charge.{Charge}
+use Rattle.account.specs.declared.Account.{Account}
+use Rattle.phases.specs.declared.{Event.Event, Outcome.Outcome, Status.Status}
+use Rattle.step.proofs.Lent.{accountVal}
+use denote.Struct.Laws as LL
 use Rattle.types.proofs.Charge as F
 use Rattle.types.proofs.Charge.Laws as F′
-use Rattle.account.specs.declared.Account.{Account}
-use Rattle.phases.specs.declared.Event.{Event}
-use Rattle.phases.specs.declared.Outcome.{Outcome}
-use Rattle.phases.specs.declared.Status.{Status}
 use Rattle.account.proofs.Account as T
 use Rattle.account.proofs.Account.Laws as T′
 use Rattle.phases.proofs.Event as E
@@ -21,7 +17,6 @@ use Rattle.phases.proofs.Outcome as O
 use Rattle.phases.proofs.Outcome.Laws as O′
 use Rattle.phases.proofs.Status as S
 use Rattle.phases.proofs.Status.Laws as S′
-use Rattle.step.proofs.Lent.{accountVal}
 
 -- the name of the struct in MIR: account::Account
 abbrev pub account-name : List ℕ
@@ -55,6 +50,9 @@ unfolding vO
 tellsO = LL.tells O.the-type O′.the-laws
 
 -- an account's machine value is made of those of its parts
-pub parts : (h : Account) → vA h ≡ accountVal (vT (h .status)) (vF (h .rate)) (vF (h .running)) (vF (h .dfinal)) (vF (h .efinal))
+abbrev pub spread : Account → Val
+spread h = accountVal (vT (h .status)) (vF (h .rate)) (vF (h .running)) (vF (h .dfinal)) (vF (h .efinal))
+
+pub parts : (h : Account) → vA h ≡ spread h
 unfolding vA vT vF
 parts h = refl

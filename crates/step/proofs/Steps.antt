@@ -1,39 +1,21 @@
 -- The step by its parts.
-use Prim.Native.Nat.{ℕ}
-use mathlib.Core.Path.{_≡_, refl, sym, _∙_, ap}
-use mathlib.Core.List.{List}
-use mathlib.Core.Bool.{Bool, true, false, not, _&&_, cond}
-use lib.Dec.{T, eqb, eqb→eq}
-use borrow.Author.Tests.{eq-eqb, ne-eqb, eqb-false}
-use Rattle.types.specs.declared.Charge.{Charge}
-use Rattle.types.specs.declared.Record.{Record}
-use Rattle.types.specs.declared.Answer.{Answer}
-use Rattle.types.specs.Arguments.{noCharge}
-use Rattle.types.specs.Frames.{readOf}
-use Rattle.values.specs.Sets.{has}
-use Rattle.phases.specs.declared.Event.{Event}
-use Rattle.phases.specs.declared.Outcome.{Outcome}
-use Rattle.phases.specs.declared.Status.{Status}
-use Rattle.account.specs.declared.Account.{Account}
-use Rattle.account.specs.declared.Change.{Change}
-use Rattle.account.specs.declared.Stepped.{Stepped}
-use Rattle.phases.specs.Phases.{Idle, Suspended, Setup, Component, S, noService, clashes, allowed, leadsTo, Given, event}
-use Rattle.outcomes.specs.Outcome.{isRefusal, serviceOf, holderOf, runs, closes, fits, judgeRecord, judgeAnswer, judge}
-use Rattle.account.specs.History.{judged, accountBy, steppedBy}
-use Rattle.account.specs.Step.{knownOf, changeBy, changeOf, changed, steppedOf}
-use Rattle.outcomes.specs.Status.{requestsOf, noted, placeOf}
-use Rattle.phases.specs.Parts.{nextPhase, movingOf}
-use Rattle.outcomes.specs.Parts.{claimRecord}
+use Rattle.prelude.proofs.Prelude.{ℕ, _≡_, refl, sym, _∙_, ap, List, Bool, true, false, not, _&&_, cond, T, eqb, eqb→eq, is-false, eq-eqb, ne-eqb}
+use Rattle.phases.{proofs.Choice.if-same, proofs.Choice.by-test, specs.declared.Event.Event, specs.declared.Outcome.Outcome, specs.declared.Status.Status, specs.Phases.Idle}
+use Rattle.phases.{specs.Phases.Setup, specs.Phases.Component, specs.Phases.noService, specs.Phases.clashes, specs.Phases.allowed, specs.Phases.Given, specs.Phases.event}
+use Rattle.phases.{specs.Parts.nextPhase, specs.Parts.movingOf, proofs.Transitions.next-none, proofs.Transitions.next-some}
+use Rattle.types.specs.{declared.Record.Record, declared.Answer.Answer, Arguments.noCharge, Frames.readOf}
+use Rattle.account.{specs.declared.Account.Account, specs.declared.Change.Change, specs.declared.Stepped.Stepped, specs.History.judged, specs.History.accountBy, specs.History.steppedBy}
+use Rattle.account.{specs.Step.knownOf, specs.Step.changeBy, specs.Step.changeOf, specs.Step.changed, specs.Step.steppedOf, proofs.Demand.step-stands, proofs.Demand.notes-nothing}
+use Rattle.account.{proofs.Demand.keeps-nothing}
+use Rattle.outcomes.{specs.Outcome.isRefusal, specs.Outcome.fits, specs.Outcome.judgeRecord, specs.Outcome.judgeAnswer, specs.Outcome.judge, specs.Status.requestsOf, specs.Status.noted}
+use Rattle.outcomes.{specs.Status.placeOf, specs.Parts.claimRecord, proofs.Refusals.decoding-refusal}
 use Rattle.step.specs.Parts.{resolved, taken}
-use Rattle.phases.proofs.Transitions.{next-none, next-some}
-use Rattle.outcomes.proofs.Refusals.{decoding-refusal}
-use Rattle.account.proofs.Demand.{step-stands, notes-nothing, keeps-nothing, moves-nothing}
 
 -- ---- a final that is claimed, and then compared, is the final judged at once
 
 module _ (a : Account) (x : Record) where
   abbrev claim : Outcome
-  claim = claimRecord (a .status .phase) (requestsOf (a .status)) (x .frame) (x .operation) (x .unnamed) (x .id) (x .charge .figure .kind) (x .charge .figure .total)
+  claim = claimRecord (a .status .phase) (requestsOf (a .status)) (x .front) (x .charge .figure .kind) (x .charge .figure .total)
 
   each-way : (b : Bool) (p q p′ q′ : Outcome) → resolved a p (x .charge) ≡ p′ → resolved a q (x .charge) ≡ q′ → resolved a (cond b p q) (x .charge) ≡ cond b p′ q′
   each-way true p q p′ q′ e f = e
@@ -41,20 +23,7 @@ module _ (a : Account) (x : Record) where
 
   resolves : resolved a claim (x .charge) ≡ judgeRecord (knownOf a) x
   unfolding claimRecord judgeRecord
-  resolves =
-      let s : ℕ = serviceOf (x .operation) in
-      let u : ℕ = holderOf (requestsOf (a .status)) (x .id) in
-      each-way (eqb (a .status .phase) Suspended) _ _ _ _ refl
-      (each-way (eqb (x .frame) 1) _ _ _ _
-      (each-way (eqb (x .operation) 30) _ _ _ _ refl
-      (each-way (has (a .status .asked) s) _ _ _ _ refl
-      (each-way (eqb (x .charge .figure .kind) 0) _ _ _ _ refl
-      (each-way (eqb s S) _ _ _ _ refl
-      (each-way (runs (a .status .phase) s (x .charge)) _ _ _ _ refl
-      (each-way (closes (a .status .phase) s (x .charge)) _ _ _ _ refl refl))))))
-      (each-way (eqb (x .frame) 2) _ _ _ _
-      (each-way (eqb u 0) _ _ _ _ refl (each-way (fits u (x .charge)) _ _ _ _ refl refl))
-      (each-way (eqb (x .unnamed) 1) _ _ _ _ refl (each-way (eqb u 0) _ _ _ _ refl refl))))
+  resolves = search each-way depth 12 fits 3000
 
 -- ---- a component
 
@@ -89,33 +58,21 @@ module _ (a : Account) (o : List ℕ) {x : Answer} (read : x ≡ readOf o) where
 -- it changes the status alone, whatever the rest of the account is
 pub phase-change : (a : Account) (e : Event) (o : List ℕ) → (e .kind ≡ 5 → ⊥) → unkept (movingOf (a .status) e .outcome) (movingOf (a .status) e .status) ≡ changeOf a e o
 unfolding changeOf judge movingOf
-phase-change a e o n = go (allowed (e .kind) (a .status .phase)) refl (eqb (e .kind) Setup && clashes e) refl
-  where
-    go : (b : Bool) → allowed (e .kind) (a .status .phase) ≡ b → (c : Bool) → (eqb (e .kind) Setup && clashes e) ≡ c
-        → unkept (movingOf (a .status) e .outcome) (movingOf (a .status) e .status) ≡ changeOf a e o
-    go true p true q = rw (p, q, ne-eqb (e .kind) 5 n)
-    go true p false q = rw (p, q, ne-eqb (e .kind) 5 n)
-    go false p c q = rw (p, ne-eqb (e .kind) 5 n)
+phase-change a e o n =
+    by-test (allowed (e .kind) (a .status .phase))
+    (λ p. by-test (eqb (e .kind) Setup && clashes e) (λ q. rw (p, q, ne-eqb (e .kind) 5 n)) (λ q. rw (p, q, ne-eqb (e .kind) 5 n)))
+    (λ p. rw (p, ne-eqb (e .kind) 5 n))
 
 -- ---- any event
 
 module _ (a : Account) (e : Event) (o : List ℕ) (w : Change) (n : ℕ) (leads : n ≡ nextPhase (e .kind) (a .status .phase)) where
-  refused : (x : ℕ) → isRefusal x ≡ true → judge (knownOf a) e o ≡ noService x → w ≡ unkept (noService x) (a .status) → w ≡ changeOf a e o
-  unfolding changeOf isRefusal
-  refused x q j u =
-      u ∙ sym (rw (j, moves-nothing isRefusal refl (noService x) q (a .status) e) (keeps-nothing isRefusal refl (noService x) q (a .status) _))
-
   pub not-allowed : n ≡ Idle → w ≡ unkept (noService 14) (a .status) → w ≡ changeOf a e o
-  unfolding judge isRefusal
-  not-allowed z u = refused 14 refl (rw (next-none (e .kind) (a .status .phase) n leads z)) u
+  unfolding judge changeOf
+  not-allowed z u = u ∙ sym (rw (next-none (e .kind) (a .status .phase) n leads z) (simp if-same))
 
-  module _ (some : n ≡ Idle → ⊥) where
-    goes-on : (allowed (e .kind) (a .status .phase) ≡ true) × (n ≡ leadsTo (e .kind) (a .status .phase))
-    goes-on = next-some (e .kind) (a .status .phase) n leads some
-
-    pub heard : e .kind ≡ Component → w ≡ taken a (readOf o) → w ≡ changeOf a e o
-    unfolding judge changeOf
-    heard k u = u ∙ sym (rw (goes-on .0, eq-eqb (e .kind) Component k))
+  pub heard : (n ≡ Idle → ⊥) → e .kind ≡ Component → w ≡ taken a (readOf o) → w ≡ changeOf a e o
+  unfolding judge changeOf
+  heard some k u = u ∙ sym (rw (next-some (e .kind) (a .status .phase) n leads some .0, eq-eqb (e .kind) Component k))
 
 -- ---- what is promised of the step
 
@@ -133,10 +90,6 @@ promised a e o r q = (q, λ h s. q ∙ ap (λ (b : Account). steppedOf b e o) s 
 abbrev pub atPlace : Change → ℕ → Change
 atPlace w k = record { outcome = w .outcome; place = k; status = w .status; charge = w .charge }
 
-not-T : (b : Bool) → T (not b) → b ≡ false
-not-T true t = absurd t
-not-T false t = refl
-
 module _ (a : Account) (e : Event) (o : List ℕ) (w : Change) (said : w ≡ changeOf a e o) where
   abbrev pub Stored : ℕ → Type 0
   Stored k = changed a (atPlace w k) ≡ steppedOf a e o
@@ -145,18 +98,9 @@ module _ (a : Account) (e : Event) (o : List ℕ) (w : Change) (said : w ≡ cha
   unfolding steppedOf
   stored = ap (changed a) said
 
-  pub stored-at : (k : ℕ) → w .place ≡ k → Stored k
-  stored-at k p = rw (← p) stored
-
-  pub stored-nowhere : (w .place ≡ 1 → ⊥) → (w .place ≡ 2 → ⊥) → (w .place ≡ 3 → ⊥) → (w .place ≡ 4 → ⊥) → Stored 0
-  stored-nowhere p q r s = sym (rw (ne-eqb (w .place) 1 p, ne-eqb (w .place) 2 q, ne-eqb (w .place) 3 r, ne-eqb (w .place) 4 s)) ∙ stored
-
-  -- the same by the tests of the lent step
   pub stored-T : (k : ℕ) → T (eqb (w .place) k) → Stored k
-  stored-T k t = stored-at k (eqb→eq (w .place) k t)
-
-  off : (k : ℕ) → T (not (eqb (w .place) k)) → w .place ≡ k → ⊥
-  off k t = eqb-false (w .place) k (not-T (eqb (w .place) k) t)
+  stored-T k t = rw (← eqb→eq (w .place) k t) stored
 
   pub stored-none-T : T (not (eqb (w .place) 1)) → T (not (eqb (w .place) 2)) → T (not (eqb (w .place) 3)) → T (not (eqb (w .place) 4)) → Stored 0
-  stored-none-T p q r s = stored-nowhere (off 1 p) (off 2 q) (off 3 r) (off 4 s)
+  stored-none-T p q r s =
+      sym (rw (is-false (eqb (w .place) 1) p, is-false (eqb (w .place) 2) q, is-false (eqb (w .place) 3) r, is-false (eqb (w .place) 4) s)) ∙ stored

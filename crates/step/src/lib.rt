@@ -68,27 +68,18 @@ fn plain(number: u8, status: Status) -> Change
 fn taken(a: Account, octets: &[u8]) -> Change
     ensures { λ r. ⌜ r ≡ taken a (readOf (now (octets .entry))) ⌝ }
 {
-    let mut front: [u8; 8] = [0; 8];
+    let mut lent: [u8; 8] = [0; 8];
     let mut stored: [u8; 48] = [0; 48];
     let mut numbers: [u32; 32] = [0; 32];
     let mut rows: [u8; 192] = [0; 192];
-    let answer = read::read_into(octets, &mut front, &mut stored, &mut numbers, &mut rows);
+    let answer = read::read_into(octets, &mut lent, &mut stored, &mut numbers, &mut rows);
     let t = a.status;
     if answer.number != 0 {
         return plain(answer.number as u8, t);
     }
-    let figure = types::figure_of(&stored);
-    // the front's octets in order: frame, unnamed, identifier low and high, operation
-    let id = types::number16(front[2], front[3]);
-    let claim = claimed(
-        t,
-        front[0],
-        front[4],
-        front[1],
-        id,
-        figure.kind,
-        figure.total,
-    );
+    let figure = parts::figure_of(&stored);
+    let front = parts::front_of(&lent);
+    let claim = claimed(t, front, figure.kind, figure.total);
     let outcome = resolved(a, claim, figure, &numbers, &rows);
     let status = noted(t, outcome);
     let place = place_of(outcome);

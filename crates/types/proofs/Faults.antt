@@ -1,34 +1,22 @@
 -- Which faults a component's reading can have, and where: the argument's lie after the eighth octet.
--- Assumes nothing.
-use Prim.Native.Nat.{ℕ, _+_, _-_, _≤_}
-use mathlib.Core.Path.{_≡_, refl, ap, sym, _∙_, subst}
-use mathlib.Core.List.{List, [], _∷_}
-use mathlib.Core.Bool.{Bool, true, false, cond}
-use mathlib.Core.Logic.{_⊎_, inl, inr}
-use native.Mathlib.Omega.{arith}
-use borrow.Author.Tests.{ltb-true, ltb-false}
-use lib.ListN.{length, getD, take, drop}
-use lib.Dec.{ltb, leb, eqb}
-use Rattle.coding.specs.declared.Extent.{Extent}
-use Rattle.coding.specs.Reader.{Ans, Fault, after, choice, tagged, opened, lengthAt, blamed, enteredAny, ruled, Ruling, part, primitive}
-use Rattle.coding.specs.Reader.Ans.{got, halt}
-use Rattle.coding.specs.Reader.Ruling.{good, bad}
-use Rattle.coding.specs.Reader.Fault.{missing, unexpected, cut, form, shortest, contents, limit, named}
-use Rattle.coding.specs.Codec.{Leaf, Run, oneOf, prim, barring, marked, frames}
-use Rattle.coding.specs.Contents as Contents
-use Rattle.coding.specs.Leaves.{given, integer, identifier, listed, listing}
-use Rattle.coding.proofs.Basic.{never, chain, either-way}
-use Rattle.coding.proofs.Header.{opened-sound, spans-range, read-element}
-use Rattle.coding.proofs.Frames.{any-got}
+use Rattle.prelude.proofs.Prelude.{ℕ, _+_, _-_, _≤_, _≡_, refl, ap, sym, _∙_, List, [], _∷_, cond, _⊎_, inl, inr, arith, ltb-true, ltb-false, length, getD, take, drop, ltb, leb, eqb}
+use Rattle.coding.{specs.declared.Extent.Extent, specs.Reader.Ans, specs.Reader.Fault, specs.Reader.after, specs.Reader.choice, specs.Reader.tagged, specs.Reader.opened}
+use Rattle.coding.{specs.Reader.lengthAt, specs.Reader.blamed, specs.Reader.enteredAny, specs.Reader.ruled, specs.Reader.Ruling, specs.Reader.part, specs.Reader.primitive}
+use Rattle.coding.{specs.Reader.Ans.got, specs.Reader.Ans.halt, specs.Reader.Ruling.good, specs.Reader.Ruling.bad, specs.Reader.Fault.shortest, specs.Reader.Fault.named, specs.Codec.Leaf}
+use Rattle.coding.{specs.Codec.Run, specs.Codec.oneOf, specs.Codec.prim, specs.Codec.barring, specs.Codec.shape, specs.Codec.canonical, specs.Codec.leads, specs.Codec.marked}
+use Rattle.coding.{specs.Codec.frames, specs.Leaves.given, specs.Leaves.integer, specs.Leaves.identifier, specs.Leaves.listed, specs.Leaves.listing, proofs.Basic.never}
+use Rattle.coding.{proofs.Basic.same-got, proofs.Basic.by-cases, proofs.Basic.chain, proofs.Basic.either-way, proofs.Header.opened-sound, proofs.Header.spans-range}
+use Rattle.coding.{proofs.Header.read-element, proofs.Frames.any-got}
 use Rattle.types.specs.declared.Record.{Record}
 use Rattle.types.specs.Charges.{scaled, currencyLeaf, currency, money, digitsLeaf, identified, publicParty, plainParty, party, unassociated, association}
 use Rattle.types.specs.Entries.{unit}
 use Rattle.types.specs.Rates.{duration, flatRate, volume, coded, plainRate, price, rate}
 use Rattle.types.specs.Arguments.{sign, inMoney, inUnits, during, subtotals, ending, settled, finals, rates, arrangement, available, chargeOf}
-use Rattle.types.specs.Frames.{numberOf, outside, inArgument, value, operations, carrying, request, argument, invoke, returnResult}
-use Rattle.types.specs.Frames.{failed, returnError, caller, problem, problems, reject, frame, component, readWhole}
-use Rattle.types.proofs.Places.{Plain, Ends, Placed, pick, nearer, farther, weaker, before-end, follows, length-ends, closed-ends, Lengths}
-use Rattle.types.proofs.Places.{placing, either-placed, leads-placed, cons-placed}
+use Rattle.types.specs.Frames.{numberOf, outside, inArgument, value, carrying, request, argument, invoke, returnResult, failed, returnError, caller, problem, problems, reject, frame}
+use Rattle.types.specs.Frames.{component, readWhole}
+use Rattle.types.proofs.Places.{Plain, by-plain, Ends, Placed, pick, nearer, farther, weaker, before-end, follows, length-ends, closed-ends, Lengths, placing, either-placed}
+use Rattle.types.proofs.Places.{leads-placed}
+use Rattle.coding.specs.Contents as Contents
 
 -- ---- charges: no fault of theirs has a number yet
 
@@ -40,81 +28,18 @@ unnamed w p h = h
 
 ruleset placed = (unnamed, placing)
 
-module _ (k : ℕ) where
-  scaled-placed : (tag : ℕ) → Placed Unnamed k (scaled tag)
-  unfolding scaled
-  scaled-placed tag = search placed depth 12
-
-  money-placed : Placed Unnamed k money
-  unfolding money currency currencyLeaf
-  money-placed = search (placed, scaled-placed) depth 12
-
-  association-placed : Placed Unnamed k association
-  unfolding association identified party publicParty plainParty digitsLeaf unassociated
-  association-placed = search placed depth 12
-
-  unit-placed : Placed Unnamed k unit
-  unfolding unit
-  unit-placed = search placed depth 12
-
-  rate-placed : Placed Unnamed k rate
-  unfolding rate price duration flatRate volume coded plainRate
-  rate-placed = search (placed, scaled-placed, money-placed) depth 12
-
-  sign-placed : (tag kind : ℕ) → Placed Unnamed k (sign tag kind)
-  unfolding sign
-  sign-placed tag kind = search placed depth 12
-
-  money-in-placed : Placed Unnamed k inMoney
-  unfolding inMoney
-  money-in-placed = search (placed, money-placed) depth 12
-
-  units-in-placed : Placed Unnamed k inUnits
-  unfolding inUnits
-  units-in-placed = search (placed, unit-placed) depth 12
-
-  subtotals-placed : (f : Run _) → Placed Unnamed k f → Placed Unnamed k (subtotals f)
-  unfolding subtotals during given
-  subtotals-placed f F = search (placed, sign-placed) depth 12
-
-  finals-placed : (f : Run _) → Placed Unnamed k f → Placed Unnamed k (finals f)
-  unfolding finals settled ending given
-  finals-placed f F = search (placed, sign-placed, association-placed) depth 12
-
-  rates-placed : Placed Unnamed k rates
-  unfolding rates
-  rates-placed = search (placed, rate-placed) depth 12
-
-  arrangement-placed : Placed Unnamed k arrangement
-  unfolding arrangement
-  arrangement-placed = search placed depth 12
-
-  charge-placed : (o : ℕ) → Placed Unnamed k (chargeOf o)
-  unfolding chargeOf available
-  charge-placed o =
-      search (placed, either-placed, sign-placed, arrangement-placed, rates-placed, subtotals-placed, finals-placed, money-in-placed, units-in-placed) depth 24
+charge-placed : (k o : ℕ) → Placed Unnamed k (chargeOf o)
+unfolding canonical shape chargeOf available sign arrangement subtotals during finals settled ending given inMoney inUnits unit rates rate price duration flatRate volume coded plainRate
+    money scaled currency currencyLeaf association identified party publicParty plainParty digitsLeaf unassociated
+charge-placed k o = search (placed, either-placed) depth 60 fits 30000
 
 -- ---- frames: a number is 1 to 8; or 40 to 45, after the eighth octet
 
 abbrev pub Told : Fault → ℕ → Type 0
-Told missing p = Unit {0}
-Told unexpected p = Unit {0}
-Told cut p = Unit {0}
-Told form p = Unit {0}
-Told shortest p = Unit {0}
-Told contents p = Unit {0}
-Told limit p = Unit {0}
-Told (named n) p = ((1 ≤ n) × (n ≤ 8)) ⊎ ((40 ≤ n) × (n ≤ 45) × (8 ≤ p))
+Told w p = ((1 ≤ numberOf w) × (numberOf w ≤ 8)) ⊎ ((40 ≤ numberOf w) × (numberOf w ≤ 45) × (8 ≤ p))
 
 plainly : (w : Fault) (p : ℕ) → Plain w → Told w p
-plainly missing p h = tt
-plainly unexpected p h = tt
-plainly cut p h = tt
-plainly form p h = tt
-plainly shortest p h = tt
-plainly contents p h = tt
-plainly limit p h = tt
-plainly (named n) p h = absurd h
+plainly w p = by-plain (λ w. Told w p) (inl (omega arith)) (inl (omega arith)) (inl (omega arith)) (inl (omega arith)) (inl (omega arith)) (inl (omega arith)) (inl (omega arith)) w
 
 -- none of the numbers that only the component's own element has, or its octets in all
 abbrev pub Whole : ℕ → Type 0
@@ -125,14 +50,7 @@ abbrev pub Inside : Fault → ℕ → Type 0
 Inside w p = Told w p × Whole (numberOf w)
 
 pub plain-whole : (w : Fault) → Plain w → Whole (numberOf w)
-plain-whole missing h = omega arith
-plain-whole unexpected h = omega arith
-plain-whole cut h = omega arith
-plain-whole form h = omega arith
-plain-whole shortest h = omega arith
-plain-whole contents h = omega arith
-plain-whole limit h = omega arith
-plain-whole (named n) h = absurd h
+plain-whole = by-plain (λ w. Whole (numberOf w)) (omega arith) (omega arith) (omega arith) (omega arith) (omega arith) (omega arith) (omega arith)
 
 inside : (w : Fault) (p : ℕ) → Plain w → Inside w p
 inside w p h = (plainly w p h, plain-whole w h)
@@ -144,25 +62,14 @@ eight : (p : ℕ) → Inside (named 8) p
 eight p = (inl (omega arith), omega arith)
 
 outside-told : (w : Fault) (p : ℕ) → Plain w → Told (outside w) p
-outside-told missing p h = inl (omega arith)
-outside-told unexpected p h = inl (omega arith)
-outside-told cut p h = inl (omega arith)
-outside-told form p h = inl (omega arith)
-outside-told shortest p h = inl (omega arith)
-outside-told contents p h = inl (omega arith)
-outside-told limit p h = inl (omega arith)
-outside-told (named n) p h = absurd h
+outside-told w p =
+    by-plain (λ w. Told (outside w) p) (inl (omega arith)) (inl (omega arith)) (inl (omega arith)) (inl (omega arith)) (inl (omega arith)) (inl (omega arith)) (inl (omega arith)) w
 
 -- 40 to 45, after the eighth octet, or 2
 argument-told : (w : Fault) (p : ℕ) → Plain w → 8 ≤ p → Inside (inArgument w) p
-argument-told missing p h l = (inr (omega arith), omega arith)
-argument-told unexpected p h l = (inr (omega arith), omega arith)
-argument-told cut p h l = (inr (omega arith), omega arith)
-argument-told form p h l = (inl (omega arith), omega arith)
-argument-told shortest p h l = (inr (omega arith), omega arith)
-argument-told contents p h l = (inr (omega arith), omega arith)
-argument-told limit p h l = (inr (omega arith), omega arith)
-argument-told (named n) p h l = absurd h
+argument-told w p h l =
+    by-plain (λ w. Inside (inArgument w) p) (inr (omega arith), omega arith) (inr (omega arith), omega arith) (inr (omega arith), omega arith)
+    (inl (omega arith), omega arith) (inr (omega arith), omega arith) (inr (omega arith), omega arith) (inr (omega arith), omega arith) w h
 
 marked-placed : {A : Type 0} (f : Run A) → Placed Unnamed 8 f → Placed Inside 8 (marked inArgument f)
 unfolding marked blamed
@@ -176,15 +83,7 @@ marked-placed {A} f F = record { ends = λ s a e h i. go a e h (f .read s a e) (
 module _ {A : Type 0} (tag : ℕ) (l : Leaf A) (some : (x : A) → l .judge [] ≡ good x → ⊥) where
   judged-got : (j : Ruling A) (a m n : ℕ) (x : A) → ruled j a m ≡ got x n → (j ≡ good x) × (m ≤ n)
   unfolding ruled
-  judged-got (good v) a m n x q = (ap value-of q, omega (arith, ap place-of q))
-    where
-      value-of : Ans A → Ruling A
-      value-of (got u k) = good u
-      value-of (halt w p) = bad w
-
-      place-of : Ans A → ℕ
-      place-of (got u k) = k
-      place-of (halt w p) = p
+  judged-got (good v) a m n x q = same-got (λ u k. (good v ≡ good u) × (m ≤ k)) q (refl, omega arith)
   judged-got (bad w) a m n x q = absurd (never q)
 
   prim-takes : (s : List ℕ) (a e n : ℕ) (x : A) → a ≤ n → (prim tag l) .read s a e ≡ got x n → a + 3 ≤ n
@@ -195,21 +94,12 @@ module _ {A : Type 0} (tag : ℕ) (l : Leaf A) (some : (x : A) → l .judge [] �
       let o = opened-sound tag s a e v (c .1) (c .2) in
       let r = spans-range (o .0) in
       let j = judged-got _ a (c .1) n x (c .3) in
-      go (ltb (v .start) (v .stop)) v (c .1) refl (r .0) (r .2) (j .0) (j .1)
-    where
-      go : (b : Bool) (v : Extent) (m : ℕ) → ltb (v .start) (v .stop) ≡ b → a + 2 ≤ v .start → v .stop ≤ m
-          → l .judge (take (v .stop - v .start) (drop (v .start) s)) ≡ good x → m ≤ n → a + 3 ≤ n
-      go true v m b h i j k = omega (arith, ltb-true (v .start) (v .stop) b, h, i, k)
-      go false v m b h i j k =
-          let z : v .stop - v .start ≡ 0 = omega (arith, ltb-false (v .start) (v .stop) b) in
-          absurd (some x (sym (ap (λ d. l .judge (take d (drop (v .start) s))) z) ∙ j))
-
-abbrev isBad : Ruling ℕ → Type 0
-isBad (good v) = ⊥
-isBad (bad w) = Unit {0}
+      by-cases (ltb (v .start) (v .stop)) (λ b. omega (arith, ltb-true (v .start) (v .stop) b, r .0, r .2, j .1))
+      (λ b. let z : v .stop - v .start ≡ 0 = omega (arith, ltb-false (v .start) (v .stop) b) in
+      absurd (some x (sym (ap (λ (d : ℕ). l .judge (take d (drop (v .start) s))) z) ∙ j .0)))
 
 bad-good : {w : Fault} {x : ℕ} → bad w ≡ good x → ⊥
-bad-good q = subst isBad q tt
+bad-good q = let z : _≡_ {A = ℕ} 0 1 = cc in omega arith
 
 id-some : (x : ℕ) → identifier .judge [] ≡ good x → ⊥
 unfolding identifier integer Contents.shortest
@@ -218,67 +108,32 @@ id-some x q = bad-good q
 -- what places the faults of a frame
 ruleset framed = (inside, placing)
 
-module _ (k : ℕ) where
-  id-placed : Placed Inside k (prim 0x02 identifier)
-  id-placed = search framed depth 12
-
-  value-placed : (u : ℕ) (ks : List ℕ) → ((p : ℕ) → Inside (named u) p) → Placed Inside k (value u ks)
-  unfolding value
-  value-placed u ks h = search framed depth 12
-
-value-some : (u : ℕ) (ks : List ℕ) (x : ℕ) → (listed u ks) .judge [] ≡ good x → ⊥
-unfolding listed listing Contents.shortest
-value-some u ks x q = bad-good q
+value-placed : (k u : ℕ) (ks : List ℕ) → ((p : ℕ) → Inside (named u) p) → Placed Inside k (value u ks)
+unfolding value
+value-placed k u ks h = search framed depth 12
 
 value-takes : (u : ℕ) (ks : List ℕ) (s : List ℕ) (a e n : ℕ) (x : ℕ) → a ≤ n → (value u ks) .read s a e ≡ got x n → a + 3 ≤ n
-unfolding value barring choice
+unfolding value barring choice listed listing Contents.shortest
 value-takes u ks s a e n x h q =
     elim (either-way (tagged s a e 0x06) _ _ q) [
       | inl w ↦ absurd (never (w .1))
-      | inr w ↦ prim-takes 0x02 (listed u ks) (value-some u ks) s a e n x h (w .1)
+      | inr w ↦ prim-takes 0x02 (listed u ks) (λ x q. bad-good q) s a e n x h (w .1)
     ]
 
--- an argument or result
-request-placed : (i : ℕ) → Placed Inside 8 (request i)
-unfolding request
-request-placed i = search (framed, marked-placed, unnamed) depth 12
+-- what an identifier leads, and what an operation leads
+id-led : {A : Type 0} (head : A → ℕ) (g : ℕ → Run A) → ((i : ℕ) → Placed Inside 5 (g i)) → Placed Inside 2 (leads (prim 0x02 identifier) head g)
+id-led head g = leads-placed Inside inside 2 3 _ head g (search framed depth 12) (prim-takes _ _ id-some)
 
-carrying-placed : (k i o : ℕ) → Placed Inside 8 (carrying k i o)
-unfolding carrying
-carrying-placed k i o = search (framed, marked-placed, charge-placed) depth 12
-
-argument-placed : (i o : ℕ) → Placed Inside 8 (argument i o)
-unfolding argument
-argument-placed i o = search (framed, either-placed, request-placed, carrying-placed) depth 12
-
-invoke-placed : Placed Inside 2 invoke
-unfolding invoke
-invoke-placed =
-    leads-placed Inside inside 2 3 _ _ _ (id-placed 2) (prim-takes _ _ id-some) (λ i.
-    leads-placed Inside inside 5 3 _ _ _ (value-placed 5 7 operations seven) (value-takes 7 operations) (argument-placed i))
-
-result-placed : Placed Inside 2 returnResult
-unfolding returnResult
-result-placed =
-    leads-placed Inside inside 2 3 _ _ _ (id-placed 2) (prim-takes _ _ id-some) (λ i.
-    cons-placed Inside inside 5 _ _
-    (leads-placed Inside inside 5 3 _ _ _ (value-placed 5 7 (30 ∷ []) seven) (value-takes 7 (30 ∷ [])) (carrying-placed 2 i)))
-
-error-placed : Placed Inside 2 returnError
-unfolding returnError failed
-error-placed = leads-placed Inside inside 2 3 _ _ _ (id-placed 2) (prim-takes _ _ id-some) (λ i. search (framed, value-placed, eight) depth 12)
-
-problem-placed : (tag most : ℕ) (c : Unit {0} ⊎ ℕ) → Placed Inside 2 (problem tag most c)
-unfolding problem
-problem-placed tag most c = search framed depth 12
+value-led : {A : Type 0} (ks : List ℕ) (head : A → ℕ) (g : ℕ → Run A) → ((o : ℕ) → Placed Inside 8 (g o)) → Placed Inside 5 (leads (value 7 ks) head g)
+value-led ks head g = leads-placed Inside inside 5 3 _ head g (value-placed 5 7 ks seven) (value-takes 7 ks)
 
 reject-placed : Placed Inside 2 reject
-unfolding reject caller problems
-reject-placed = leads-placed Inside inside 2 0 _ _ _ (search framed depth 12) (λ s a e n x h q. omega (arith, h)) (λ c. search (framed, problem-placed) depth 12)
+unfolding canonical reject caller problems problem
+reject-placed = leads-placed Inside inside 2 0 _ _ _ (search framed depth 12) (λ s a e n x h q. omega (arith, h)) (λ c. search framed depth 12)
 
 pub frame-placed : (tag : ℕ) → Placed Inside 2 (frame tag)
-unfolding frame
-frame-placed tag = search (framed, either-placed, invoke-placed, result-placed, error-placed, reject-placed) depth 12
+unfolding canonical frame invoke argument request carrying returnResult returnError failed
+frame-placed tag = search (framed, either-placed, id-led, value-led, value-placed, eight, marked-placed, unnamed, charge-placed, reject-placed) depth 24
 
 -- ---- a component
 

@@ -1,3 +1,4 @@
+pub mod Chains
 pub mod PartLaws
 pub mod UnitLaws
 pub mod RateLaws
@@ -5,6 +6,7 @@ pub mod ArgumentLaws
 pub mod FrameLaws
 pub mod Places
 pub mod Faults
+pub mod Family
 pub mod Theorems
 pub mod Tiles
 pub mod Stored

@@ -1,23 +1,16 @@
 -- Where a reading ends, and by which faults: between its place and the end of the enclosing element.
--- Assumes nothing.
-use Prim.Native.Nat.{ℕ, zero, suc, _+_, _-_, _≤_}
-use mathlib.Core.Path.{_≡_, refl, subst}
-use mathlib.Core.List.{List, [], _∷_}
-use mathlib.Core.Bool.{Bool, true, false, cond}
-use native.Mathlib.Omega.{arith}
-use lib.ListN.{length, getD}
-use lib.Dec.{ltb, leb, eqb}
+use Rattle.prelude.proofs.Prelude.{ℕ, zero, suc, _+_, _-_, _≤_, _≡_, refl, subst, List, [], _∷_, Bool, true, false, cond, arith, length, getD, ltb, leb, eqb}
 use Rattle.coding.specs.declared.Extent.{Extent}
-use Rattle.coding.specs.Reader.{Ans, Fault, Ruling, after, choice, tagged, neither, extent, numberedAt, endless, marker, turn, searched, findEnd, spanned}
-use Rattle.coding.specs.Reader.{lengthAt, opened, closed, constructed, part, mapped, narrowed, ruled, primitive, optional, entries, listOf}
+use Rattle.coding.specs.Reader.{Ans, Fault, Ruling, after, choice, tagged, neither, extent, numberedAt, endless, marker, turn, searched, findEnd, spanned, lengthAt, opened, closed}
+use Rattle.coding.specs.Reader.{constructed, part, mapped, narrowed, ruled, primitive, optional, entries, listOf}
 use Rattle.coding.specs.Reader.Ans.{got, halt}
 use Rattle.coding.specs.Reader.Ruling.{good, bad}
 use Rattle.coding.specs.Reader.Fault.{missing, unexpected, cut, form, shortest, contents, limit, named}
-use Rattle.coding.specs.Codec.{Leaf, Run, oneOf, prim, cons, nothing, pair, alt, over, shape, canonical, maybe, some·more, leafOver, leads, barring, sort, pickRun}
+use Rattle.coding.specs.Codec.{Leaf, Run, oneOf, prim, cons, nothing, pair, alt, over, maybe, some·more, leafOver, leads, barring, sort, pickRun}
 use Rattle.coding.specs.Contents.{natural, valueOf, negative, numberFrom, text, every, null}
-use Rattle.coding.specs.Contents as Contents
 use Rattle.coding.specs.Leaves.{number, string, nullLeaf, inOctets, integer, identifier, listing, listed, only}
 use Rattle.coding.proofs.Header.{opened-sound, spans-range, read-element, element-range}
+use Rattle.coding.specs.Contents as Contents
 
 -- one of two by a test
 pub pick : {A : Type 0} (P : A → Type 0) (t : Bool) (x y : A) → (t ≡ true → P x) → (t ≡ false → P y) → P (cond t x y)
@@ -34,6 +27,16 @@ Plain shortest = Unit {0}
 Plain contents = Unit {0}
 Plain limit = Unit {0}
 Plain (named n) = ⊥
+
+pub by-plain : (P : Fault → Type 0) → P missing → P unexpected → P cut → P form → P shortest → P contents → P limit → (w : Fault) → Plain w → P w
+by-plain P m u c f s t l missing h = m
+by-plain P m u c f s t l unexpected h = u
+by-plain P m u c f s t l cut h = c
+by-plain P m u c f s t l form h = f
+by-plain P m u c f s t l shortest h = s
+by-plain P m u c f s t l contents h = t
+by-plain P m u c f s t l limit h = l
+by-plain P m u c f s t l (named n) h = absurd h
 
 -- an answer lies from a to e, and its fault has the property
 abbrev pub Ends : {A : Type 0} → (Fault → ℕ → Type 0) → ℕ → ℕ → Ans A → Type 0
@@ -244,14 +247,6 @@ module _ (P : Fault → ℕ → Type 0) (plain : (w : Fault) (p : ℕ) → Plain
       ends = λ s a e h i. follows P a e (f .read s a e) _ (F .ends s a e h i) (λ v n z x y. (x, y));
     }
 
-    pub shape-placed : (to : A → B) (from : B → A) (f : Run A) → Placed P k f → Placed P k (shape to from f)
-    unfolding shape
-    shape-placed to from f F = over-placed to from (λ y. true) f F
-
-    pub canonical-placed : (to : A → B) (from : B → A) (same : B → B → Bool) (f : Run A) → Placed P k f → Placed P k (canonical to from same f)
-    unfolding canonical
-    canonical-placed to from same f F = over-placed to from _ f F
-
     -- what comes first takes so many octets at least
     pub leads-placed : (j : ℕ) (f : Run A) (head : B → A) (g : A → Run B) → Placed P k f
         → ((s : List ℕ) (a e n : ℕ) (x : A) → a ≤ n → f .read s a e ≡ got x n → a + j ≤ n) → ((x : A) → Placed P (k + j) (g x)) → Placed P k (leads f head g)
@@ -263,9 +258,9 @@ module _ (P : Fault → ℕ → Type 0) (plain : (w : Fault) (p : ℕ) → Plain
 
   -- ---- contents
 
-  natural-blames : (low high : ℕ) (xs : List ℕ) → Blames P (natural low high xs)
-  unfolding natural
-  natural-blames low high xs =
+  pub number-blames : (low high : ℕ) (xs : List ℕ) → Blames P ((number low high) .judge xs)
+  unfolding number natural
+  number-blames low high xs =
       pick (Blames P) (Contents.shortest xs) _ _ (λ q.
       pick (Blames P) (negative xs) _ _ (λ q. wrong) (λ q.
       pick (Blames P) (leb low (numberFrom 0 xs)) _ _ (λ q. pick (Blames P) (leb (numberFrom 0 xs) high) _ _ (λ q. tt) (λ q. wrong)) (λ q. wrong)))
@@ -274,20 +269,12 @@ module _ (P : Fault → ℕ → Type 0) (plain : (w : Fault) (p : ℕ) → Plain
       wrong : (p : ℕ) → P contents p
       wrong p = plain contents p tt
 
-  text-blames : (low high : ℕ) (ok : ℕ → Bool) (xs : List ℕ) → Blames P (text low high ok xs)
-  unfolding text
-  text-blames low high ok xs =
+  pub string-blames : (low high : ℕ) (ok : ℕ → Bool) (xs : List ℕ) → Blames P ((string low high ok) .judge xs)
+  unfolding string text
+  string-blames low high ok xs =
       pick (Blames P) (ltb (length xs) low) _ _ (λ q p. pick (λ w. P w p) (eqb (length xs) 0) _ _ (λ q. plain shortest p tt) (λ q. plain contents p tt)) (λ q.
       pick (Blames P) (ltb high (length xs)) _ _ (λ q p. plain contents p tt) (λ q.
       pick (Blames P) (every ok xs) _ _ (λ q. tt) (λ q p. plain contents p tt)))
-
-  pub number-blames : (low high : ℕ) (xs : List ℕ) → Blames P ((number low high) .judge xs)
-  unfolding number
-  number-blames = natural-blames
-
-  pub string-blames : (low high : ℕ) (ok : ℕ → Bool) (xs : List ℕ) → Blames P ((string low high ok) .judge xs)
-  unfolding string
-  string-blames = text-blames
 
   pub null-blames : (xs : List ℕ) → Blames P (nullLeaf .judge xs)
   unfolding nullLeaf null
@@ -328,4 +315,4 @@ module _ (P : Fault → ℕ → Type 0) (plain : (w : Fault) (p : ℕ) → Plain
 -- what places the faults of a type, and blames its contents
 pub ruleset blaming = (number-blames, string-blames, null-blames, identifier-blames, listed-blames, only-blames, leaf-over-blames)
 
-pub ruleset placing = (blaming, prim-placed, cons-placed, sort-placed, barring-placed, maybe-placed, some-placed, nothing-placed, pair-placed, alt-placed, over-placed, shape-placed, canonical-placed)
+pub ruleset placing = (blaming, prim-placed, cons-placed, sort-placed, barring-placed, maybe-placed, some-placed, nothing-placed, pair-placed, alt-placed, over-placed)

@@ -1,21 +1,8 @@
 -- A figure's 48 octets: what a store does to the fields that lie in them.
--- Assumes nothing.
-use Prim.Native.Nat.{ℕ, zero, suc, _+_, _-_, _≤_, _<_}
-use native.Mathlib.Omega.{arith}
-use native.Mathlib.Numerals.{add-one}
-use mathlib.Core.Path.{_≡_, refl, sym, ap, subst, _∙_}
-use mathlib.Core.List.{List, [], _∷_, _++_, append-nil}
-use lib.ListN.{length, getD, set, take, drop, replicate, length-drop, take-append-drop}
-use lib.Seq.{length-take-le, take-set-le, drop-set-lt, drop-set-add, take-suc, take-take, getD-take, getD-drop}
-use Rattle.coding.specs.Codec.{pad}
-use Rattle.coding.proofs.Arrays.{padded-more}
-use Rattle.coding.specs.Reader.{part}
-use Rattle.types.specs.declared.Money.{Money}
-use Rattle.types.specs.declared.Association.{Association}
-use Rattle.types.specs.declared.Figure.{Figure}
-use Rattle.types.specs.Charges.{noAssociation}
-use Rattle.types.specs.Arguments.{bareFigure}
-use Rattle.types.specs.Stored.{moneyIn, associationIn, figureIn}
+use Rattle.prelude.proofs.Prelude.{ℕ, zero, suc, _+_, _-_, _≤_, _<_, arith, add-one, _≡_, refl, sym, ap, subst, _∙_, List, [], _∷_, _++_, append-nil, length, getD, set, take, drop}
+use Rattle.prelude.proofs.Prelude.{replicate, length-drop, take-append-drop, length-take-le, take-set-le, drop-set-add, take-suc, take-take, getD-take, getD-drop}
+use Rattle.coding.{specs.Codec.pad, proofs.Arrays.padded-more, specs.Reader.part}
+use Rattle.types.specs.{declared.Money.Money, declared.Association.Association, declared.Figure.Figure, Charges.noAssociation, Stored.moneyIn, Stored.associationIn, Stored.figureIn}
 
 -- ---- a list is the list of its elements, so a law of 48 octets holds where it holds of 48 elements written out
 
@@ -59,30 +46,9 @@ figureWith m a k t d b r n = record { money = m; association = a; kind = k; tota
 abbrev Stored : ℕ → ℕ → (Figure → Figure) → Type 0
 Stored i x change = (s : List ℕ) → length s ≡ 48 → figureIn (set s i x) ≡ change (figureIn s)
 
-module _ (x : ℕ) where
-  pub kind-stored : Stored 42 x (λ g. figureWith (g .money) (g .association) x (g .total) (g .billed) (g .billing) (g .arrangement) (g .count))
-  unfolding figureIn part
-  kind-stored = by-octets 48 _ (λ f. refl)
-
-  pub total-stored : Stored 43 x (λ g. figureWith (g .money) (g .association) (g .kind) x (g .billed) (g .billing) (g .arrangement) (g .count))
-  unfolding figureIn part
-  total-stored = by-octets 48 _ (λ f. refl)
-
-  pub billed-stored : Stored 44 x (λ g. figureWith (g .money) (g .association) (g .kind) (g .total) x (g .billing) (g .arrangement) (g .count))
-  unfolding figureIn part
-  billed-stored = by-octets 48 _ (λ f. refl)
-
-  pub billing-stored : Stored 45 x (λ g. figureWith (g .money) (g .association) (g .kind) (g .total) (g .billed) x (g .arrangement) (g .count))
-  unfolding figureIn part
-  billing-stored = by-octets 48 _ (λ f. refl)
-
-  pub arrangement-stored : Stored 46 x (λ g. figureWith (g .money) (g .association) (g .kind) (g .total) (g .billed) (g .billing) x (g .count))
-  unfolding figureIn part
-  arrangement-stored = by-octets 48 _ (λ f. refl)
-
-  pub count-stored : Stored 47 x (λ g. figureWith (g .money) (g .association) (g .kind) (g .total) (g .billed) (g .billing) (g .arrangement) x)
-  unfolding figureIn part
-  count-stored = by-octets 48 _ (λ f. refl)
+pub kind-stored : (x : ℕ) → Stored 42 x (λ g. figureWith (g .money) (g .association) x (g .total) (g .billed) (g .billing) (g .arrangement) (g .count))
+unfolding figureIn part
+kind-stored x = by-octets 48 _ (λ f. refl)
 
 pub totalled-stored : (s : List ℕ) (t d b : ℕ) → length s ≡ 48 → (let g = figureIn s in
     figureIn (set (set (set s 43 t) 44 d) 45 b) ≡ figureWith (g .money) (g .association) (g .kind) t d b (g .arrangement) (g .count))
@@ -93,19 +59,12 @@ totalled-stored s t d b =
 
 -- ---- a part, after a store beside it
 
-pub part-stored-after : (s : List ℕ) (start stop i x : ℕ) → start ≤ stop → stop ≤ i → part (set s i x) start stop ≡ part s start stop
-unfolding part
-part-stored-after s start stop i x g h =
-    let e : i ≡ start + (i - start) = omega arith in
-    let l : stop - start ≤ i - start = omega arith in
-    rw (e, drop-set-add) (take-set-le (stop - start) (drop start s) (i - start) x l)
-
-pub part-stored-before : (s : List ℕ) (start stop i x : ℕ) → i < start → part (set s i x) start stop ≡ part s start stop
-unfolding part
-part-stored-before s start stop i x h = ap (take (stop - start)) (drop-set-lt start s i x h)
-
 pub unassociated-stored : (s : List ℕ) (i x : ℕ) → 42 ≤ i → part (set s i x) 16 42 ≡ part s 16 42
-unassociated-stored s i x h = part-stored-after s 16 42 i x (omega arith) h
+unfolding part
+unassociated-stored s i x h =
+    let e : i ≡ 16 + (i - 16) = omega arith in
+    let l : 26 ≤ i - 16 = omega arith in
+    rw (e, drop-set-add) (take-set-le 26 (drop 16 s) (i - 16) x l)
 
 -- ---- figures of which a part is known
 
@@ -124,10 +83,6 @@ unfolding figureIn
 beside-figure s t m r =
     let after : (i : ℕ) → getD t (42 + i) 0 ≡ getD s (42 + i) 0 = λ i. sym (getD-drop 42 t i 0) ∙ ap (λ (l : List ℕ). getD l i 0) r ∙ getD-drop 42 s i 0 in
     simp (sym (money-front t) ∙ ap moneyIn m ∙ money-front s, after 0, after 1, after 2, after 3, after 4, after 5)
-
-pub blank-figure : figureIn (replicate 48 0) ≡ bareFigure 0
-unfolding figureIn part
-blank-figure = refl
 
 -- nothing but money
 module _ (s : List ℕ) (rest : drop 16 s ≡ replicate 32 0) where

@@ -1,44 +1,23 @@
 -- What reading octets answers, and what is written of a record: the theorems about whole components.
--- Assumes nothing.
-use Prim.Native.Nat.{ℕ, _+_, _≤_, _<_}
-use mathlib.Core.Path.{_≡_, refl, sym, ap, _∙_, subst}
-use mathlib.Core.List.{List}
-use mathlib.Core.Bool.{Bool, true, false}
-use mathlib.Core.Logic.{_⊎_, inl, inr, _↔_}
-use native.Mathlib.Omega.{arith}
-use lib.ListN.{length}
-use lib.Dec.{ltb}
-use borrow.Author.Tests.{ltb-true, ltb-false, lt-ltb, le-ltb, lt-leb, le-leb}
-use Rattle.coding.specs.Reader.{Ans, Fault}
-use Rattle.coding.specs.Reader.Ans.{got, halt}
-use Rattle.coding.specs.Reader.Fault.{missing, unexpected, cut, form, shortest, contents, limit, named}
-use Rattle.coding.proofs.Basic.{never, picked, unpicked}
-use Rattle.coding.proofs.Laws.{Octets}
-use Rattle.coding.proofs.Whole.{Encodes, reads-meaning, one-meaning, means-itself, no-longer}
+use Rattle.prelude.proofs.Prelude.{ℕ, _+_, _≤_, _<_, _≡_, refl, sym, ap, _∙_, List, Bool, true, false, _⊎_, inl, inr, _↔_, arith, length, ltb, ltb-true, ltb-false, lt-leb, le-leb}
+use Rattle.coding.{specs.Reader.Ans, specs.Reader.Fault, specs.Reader.Ans.got, specs.Reader.Ans.halt, specs.Reader.Fault.named, proofs.Laws.Octets, proofs.Whole.Encodes}
+use Rattle.coding.{proofs.Whole.one-meaning, proofs.Whole.means-itself, proofs.Frames.frames-ends}
+use Rattle.types.specs.{declared.Record.Record, declared.Answer.Answer, Frames.outside, Frames.numberOf, Frames.noRecord, Frames.frame, Frames.component, Frames.readWhole}
+use Rattle.types.specs.{Frames.accepted, Frames.refusedAt, Frames.refused, Frames.answered, Frames.readOf}
+use Rattle.types.proofs.{FrameLaws.componentLaws, Places.Ends, Faults.Told, Faults.whole-told}
 use Rattle.coding.proofs.Whole as Whole
-use Rattle.coding.proofs.Frames.{frames-ends}
-use Rattle.types.specs.declared.Record.{Record}
-use Rattle.types.specs.declared.Answer.{Answer}
-use Rattle.types.specs.Frames.{outside, numberOf, noRecord, frame, component, readWhole, accepted, refusedAt, refused, answered, readOf}
-use Rattle.types.proofs.FrameLaws.{componentLaws}
-use Rattle.types.proofs.Places.{Ends}
-use Rattle.types.proofs.Faults.{Told, whole-told}
+use Rattle.types.proofs.Family as Family
 
 -- ---- refusals
 
 -- over 254 octets are refused with 3, and others are read
 pub read-long : (s : List ℕ) → 254 < length s → readWhole s ≡ halt (named 3) 0
 unfolding readWhole
-read-long s h = picked _ _ (lt-ltb _ (length s) (omega (arith, h)))
+read-long = Family.read-long component
 
 pub read-short : (s : List ℕ) → length s ≤ 254 → readWhole s ≡ component .read s 0 (length s)
 unfolding readWhole
-read-short s h = unpicked _ _ (le-ltb _ (length s) (omega (arith, h)))
-
--- the number that a fault was given
-abbrev number-of : Ans Record → ℕ
-number-of (got x n) = 0
-number-of (halt w p) = numberOf w
+read-short = Family.read-short component
 
 -- octets are accepted with a record; or refused, with no record, by 1 to 8 and no offset; or by 40 to 45 and an offset that lies inside the octets or
 -- at their end, and not before the eighth
@@ -47,27 +26,14 @@ pub data Answers (s : List ℕ) : Type 0 where
   framed : (n : ℕ) → 1 ≤ n → n ≤ 8 → readOf s ≡ refused n → Answers s
   argued : (n p : ℕ) → 40 ≤ n → n ≤ 45 → 8 ≤ p → p ≤ length s → length s ≤ 254 → readOf s ≡ refusedAt n p → Answers s
 
-told : (s : List ℕ) (n p : ℕ) → ((1 ≤ n) × (n ≤ 8)) ⊎ ((40 ≤ n) × (n ≤ 45) × (8 ≤ p)) → p ≤ length s → readWhole s ≡ halt (named n) p → Answers s
-unfolding readOf
-told s n p (inl l) i e = framed n (l .0) (l .1) (rw (e, lt-leb 40 n (omega (arith, l .1))))
-told s n p (inr h) i e = argued n p (h .0) (h .1) (h .2) i (short (ltb 254 (length s)) refl) (rw (e, le-leb 40 n (h .0)))
-  where
-    short : (t : Bool) → ltb 254 (length s) ≡ t → length s ≤ 254
-    short true q =
-        let z : _≡_ {A = ℕ} n 3 = ap number-of (sym e ∙ read-long s (ltb-true 254 (length s) q)) in
-        absurd (omega (arith, h .0, z))
-    short false q = ltb-false 254 (length s) q
-
 by-fault : (s : List ℕ) (w : Fault) (p : ℕ) → Told w p → p ≤ length s → readWhole s ≡ halt w p → Answers s
 unfolding readOf
-by-fault s missing p h i e = framed 6 (omega arith) (omega arith) (ap answered e)
-by-fault s unexpected p h i e = framed 6 (omega arith) (omega arith) (ap answered e)
-by-fault s cut p h i e = framed 6 (omega arith) (omega arith) (ap answered e)
-by-fault s form p h i e = framed 2 (omega arith) (omega arith) (ap answered e)
-by-fault s shortest p h i e = framed 6 (omega arith) (omega arith) (ap answered e)
-by-fault s contents p h i e = framed 6 (omega arith) (omega arith) (ap answered e)
-by-fault s limit p h i e = framed 6 (omega arith) (omega arith) (ap answered e)
-by-fault s (named n) p h i e = told s n p h i e
+by-fault s w p (inl l) i e = framed (numberOf w) (l .0) (l .1) (rw (e, lt-leb 40 (numberOf w) (omega (arith, l .1))))
+by-fault s w p (inr h) i e = argued (numberOf w) p (h .0) (h .1) (h .2) i (short (ltb 254 (length s)) refl) (rw (e, le-leb 40 (numberOf w) (h .0)))
+  where
+    short : (t : Bool) → ltb 254 (length s) ≡ t → length s ≤ 254
+    short true q = absurd (omega (arith, h .0, ap (λ a. answered a .number) (sym e ∙ read-long s (ltb-true 254 (length s) q))))
+    short false q = ltb-false 254 (length s) q
 
 pub answers : (s : List ℕ) → Answers s
 unfolding readOf
@@ -77,88 +43,56 @@ answers s = go (readWhole s) refl (whole-told s)
     go (got x n) e h = taken x (ap answered e)
     go (halt w p) e h = by-fault s w p (h .0) (h .2) e
 
+-- what holds of each of the three holds of the answer
+by-answer : (P : Answer → Type 0) (s : List ℕ) → ((x : Record) → P (accepted x)) → ((n : ℕ) → 1 ≤ n → n ≤ 8 → P (refused n))
+    → ((n p : ℕ) → 40 ≤ n → n ≤ 45 → 8 ≤ p → p ≤ length s → length s ≤ 254 → P (refusedAt n p)) → P (readOf s)
+by-answer P s t f g = elim (answers s) [
+  | taken x e ↦ rw e (t x)
+  | framed n a b e ↦ rw e (f n a b)
+  | argued n p a b c d l e ↦ rw e (g n p a b c d l)
+]
+
 -- the number of an answer: 0, or 1 to 8, or 40 to 45
 pub refusal : (s : List ℕ) → (readOf s .number ≤ 8) ⊎ ((40 ≤ readOf s .number) × (readOf s .number ≤ 45))
-refusal s = go (answers s)
-  where
-    go : Answers s → (readOf s .number ≤ 8) ⊎ ((40 ≤ readOf s .number) × (readOf s .number ≤ 45))
-    go (taken x e) = inl (rw e (omega arith))
-    go (framed n a b e) = inl (rw e b)
-    go (argued n p a b c d f e) = inr (rw e (a, b))
+refusal s = by-answer (λ a. (a .number ≤ 8) ⊎ ((40 ≤ a .number) × (a .number ≤ 45))) s (λ x. inl (omega arith)) (λ n a b. inl b) (λ n p a b c d l. inr (a, b))
 
 -- an offset is given with 40 to 45 alone
 pub no-offset : (s : List ℕ) → readOf s .number < 40 → readOf s .offset ≡ 0
-no-offset s l = go (answers s)
-  where
-    go : Answers s → readOf s .offset ≡ 0
-    go (taken x e) = rw e
-    go (framed n a b e) = rw e
-    go (argued n p a b c d f e) = absurd (omega (arith, a, l, ap (λ (z : Answer). z .number) e))
+no-offset s = by-answer (λ a. a .number < 40 → a .offset ≡ 0) s (λ x h. refl) (λ n a b h. refl) (λ n p a b c d l h. absurd (omega (arith, a, h)))
 
 -- and one that is given lies inside the octets or at their end, and is never 0
 pub offset-inside : (s : List ℕ) → 40 ≤ readOf s .number → (8 ≤ readOf s .offset) × (readOf s .offset ≤ length s) × (length s ≤ 254)
-offset-inside s l = go (answers s)
-  where
-    go : Answers s → (8 ≤ readOf s .offset) × (readOf s .offset ≤ length s) × (length s ≤ 254)
-    go (taken x e) = absurd (omega (arith, l, ap (λ (z : Answer). z .number) e))
-    go (framed n a b e) = absurd (omega (arith, b, l, ap (λ (z : Answer). z .number) e))
-    go (argued n p a b c d f e) = rw e (c, d, f)
+offset-inside s =
+    by-answer (λ a. 40 ≤ a .number → (8 ≤ a .offset) × (a .offset ≤ length s) × (length s ≤ 254)) s
+    (λ x h. absurd (omega (arith, h))) (λ n a b h. absurd (omega (arith, b, h))) (λ n p a b c d l h. (c, d, l))
 
 -- so it is an octet
 pub offset-small : (s : List ℕ) → readOf s .offset ≤ 254
-offset-small s = go (answers s)
-  where
-    go : Answers s → readOf s .offset ≤ 254
-    go (taken x e) = rw e (omega arith)
-    go (framed n a b e) = rw e (omega arith)
-    go (argued n p a b c d f e) = rw e (omega (arith, d, f))
+offset-small s = by-answer (λ a. a .offset ≤ 254) s (λ x. omega arith) (λ n a b. omega arith) (λ n p a b c d l. omega (arith, d, l))
 
 -- a refusal leaves no record
 pub no-record : (s : List ℕ) → (readOf s .number ≡ 0 → ⊥) → readOf s .value ≡ noRecord
-no-record s h = go (answers s)
-  where
-    go : Answers s → readOf s .value ≡ noRecord
-    go (taken x e) = absurd (h (ap (λ (z : Answer). z .number) e))
-    go (framed n a b e) = ap (λ (z : Answer). z .value) e
-    go (argued n p a b c d f e) = ap (λ (z : Answer). z .value) e
+no-record s = by-answer (λ a. (a .number ≡ 0 → ⊥) → a .value ≡ noRecord) s (λ x h. absurd (h refl)) (λ n a b h. refl) (λ n p a b c d l h. refl)
 
 -- ---- reading and meaning
 
 -- a component that is read ends where the octets end
 component-ends : (s : List ℕ) (a e n : ℕ) (x : Record) → component .read s a e ≡ got x n → n ≡ e
 unfolding component
-component-ends = frames-ends _ (λ r. 0xa0 + r .frame) outside (named 5) frame
+component-ends = frames-ends _ (λ r. 0xa0 + r .front .frame) outside (named 5) frame
 
 -- no fault that is met has the number 0
-some-number : (w : Fault) (p : ℕ) → Told w p → 1 ≤ numberOf w
-some-number missing p h = omega arith
-some-number unexpected p h = omega arith
-some-number cut p h = omega arith
-some-number form p h = omega arith
-some-number shortest p h = omega arith
-some-number contents p h = omega arith
-some-number limit p h = omega arith
-some-number (named n) p (inl h) = h .0
-some-number (named n) p (inr h) = omega (arith, h .0)
-
 answered-got : (a : Ans Record) (x : Record) (e : ℕ) → Ends Told 0 e a → answered a ≡ accepted x → (n : ℕ) × (a ≡ got x n)
 answered-got (got y n) x l h e = (n, ap (λ (z : Answer). got (z .value) n) e)
-answered-got (halt w p) x l h e = absurd (omega (arith, some-number w p (h .0), ap (λ (z : Answer). z .number) e))
+answered-got (halt w p) x l h e =
+    let z = ap (λ (z : Answer). z .number) e in elim (h .0) [ inl m ↦ absurd (omega (arith, m .0, z)) | inr m ↦ absurd (omega (arith, m .0, z)) ]
 
 -- octets are accepted with a record exactly where they are at most 254 and, whole, mean it
 pub reads : (s : List ℕ) (x : Record) → Octets s → (readOf s ≡ accepted x) ↔ ((length s ≤ 254) × Encodes component x s)
-unfolding readOf
-reads s x os = (
-  λ e. let g = answered-got (readWhole s) x (length s) (whole-told s) e in there (ltb 254 (length s)) refl (g .0) (g .1),
-  λ p. ap answered (read-short s (p .0) ∙ reads-meaning component componentLaws s x os .1 (p .1)),
-)
-  where
-    there : (t : Bool) → ltb 254 (length s) ≡ t → (n : ℕ) → readWhole s ≡ got x n → (length s ≤ 254) × Encodes component x s
-    there true q n e = absurd (never (sym (read-long s (ltb-true 254 (length s) q)) ∙ e))
-    there false q n e =
-        let l = ltb-false 254 (length s) q in
-        let g = sym (read-short s l) ∙ e in
-        (l, reads-meaning component componentLaws s x os .0 (g ∙ ap (got x) (component-ends s 0 (length s) n x g)))
+unfolding readOf readWhole
+reads s x os =
+    let f = Family.reads component componentLaws component-ends s x os in
+    (λ e. f .0 (answered-got (readWhole s) x (length s) (whole-told s) e), λ p. ap answered (f .1 p .1))
 
 -- octets mean at most one record
 pub one-record : (s : List ℕ) (x y : Record) → Octets s → Encodes component x s → Encodes component y s → x ≡ y
@@ -172,17 +106,16 @@ written-means x v l = means-itself component componentLaws x v (omega arith)
 
 -- and is read back
 pub reads-back : (x : Record) → component .valid x ≡ true → length (component .write x) ≤ 254 → readOf (component .write x) ≡ accepted x
-unfolding readOf
-reads-back x v l = ap answered (read-short (component .write x) l ∙ Whole.reads-back component componentLaws x v (omega arith))
+unfolding readOf readWhole
+reads-back x v l = ap answered (Family.reads-back component componentLaws component-ends x v l)
 
 -- a record that is read is valid, and what is written of it is no longer than what was read, so it always fits
 pub read-fits : (s : List ℕ) (x : Record) → Octets s → readOf s ≡ accepted x
     → (component .valid x ≡ true) × (length (component .write x) ≤ length s) × (length s ≤ 254)
+unfolding readOf readWhole
 read-fits s x os e =
-    let p = reads s x os .0 e in
-    let r = reads-meaning component componentLaws s x os .1 (p .1) in
-    let q = no-longer component componentLaws s 0 (length s) (length s) x os (omega arith) (omega arith) r in
-    (q .0, omega (arith, q .1), p .0)
+    let g = answered-got (readWhole s) x (length s) (whole-told s) e in
+    Family.read-fits component componentLaws component-ends s x (g .0) os (g .1)
 
 -- no octets that mean a record are fewer than those written of it
 pub none-shorter : (s : List ℕ) (x : Record) → Octets s → Encodes component x s → length (component .write x) ≤ length s
@@ -199,9 +132,7 @@ written-octets x v l = componentLaws .octets x v (omega arith)
 -- two valid records that are written alike are one
 pub written-once : (x y : Record) → component .valid x ≡ true → component .valid y ≡ true → length (component .write x) ≤ 254
     → component .write x ≡ component .write y → x ≡ y
-written-once x y v u l e =
-    let k : length (component .write y) ≤ 254 = subst (λ (s : List ℕ). length s ≤ 254) e l in
-    ap (λ (a : Answer). a .value) (sym (reads-back x v l) ∙ ap readOf e ∙ reads-back y u k)
+written-once = Family.written-once component componentLaws component-ends
 
 -- what is read, written and read again is the same record
 pub reads-again : (s : List ℕ) (x : Record) → Octets s → readOf s ≡ accepted x → readOf (component .write x) ≡ accepted x

@@ -1,25 +1,10 @@
 -- Octets that are one element, from the first to the last: read as a component they are never refused as cut, too long or trailing.
--- Assumes nothing.
-use Prim.Native.Nat.{ℕ, _≤_}
-use mathlib.Core.Path.{_≡_, refl, sym, ap, _∙_, subst}
-use mathlib.Core.List.{List, [], _∷_}
-use mathlib.Core.Bool.{Bool, true, false, cond}
-use native.Mathlib.Omega.{arith}
-use lib.ListN.{length, getD}
-use lib.Dec.{eqb}
-use borrow.Author.Tests.{lt-leb, eq-eqb}
-use Rattle.coding.specs.declared.Extent.{Extent}
-use Rattle.coding.specs.Reader.{Ans, after, blamed, closed, enteredAny}
-use Rattle.coding.specs.Reader.Ans.{got, halt}
-use Rattle.coding.specs.Reader.Fault.{unexpected, named}
-use Rattle.coding.specs.Codec.{Element, oneOf, frames}
-use Rattle.coding.proofs.Basic.{picked, unpicked}
-use Rattle.coding.proofs.Header.{element-read, element-range}
-use Rattle.types.specs.declared.Record.{Record}
-use Rattle.types.specs.Frames.{outside, frame, component, answered, readOf}
-use Rattle.types.proofs.Places.{Ends, pick}
-use Rattle.types.proofs.Faults.{Whole, Inside, plain-whole, frame-placed}
-use Rattle.types.proofs.Theorems.{read-short}
+use Rattle.prelude.proofs.Prelude.{ℕ, _≤_, _≡_, refl, sym, ap, _∙_, subst, List, [], _∷_, Bool, true, false, cond, arith, length, getD, eqb, lt-leb, eq-eqb}
+use Rattle.coding.{specs.declared.Extent.Extent, specs.Reader.Ans, specs.Reader.after, specs.Reader.blamed, specs.Reader.closed, specs.Reader.enteredAny, specs.Reader.Ans.got}
+use Rattle.coding.{specs.Reader.Ans.halt, specs.Reader.Fault.unexpected, specs.Reader.Fault.named, specs.Codec.Element, specs.Codec.oneOf, specs.Codec.frames, proofs.Basic.picked}
+use Rattle.coding.{proofs.Basic.unpicked, proofs.Header.element-read, proofs.Header.element-range}
+use Rattle.types.specs.{declared.Record.Record, Frames.outside, Frames.frame, Frames.component, Frames.answered, Frames.readOf}
+use Rattle.types.proofs.{Places.Ends, Places.pick, Faults.Whole, Faults.Inside, Faults.plain-whole, Faults.frame-placed, Theorems.read-short}
 
 abbrev tags : List ℕ
 tags = 0xa1 ∷ 0xa2 ∷ 0xa3 ∷ 0xa4 ∷ []
@@ -27,13 +12,10 @@ tags = 0xa1 ∷ 0xa2 ∷ 0xa3 ∷ 0xa4 ∷ []
 abbrev Fine : Ans Record → Type 0
 Fine r = Whole (answered r .number)
 
-none : {n : ℕ} → (n ≡ 1 → ⊥) → (n ≡ 3 → ⊥) → (n ≡ 5 → ⊥) → Whole n
-none a b c = (a, b, c)
-
 -- what was read inside, and then that nothing is left over
 ended : (a e next : ℕ) (r : Ans Record) → Ends Inside a e r → Fine (after r (λ v last. closed v last e next))
 unfolding after closed
-ended a e next (got v n) h = pick Fine (eqb n e) _ _ (λ q. none (λ z. omega (arith, z)) (λ z. omega (arith, z)) (λ z. omega (arith, z))) (λ q. plain-whole unexpected tt)
+ended a e next (got v n) h = pick Fine (eqb n e) _ _ (λ q. omega arith) (λ q. plain-whole unexpected tt)
 ended a e next (halt w p) h = h .0 .1
 
 module _ (s : List ℕ) (c m : ℕ) (o : Element s 0 c m (length s)) where
@@ -58,7 +40,7 @@ module _ (s : List ℕ) (c m : ℕ) (o : Element s 0 c m (length s)) where
   inner-fine true =
       let g = element-range o in
       ended c m (length s) ((frame (getD s 0 0)) .read s c m) (frame-placed (getD s 0 0) .ends s c m (omega (arith, g .0)) (g .1))
-  inner-fine false = none (λ z. omega (arith, z)) (λ z. omega (arith, z)) (λ z. omega (arith, z))
+  inner-fine false = omega arith
 
   read-fine : Fine (component .read s 0 (length s))
   unfolding component frames

@@ -1,24 +1,9 @@
 -- The laws of an entry of units, and that a list of them is found again in its rows.
--- Assumes nothing.
-use Prim.Native.Nat.{ℕ, _+_, _*_, _<_}
-use mathlib.Core.Path.{_≡_, refl, ap, _∙_}
-use mathlib.Core.List.{List}
-use mathlib.Core.Bool.{Bool, true, _&&_, cond}
-use mathlib.Core.Logic.{_⊎_, inl, inr}
-use mathlib.Core.Option.{Option, none, some}
-use native.Mathlib.Omega.{arith}
-use lib.ListN.{length, getD}
-use lib.Dec.{leb, eqb}
-use borrow.Author.Tests.{leb-true, ne-eqb}
-use Rattle.coding.specs.Codec.{prim, cons, alt, maybe, some·more, validMaybe, pad, oneOf, apart}
-use Rattle.coding.specs.Leaves.{number, or0}
-use Rattle.coding.specs.Rows.{rows}
-use Rattle.coding.proofs.Basic.{and-left}
-use Rattle.coding.proofs.Laws.{RunLaws}
-use Rattle.coding.proofs.Combine.{primLaws, consLaws, pairLaws, altLaws, maybeLaws, someLaws}
-use Rattle.coding.proofs.Leaves.{nullLaws}
-use Rattle.coding.proofs.Padded.{Equal, eqbEqual, pairEqual, viaEqual, canonicalLaws}
-use Rattle.coding.proofs.Rows.{rows-get', rows-table}
+use Rattle.prelude.proofs.Prelude.{ℕ, _+_, _*_, _<_, _≡_, refl, ap, _∙_, List, Bool, true, _&&_, cond, _⊎_, inl, inr, Option, none, some, arith, length, getD, leb, eqb, leb-true, ne-eqb}
+use Rattle.coding.{specs.Codec.prim, specs.Codec.cons, specs.Codec.alt, specs.Codec.maybe, specs.Codec.some·more, specs.Codec.validMaybe, specs.Codec.pad, specs.Codec.oneOf}
+use Rattle.coding.{specs.Codec.apart, specs.Leaves.number, specs.Leaves.or0, specs.Rows.rows, proofs.Basic.and-left, proofs.Laws.RunLaws, proofs.Combine.primLaws, proofs.Combine.consLaws}
+use Rattle.coding.{proofs.Combine.pairLaws, proofs.Combine.altLaws, proofs.Combine.maybeLaws, proofs.Combine.someLaws, proofs.Leaves.nullLaws, proofs.Padded.Equal, proofs.Padded.eqbEqual}
+use Rattle.coding.{proofs.Padded.pairEqual, proofs.Padded.viaEqual, proofs.Padded.canonicalLaws, proofs.Rows.rows-get', proofs.Rows.rows-table}
 use Rattle.types.specs.declared.Units.{Units}
 use Rattle.types.specs.Entries.{noUnits, unitsTo, unitsFrom, sameUnits, unit, unitNumbers, unitOctets, unitAt, unitRows, unitList}
 use Rattle.types.proofs.PartLaws.{numberAt, pair-right}

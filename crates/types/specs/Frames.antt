@@ -11,6 +11,7 @@ use Rattle.coding.specs.Reader.Fault.{missing, unexpected, cut, form, shortest,
 use Rattle.coding.specs.Codec.{Run, prim, cons, alt, canonical, sort, frames, leads, barring, marked, pickRun}
 use Rattle.coding.specs.Leaves.{number, nullLeaf, identifier, listed}
 use Rattle.types.specs.declared.Charge.{Charge}
+use Rattle.types.specs.declared.Front.{Front}
 use Rattle.types.specs.declared.Record.{Record}
 use Rattle.types.specs.declared.Answer.{Answer}
 use Rattle.types.specs.Arguments.{noCharge, sameCharge, chargeOf}
@@ -57,13 +58,27 @@ offsetOf n p = cond (leb 40 n) p 0
 
 -- ---- the record
 
+-- a front of seven numbers, in their order
+abbrev pub frontBy : ℕ → ℕ → ℕ → ℕ → ℕ → ℕ → ℕ → Front
+frontBy k u i o e p d = record { frame = k; unnamed = u; id = i; operation = o; error = e; problem = p; detail = d }
+
+abbrev pub noFront : Front
+noFront = frontBy 0 0 0 0 0 0 0
+
+-- a record without a charge
+abbrev pub uncharged : Front → Record
+uncharged f = record { front = f; charge = noCharge }
+
 abbrev pub noRecord : Record
-noRecord = record { frame = 0; unnamed = 0; id = 0; operation = 0; error = 0; problem = 0; detail = 0; charge = noCharge }
+noRecord = uncharged noFront
+
+abbrev pub sameFront : Front → Front → Bool
+sameFront f g =
+    ((eqb (f .frame) (g .frame) && eqb (f .unnamed) (g .unnamed)) && (eqb (f .id) (g .id) && eqb (f .operation) (g .operation)))
+    && ((eqb (f .error) (g .error) && eqb (f .problem) (g .problem)) && eqb (f .detail) (g .detail))
 
 abbrev pub sameRecord : Record → Record → Bool
-sameRecord r q =
-    ((eqb (r .frame) (q .frame) && eqb (r .unnamed) (q .unnamed)) && (eqb (r .id) (q .id) && eqb (r .operation) (q .operation)))
-    && ((eqb (r .error) (q .error) && eqb (r .problem) (q .problem)) && (eqb (r .detail) (q .detail) && sameCharge (r .charge) (q .charge)))
+sameRecord r q = sameFront (r .front) (q .front) && sameCharge (r .charge) (q .charge)
 
 -- ---- frames
 
@@ -79,56 +94,56 @@ errors = 0 ∷ 3 ∷ 4 ∷ 7 ∷ 26 ∷ []
 
 -- a record that carries a charge
 abbrev pub carries : ℕ → ℕ → ℕ → Charge → Record
-carries k i o c = record { frame = k; unnamed = 0; id = i; operation = o; error = 0; problem = 0; detail = 0; charge = c }
+carries k i o c = record { front = frontBy k 0 i o 0 0 0; charge = c }
 
 unfoldable pub carrying : ℕ → ℕ → ℕ → Run Record
 carrying k i o = canonical (carries k i o) (λ r. r .charge) sameRecord (marked inArgument (chargeOf o))
 
 -- the argument of operation 30: 0A, 0 to 2
 abbrev pub asks : ℕ → ℕ → Record
-asks i n = record { frame = 1; unnamed = 0; id = i; operation = 30; error = 0; problem = 0; detail = n; charge = noCharge }
+asks i n = uncharged (frontBy 1 0 i 30 0 0 n)
 
 unfoldable pub request : ℕ → Run Record
-request i = canonical (asks i) (λ r. r .detail) sameRecord (marked inArgument (prim 0x0a (number 0 2)))
+request i = canonical (asks i) (λ r. r .front .detail) sameRecord (marked inArgument (prim 0x0a (number 0 2)))
 
 -- A1 invoke: identifier, operation, argument
 unfoldable pub argument : ℕ → ℕ → Run Record
 argument i o = pickRun (eqb o 30) (request i) (carrying 1 i o)
 
 unfoldable pub invoke : Run Record
-invoke = leads (prim 0x02 identifier) (λ r. r .id) (λ i. leads (value 7 operations) (λ r. r .operation) (argument i))
+invoke = leads (prim 0x02 identifier) (λ r. r .front .id) (λ i. leads (value 7 operations) (λ r. r .front .operation) (argument i))
 
 -- A2 return result: identifier, then 30 holding operation and result
 unfoldable pub returnResult : Run Record
 returnResult =
-    leads (prim 0x02 identifier) (λ r. r .id) (λ i. cons 0x30 (leads (value 7 (30 ∷ [])) (λ r. r .operation) (carrying 2 i)))
+    leads (prim 0x02 identifier) (λ r. r .front .id) (λ i. cons 0x30 (leads (value 7 (30 ∷ [])) (λ r. r .front .operation) (carrying 2 i)))
 
 -- A3 return error: identifier, error
 abbrev pub fails : ℕ → ℕ → Record
-fails i e = record { frame = 3; unnamed = 0; id = i; operation = 0; error = e; problem = 0; detail = 0; charge = noCharge }
+fails i e = uncharged (frontBy 3 0 i 0 e 0 0)
 
 unfoldable pub failed : ℕ → Run Record
-failed i = canonical (fails i) (λ r. r .error) sameRecord (value 8 errors)
+failed i = canonical (fails i) (λ r. r .front .error) sameRecord (value 8 errors)
 
 unfoldable pub returnError : Run Record
-returnError = leads (prim 0x02 identifier) (λ r. r .id) failed
+returnError = leads (prim 0x02 identifier) (λ r. r .front .id) failed
 
 -- A4 reject: identifier or NULL, then one of 80 general (0 to 2), 81 invoke (0 to 7), 82 result (0 to 2), 83 error (0 to 4)
 abbrev pub rejects : Unit {0} ⊎ ℕ → ℕ → ℕ → Record
-rejects (inl u) tag n = record { frame = 4; unnamed = 1; id = 0; operation = 0; error = 0; problem = tag; detail = n; charge = noCharge }
-rejects (inr i) tag n = record { frame = 4; unnamed = 0; id = i; operation = 0; error = 0; problem = tag; detail = n; charge = noCharge }
+rejects (inl u) tag n = uncharged (frontBy 4 1 0 0 0 tag n)
+rejects (inr i) tag n = uncharged (frontBy 4 0 i 0 0 tag n)
 
 unfoldable pub caller : Run (Unit {0} ⊎ ℕ)
 caller = alt 0x05 (prim 0x05 nullLeaf) (prim 0x02 identifier)
 
 abbrev pub callerOf : Record → Unit {0} ⊎ ℕ
-callerOf r = cond (eqb (r .unnamed) 1) (inl tt) (inr (r .id))
+callerOf r = cond (eqb (r .front .unnamed) 1) (inl tt) (inr (r .front .id))
 
 unfoldable pub problem : ℕ → ℕ → Unit {0} ⊎ ℕ → Run Record
-problem tag most c = canonical (rejects c tag) (λ r. r .detail) sameRecord (prim tag (number 0 most))
+problem tag most c = canonical (rejects c tag) (λ r. r .front .detail) sameRecord (prim tag (number 0 most))
 
 abbrev pub isProblem : ℕ → Record → Bool
-isProblem tag r = eqb (r .problem) tag
+isProblem tag r = eqb (r .front .problem) tag
 
 unfoldable pub problems : Unit {0} ⊎ ℕ → Run Record
 problems c =
@@ -149,12 +164,16 @@ frame tag =
     (pickRun (eqb tag 0xa3) returnError reject))
 
 unfoldable pub component : Run Record
-component = frames (0xa1 ∷ 0xa2 ∷ 0xa3 ∷ 0xa4 ∷ []) (λ r. 0xa0 + r .frame) outside (named 5) frame
+component = frames (0xa1 ∷ 0xa2 ∷ 0xa3 ∷ 0xa4 ∷ []) (λ r. 0xa0 + r .front .frame) outside (named 5) frame
 
--- ---- what reading octets answers: over 254 octets are 3
+-- ---- what reading octets answers
+
+-- one component of any family of frames: over 254 octets are 3
+abbrev pub readFamily : {A : Type 0} → Run A → List ℕ → Ans A
+readFamily family s = cond (ltb 254 (length s)) (halt (named 3) 0) (family .read s 0 (length s))
 
 unfoldable pub readWhole : List ℕ → Ans Record
-readWhole s = cond (ltb 254 (length s)) (halt (named 3) 0) (component .read s 0 (length s))
+readWhole = readFamily component
 
 abbrev pub accepted : Record → Answer
 accepted x = record { number = 0; offset = 0; value = x }

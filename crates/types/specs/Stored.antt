@@ -11,6 +11,7 @@ use Rattle.types.specs.declared.Money.{Money}
 use Rattle.types.specs.declared.Association.{Association}
 use Rattle.types.specs.declared.Figure.{Figure}
 use Rattle.types.specs.declared.Charge.{Charge}
+use Rattle.types.specs.declared.Front.{Front}
 use Rattle.types.specs.declared.Record.{Record}
 
 abbrev pub two : List ℕ → ℕ → ℕ
@@ -44,17 +45,19 @@ figureIn s = record {
 abbrev pub storedCharge : List ℕ → List ℕ → List ℕ → Charge
 storedCharge figure numbers rows = record { figure = figureIn figure; entries = record { numbers = numbers; octets = rows } }
 
-abbrev pub recordIn : List ℕ → List ℕ → List ℕ → List ℕ → Record
-recordIn front figure numbers rows = record {
-  frame = getD front 0 0;
-  unnamed = getD front 1 0;
-  id = two front 2;
-  operation = getD front 4 0;
-  error = getD front 5 0;
-  problem = getD front 6 0;
-  detail = getD front 7 0;
-  charge = storedCharge figure numbers rows;
+abbrev pub frontIn : List ℕ → Front
+frontIn s = record {
+  frame = getD s 0 0;
+  unnamed = getD s 1 0;
+  id = two s 2;
+  operation = getD s 4 0;
+  error = getD s 5 0;
+  problem = getD s 6 0;
+  detail = getD s 7 0;
 }
+
+abbrev pub recordIn : List ℕ → List ℕ → List ℕ → List ℕ → Record
+recordIn front figure numbers rows = record { front = frontIn front; charge = storedCharge figure numbers rows }
 
 -- ---- what a reader leaves in the parts that it is lent
 

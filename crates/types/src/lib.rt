@@ -2,9 +2,7 @@
 //
 // No struct has padding, no field is a bool or an enum (a host's memory may hold anything), and what is not used is zero.
 ghost use mathlib.Core.Path.{_≡_};
-ghost use Prim.Native.Nat.{_+_, _*_};
 ghost use Rattle.types.specs.Charges.{isDigit};
-ghost use Rattle.types.specs.Stored.{moneyIn, associationIn, figureIn};
 
 // 1 to 10 octets, each below 80 (hex).
 #[repr(C)]
@@ -88,11 +86,11 @@ pub struct Scaled {
     pub scale: u8,
 }
 
-// A component. frame: 1 invoke, 2 return result, 3 return error, 4 reject. id: the identifier's 16 bits, two's complement.
+// All of a component but its charge. frame: 1 invoke, 2 return result, 3 return error, 4 reject. id: the identifier's 16 bits, two's complement.
 // unnamed: 1 for a reject with NULL in place of the identifier. problem: the tag of a reject's problem, 80 to 83 (hex).
 // detail: the service that operation 30 asks for, 0 S, 1 D, 2 E; or the value of a reject's problem.
 #[repr(C)]
-pub struct Record {
+pub struct Front {
     pub frame: u8,
     pub unnamed: u8,
     pub id: u16,
@@ -100,6 +98,12 @@ pub struct Record {
     pub error: u8,
     pub problem: u8,
     pub detail: u8,
+}
+
+// A component.
+#[repr(C)]
+pub struct Record {
+    pub front: Front,
     pub charge: Charge,
 }
 
@@ -110,6 +114,9 @@ pub struct Answer {
     pub offset: u32,
     pub value: Record,
 }
+
+// The largest number of an amount, of a time, of units.
+pub const MOST: u32 = 16777215;
 
 // ---- what is not there is zero
 
@@ -170,76 +177,4 @@ pub fn is_digit(x: u8) -> bool
         return false;
     }
     x <= 0x39
-}
-
-// ---- a record in parts: numbers lie low octet first
-
-pub fn number16(low: u8, high: u8) -> u16
-    ensures { λ r. ⌜ r ≡ low + 256 * high ⌝ }
-{
-    (low as u16) + 256 * (high as u16)
-}
-
-fn number32(low: u16, high: u16) -> u32
-    ensures { λ r. ⌜ r ≡ low + 65536 * high ⌝ }
-{
-    (low as u32) + 65536 * (high as u32)
-}
-
-// What lies in a figure's 48 octets: money from 0 on, an association from 16 on, the rest from 42 on.
-pub fn money_of(f: &[u8; 48]) -> Money
-    ensures { λ r. ⌜ r ≡ moneyIn (now (f .entry)) ⌝ }
-{
-    // As a slice the array shows its length to the proof.
-    let all: &[u8] = f;
-    let mut octets: [u8; 10] = [0; 10];
-    let mut i = 0;
-    while i < 10 {
-        octets[i] = f[1 + i];
-        i += 1;
-    }
-    Money {
-        currency: Currency {
-            count: f[0],
-            octets,
-        },
-        multiplier: f[11],
-        number: number32(number16(f[12], f[13]), number16(f[14], f[15])),
-    }
-}
-
-fn association_of(f: &[u8; 48]) -> Association
-    ensures { λ r. ⌜ r ≡ associationIn (now (f .entry)) ⌝ }
-{
-    let all: &[u8] = f;
-    let mut digits: [u8; 20] = [0; 20];
-    let mut i = 0;
-    while i < 20 {
-        digits[i] = f[22 + i];
-        i += 1;
-    }
-    Association {
-        id: number16(f[16], f[17]),
-        count: number16(f[18], f[19]),
-        kind: f[20],
-        plan: f[21],
-        digits,
-    }
-}
-
-pub fn figure_of(f: &[u8; 48]) -> Figure
-    ensures { λ r. ⌜ r ≡ figureIn (now (f .entry)) ⌝ }
-{
-    let money = money_of(f);
-    let association = association_of(f);
-    Figure {
-        money,
-        association,
-        kind: f[42],
-        total: f[43],
-        billed: f[44],
-        billing: f[45],
-        arrangement: f[46],
-        count: f[47],
-    }
 }

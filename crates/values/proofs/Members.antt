@@ -1,12 +1,6 @@
 -- Who is in a set of services.
--- Assumes nothing.
-use Prim.Native.Nat.{ℕ}
-use mathlib.Core.Path.{_≡_, refl, sym, subst}
-use mathlib.Core.Bool.{Bool, true, false, not, _&&_, _||_, true≢false, cond}
-use lib.Dec.{eqb}
-use borrow.Author.Tests.{eqb-true}
-use Rattle.values.specs.declared.Services.{Services}
-use Rattle.values.specs.Sets.{emptySet, isService, has, with}
+use Rattle.prelude.proofs.Prelude.{ℕ, _≡_, refl, sym, subst, Bool, true, false, not, _&&_, _||_, true≢false, cond, eqb, eqb-true}
+use Rattle.values.specs.{declared.Services.Services, Sets.emptySet, Sets.isService, Sets.has, Sets.with}
 
 -- what is no service is in no set
 pub no-service : (x : Services) (u : ℕ) → isService u ≡ false → has x u ≡ false
@@ -21,13 +15,11 @@ no-service x u = go (eqb u 1) (eqb u 2) (eqb u 3)
 
 -- nothing is in the empty set
 pub nothing : (u : ℕ) → has emptySet u ≡ false
-nothing u = go (eqb u 1) (eqb u 2) (eqb u 3)
+nothing u = simp same
   where
-    go : (a b d : Bool) → cond a false (cond b false (cond d false false)) ≡ false
-    go true b d = refl
-    go false true d = refl
-    go false false true = refl
-    go false false false = refl
+    same : (b : Bool) → cond b false false ≡ false
+    same true = refl
+    same false = refl
 
 marked : (b : Bool) (mark : ℕ) → not (eqb (cond b 1 mark) 0) ≡ b || not (eqb mark 0)
 marked true mark = refl

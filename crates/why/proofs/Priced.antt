@@ -1,21 +1,10 @@
 -- The reason is 2 exactly where the account has a closing figure, and its event has that figure.
-use Prim.Native.Nat.{ℕ, _+_}
-use mathlib.Core.Path.{_≡_, refl, sym, _∙_}
-use mathlib.Core.Bool.{Bool, true, false, not, cond}
-use mathlib.Core.List.{List, [], _∷_, reverse}
-use native.Mathlib.Omega.{arith}
-use lib.ListN.{length}
-use lib.Dec.{eqb}
-use borrow.Author.Tests.{eq-eqb, ne-eqb, not-true, not-false}
-use Rattle.types.specs.declared.Charge.{Charge}
-use Rattle.types.specs.Arguments.{noCharge}
-use Rattle.phases.specs.Phases.{Ended, D, E, Given}
-use Rattle.outcomes.specs.Outcome.{firstFinal, judge, chargeIn, its}
+use Rattle.prelude.proofs.Prelude.{ℕ, _+_, _≡_, refl, sym, _∙_, Bool, false, not, cond, List, [], _∷_, reverse, arith, length, eqb, eq-eqb, ne-eqb, not-true, not-false}
+use Rattle.types.specs.{declared.Charge.Charge, Arguments.noCharge}
+use Rattle.phases.{specs.Phases.Ended, specs.Phases.D, specs.Phases.E, specs.Phases.Given, proofs.Choice.by-test, proofs.Choice.by-number, proofs.Choice.never}
+use Rattle.outcomes.{specs.Outcome.firstFinal, specs.Outcome.judge, specs.Outcome.chargeIn, specs.Outcome.its, proofs.Judging.only-final}
 use Rattle.account.specs.History.{Judged, any, known, judged, phase, hasFinal, final, closing}
-use Rattle.phases.proofs.Choice.{by-test, by-number, never}
-use Rattle.outcomes.proofs.Judging.{only-final}
-use Rattle.why.specs.declared.Reason.{Reason}
-use Rattle.why.specs.Reasons.{orElse, earliest, ifFound, seenBy, explained, reasonOf}
+use Rattle.why.specs.{declared.Reason.Reason, Reasons.orElse, Reasons.earliest, Reasons.ifFound, Reasons.seenBy, Reasons.explained, Reasons.reasonOf}
 use Rattle.why.proofs.Theorems.{at-most}
 
 -- the charge of event n
@@ -52,33 +41,24 @@ module _ (s : ℕ) (same : (h : List Given) → firstFinal (known (judged h)) s 
 
 -- ---- by the phase and the finals
 
-priced-by : (h : List Judged) → eqb (explained h .reason) 2 ≡ not (eqb (closing h .service) 0)
+finals-by : (h : List Given) → (eqb (explained (judged h) .reason) 2 ≡ not (eqb (closing (judged h) .service) 0))
+    × (eqb (closing (judged h) .service) 0 ≡ false → closing (judged h) .value ≡ chargeAt (explained (judged h) .event) (judged h))
 unfolding explained
-priced-by h =
-    by-test (eqb (phase h) Ended)
-    (λ p. by-test (eqb (seenBy h .efinal) 0)
-    (λ x. by-test (eqb (seenBy h .dfinal) 0)
+finals-by h =
+    let s = seenBy (judged h) in
+    by-test (eqb (phase (judged h)) Ended)
+    (λ p. by-test (eqb (s .efinal) 0)
+    (λ x. by-test (eqb (s .dfinal) 0)
     (λ y. simp (p, any-found, x, y)
-    (other 3 (seenBy h .figure) _ refl (other 4 (seenBy h .absent) _ refl (other 5 (seenBy h .running) _ refl (other 6 (seenBy h .refused) _ refl refl)))))
-    (λ y. simp (p, any-found, x, y)))
-    (λ x. simp (p, any-found, x)))
-    (λ p. simp p)
+    (other 3 (s .figure) _ refl (other 4 (s .absent) _ refl (other 5 (s .running) _ refl (other 6 (s .refused) _ refl refl))), λ q. never (sym q)))
+    (λ y. simp (p, any-found, x, y) (refl, λ _. gives D (λ h. refl) h)))
+    (λ x. simp (p, any-found, x) (refl, λ _. gives E (λ h. refl) h)))
+    (λ p. simp p (refl, λ q. never (sym q)))
 
 pub priced : (l : List Given) → eqb (reasonOf l .reason) 2 ≡ not (eqb (closing (judged (reverse l)) .service) 0)
 unfolding reasonOf
-priced l = priced-by (judged (reverse l))
-
-gave-by : (h : List Given) → eqb (closing (judged h) .service) 0 ≡ false → closing (judged h) .value ≡ chargeAt (explained (judged h) .event) (judged h)
-unfolding explained
-gave-by h q =
-    by-test (eqb (phase (judged h)) Ended)
-    (λ p. by-test (eqb (seenBy (judged h) .efinal) 0)
-    (λ x. by-test (eqb (seenBy (judged h) .dfinal) 0)
-    (λ y. let z : true ≡ false = simp (p, any-found, x, y) at q in never (sym z))
-    (λ y. simp (p, any-found, x, y) (gives D (λ h. refl) h)))
-    (λ x. simp (p, any-found, x) (gives E (λ h. refl) h)))
-    (λ p. let z : true ≡ false = simp p at q in never (sym z))
+priced l = finals-by (reverse l) .0
 
 pub gave : (l : List Given) → reasonOf l .reason ≡ 2 → closing (judged (reverse l)) .value ≡ chargeAt (reasonOf l .event) (judged (reverse l))
 unfolding reasonOf
-gave l r = gave-by (reverse l) (not-true (eqb (closing (judged (reverse l)) .service) 0) (sym (priced l) ∙ eq-eqb (reasonOf l .reason) 2 r))
+gave l r = finals-by (reverse l) .1 (not-true (eqb (closing (judged (reverse l)) .service) 0) (sym (priced l) ∙ eq-eqb (reasonOf l .reason) 2 r))

@@ -1,20 +1,10 @@
 -- Going over the list once finds what the rules over the list say.
-use Prim.Native.Nat.{ℕ, _+_, _-_, _/_, _<_, _≤_}
-use mathlib.Core.Path.{_≡_, refl, sym, ap, _∙_}
-use mathlib.Core.Bool.{true, false}
-use mathlib.Core.List.{List, [], _∷_, reverse, reverseAux}
-use native.Mathlib.Numerals.{add-one}
-use lib.ListN.{length, take, drop}
-use Rattle.phases.specs.declared.Event.{Event}
-use Rattle.phases.specs.Phases.{Given, event}
-use Rattle.account.specs.History.{judged}
-use Rattle.account.proofs.Demand.{step-stands}
-use Rattle.events.specs.Events.{rowAt, countAt, addsUp, eventsFrom, eventsOf, Going}
+use Rattle.prelude.proofs.Prelude.{ℕ, _+_, _-_, _/_, _<_, _≤_, _≡_, refl, ap, _∙_, List, [], _∷_, reverseAux, add-one, length, take, drop}
+use Rattle.phases.specs.{declared.Event.Event, Phases.Given, Phases.event}
+use Rattle.account.{specs.History.judged, proofs.Demand.step-stands}
+use Rattle.events.specs.Events.{rowAt, countAt, eventsFrom, eventsOf, Going}
 use Rattle.events.proofs.Laws.{from-start, nothing-left, next-event}
-use Rattle.why.specs.declared.Reason.{Reason}
-use Rattle.why.specs.declared.State.{State}
-use Rattle.why.specs.Reasons.{concluded, explained, reasonOf, whyOf}
-use Rattle.why.specs.Seeing.{start, turnOf, runFrom, stateBy}
+use Rattle.why.specs.{declared.State.State, Reasons.concluded, Reasons.explained, Reasons.reasonOf, Seeing.start, Seeing.turnOf, Seeing.runFrom, Seeing.stateBy}
 
 -- a state that stands for a history goes on to one that stands for the history with the event
 turn-stands : (h : List Given) (g : Given) → turnOf (stateBy (judged h)) (g .event) (g .octets) (length (judged h) + 1) ≡ stateBy (judged (g ∷ h))
@@ -48,14 +38,3 @@ module _ (rows octets : List ℕ) where
     run-next c e r g h p z q =
         ap (λ (k : ℕ). runFrom r k (eventsFrom rows octets (i + 1) (length rows / 6 - (i + 1)) (at + c))) (add-one i)
         ∙ rw (next-event rows octets i at g h c p, q, z) refl
-
--- ---- what the slices answer
-
-module _ (rows octets : List ℕ) where
-  pub why-list : addsUp rows (length octets) ≡ true → whyOf rows octets ≡ reasonOf (eventsOf rows octets)
-  unfolding whyOf
-  why-list e = rw e refl
-
-  pub why-none : addsUp rows (length octets) ≡ false → whyOf rows octets ≡ record { number = 48; reason = 0; event = 0 }
-  unfolding whyOf
-  why-none e = rw e refl

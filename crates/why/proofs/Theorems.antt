@@ -1,18 +1,10 @@
 -- The reason given holds with its event, no reason earlier in the order holds with any event, and it holds with no earlier event.
-use Prim.Native.Nat.{ℕ, _+_, _≤_, _<_}
-use mathlib.Core.Path.{_≡_, refl}
-use mathlib.Core.Bool.{Bool, true, false}
-use mathlib.Core.List.{List, [], _∷_, reverse}
-use native.Mathlib.Omega.{arith}
-use lib.ListN.{length}
-use lib.Dec.{eqb}
-use borrow.Author.Tests.{eqb-false, ne-eqb}
-use Rattle.phases.proofs.Choice.{by-test, by-number}
-use Rattle.phases.specs.Phases.{Ended, D, E, Given}
+use Rattle.prelude.proofs.Prelude.{ℕ, _+_, _≤_, _<_, _≡_, refl, Bool, true, false, cond, List, [], _∷_, reverse, arith, length, eqb, lit<, eqb-false, ne-eqb}
+use Rattle.phases.{proofs.Choice.by-test, proofs.Choice.by-number, specs.Phases.Ended, specs.Phases.D, specs.Phases.E, specs.Phases.Given}
 use Rattle.outcomes.specs.Outcome.{was, its}
 use Rattle.account.specs.History.{Judged, judged, phase}
 use Rattle.why.specs.declared.Reason.{Reason}
-use Rattle.why.specs.Reasons.{passedOver, toldAbsent, unread, orElse, earliest, because, ifFound, seenBy, explained, reasonOf}
+use Rattle.why.specs.Reasons.{passedOver, toldAbsent, unread, earliest, because, ifFound, explained, reasonOf}
 
 -- event n of a history passes a test
 pub data Passes (t : Judged → Bool) : List Judged → ℕ → Type 0 where
@@ -86,64 +78,40 @@ true-reason l = right (judged (reverse l))
 
 -- ---- it is the first in the order, with the first event
 
-abbrev Least : ℕ → ℕ → Reason → Type 0
-Least m n r = (r .reason ≤ m) × (r .reason ≡ m → r .event ≤ n)
+record Least (m n : ℕ) (r : Reason) : Type 0 where
+  reason : r .reason ≤ m
+  event : r .reason ≡ m → r .event ≤ n
+
+still-open : (m n : ℕ) (ended : Bool) (rest : Reason) → 1 < m → Least m n rest → Least m n (cond ended rest (because 1 0))
+still-open m n true rest h l = l
+still-open m n false rest h l = record { reason = omega arith; event = λ z. omega arith }
 
 skip : (k m n e : ℕ) (rest : Reason) → k < m → Least m n rest → Least m n (ifFound k e rest)
-skip k m n e rest h l = by-test (eqb e 0) (λ q. rw q l) (λ q. rw q (omega arith, λ z. omega arith))
+skip k m n e rest h l = by-test (eqb e 0) (λ q. rw q l) (λ q. rw q (record { reason = omega arith; event = λ z. omega arith }))
 
 hit : (m n e : ℕ) (rest : Reason) → (e ≡ 0 → ⊥) × (e ≤ n) → Least m n (ifFound m e rest)
-hit m n e rest p = rw (ne-eqb e 0 (p .0)) (omega arith, λ _. p .1)
+hit m n e rest p = rw (ne-eqb e 0 (p .0)) (record { reason = omega arith; event = λ _. p .1 })
 
-module _ (h : List Judged) where
-  -- the order from a reason on
-  abbrev from6 : Reason
-  from6 = ifFound 6 (seenBy h .refused) (because 7 0)
+last-one : Least 7 0 (because 7 0)
+last-one = record { reason = omega arith; event = λ _. omega arith }
 
-  abbrev from5 : Reason
-  from5 = ifFound 5 (seenBy h .running) from6
+ruleset order = (still-open, skip, hit, last-one, lit<, tt)
 
-  abbrev from4 : Reason
-  from4 = ifFound 4 (seenBy h .absent) from5
-
-  abbrev from3 : Reason
-  from3 = ifFound 3 (seenBy h .figure) from4
-
-  module _ (m n : ℕ) where
-    past2 : 2 < m → Least m n from3 → Least m n (explained h)
-    unfolding explained
-    past2 k l =
-        by-test (eqb (phase h) Ended)
-        (λ p. rw p (skip 2 m n (seenBy h .efinal) _ k (skip 2 m n (seenBy h .dfinal) _ k l)))
-        (λ p. rw p (omega arith, λ z. omega arith))
-
-    past3 : 3 < m → Least m n from4 → Least m n (explained h)
-    past3 k l = past2 (omega arith) (skip 3 m n (seenBy h .figure) _ k l)
-
-    past4 : 4 < m → Least m n from5 → Least m n (explained h)
-    past4 k l = past3 (omega arith) (skip 4 m n (seenBy h .absent) _ k l)
-
-    past5 : 5 < m → Least m n from6 → Least m n (explained h)
-    past5 k l = past4 (omega arith) (skip 5 m n (seenBy h .running) _ k l)
-
-    past6 : 6 < m → Least m n (because 7 0) → Least m n (explained h)
-    past6 k l = past5 (omega arith) (skip 6 m n (seenBy h .refused) _ k l)
-
-  least : {m n : ℕ} → Holds h m n → Least m n (explained h)
-  unfolding explained
-  least (stillOpen p) = rw (ne-eqb (phase h) Ended p) (omega arith, λ _. omega arith)
-  least (closedByE {n} p q) = rw p (hit 2 n _ _ (first _ q))
-  least (closedByD {n} p none q) = rw (p, none-found _ h none) (hit 2 n _ _ (first _ q))
-  least (figurePassedOver {n} q) = past2 3 n (omega arith) (hit 3 n _ _ (first _ q))
-  least (notAvailable {n} q) = past3 4 n (omega arith) (hit 4 n _ _ (first _ q))
-  least (onlyRunning {n} q) = past4 5 n (omega arith) (hit 5 n _ _ (first _ q))
-  least (componentRefused {n} q) = past5 6 n (omega arith) (hit 6 n _ _ (first _ q))
-  least nothingUsable = past6 7 0 (omega arith) (omega arith, λ _. omega arith)
+least : {h : List Judged} {m n : ℕ} → Holds h m n → Least m n (explained h)
+unfolding explained
+least {h} (stillOpen p) = rw (ne-eqb (phase h) Ended p) (record { reason = omega arith; event = λ _. omega arith })
+least {h} (closedByE {n} p q) = rw p (hit 2 n _ _ (first _ q))
+least {h} (closedByD {n} p none q) = rw (p, none-found _ h none) (hit 2 n _ _ (first _ q))
+least (figurePassedOver q) = search (order, first _ q) depth 12
+least (notAvailable q) = search (order, first _ q) depth 12
+least (onlyRunning q) = search (order, first _ q) depth 12
+least (componentRefused q) = search (order, first _ q) depth 12
+least nothingUsable = search order depth 12
 
 pub first-reason : (l : List Given) (m n : ℕ) → m < reasonOf l .reason → Holds (judged (reverse l)) m n → ⊥
 unfolding reasonOf
-first-reason l m n h p = omega (arith, least (judged (reverse l)) p .0)
+first-reason l m n h p = omega (arith, least p .reason)
 
 pub first-event : (l : List Given) (n : ℕ) → n < reasonOf l .event → Holds (judged (reverse l)) (reasonOf l .reason) n → ⊥
 unfolding reasonOf
-first-event l n h p = omega (arith, least (judged (reverse l)) p .1 refl)
+first-event l n h p = omega (arith, least p .event refl)

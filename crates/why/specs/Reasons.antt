@@ -21,7 +21,7 @@ within low n high = leb low n && leb n high
 
 -- a figure of D or E: an invoke 33 to 36 with free (kind 1), money (2) or units (3)
 abbrev pub isFigure : Record → Bool
-isFigure c = eqb (c .frame) 1 && (within 33 (c .operation) 36 && within 1 (c .charge .figure .kind) 3)
+isFigure c = eqb (c .front .frame) 1 && (within 33 (c .front .operation) 36 && within 1 (c .charge .figure .kind) 3)
 
 -- a D or E figure with outcome 26 or 27
 abbrev pub passedOver : Outcome → List ℕ → Bool

@@ -53,10 +53,10 @@ fn is_figure(octets: &[u8]) -> bool
     ensures { λ r. ⌜ r ≡ isFigure (readOf (now (octets .entry)) .value) ⌝ }
 {
     let a = read::read(octets);
-    if a.value.frame != 1 {
+    if a.value.front.frame != 1 {
         return false;
     }
-    if !within(33, a.value.operation, 36) {
+    if !within(33, a.value.front.operation, 36) {
         return false;
     }
     within(1, a.value.charge.figure.kind, 3)

@@ -1,4 +1,3 @@
-pub mod Shuffles
 pub mod Valid
 pub mod Octets
 pub mod Outcomes

@@ -1,125 +1,126 @@
 -- What writing answers and leaves, by how many octets there are.
--- Assumes nothing.
-use Prim.Native.Nat.{ℕ, _+_, _≤_, _<_}
-use native.Mathlib.Omega.{arith}
-use native.Mathlib.Nat.{zero-add}
-use mathlib.Core.Path.{_≡_, refl, ap, ap₂, sym, _∙_}
-use mathlib.Core.Bool.{Bool, true, false, _&&_}
-use mathlib.Core.List.{List, _++_}
-use lib.ListN.{length, drop, length-append}
-use lib.Seq.{sets-eq}
-use lib.Dec.{leb, ltb}
-use borrow.Author.Tests.{le-leb, lt-leb, ltb-true, ltb-false}
-use Rattle.coding.specs.Written.{Wrote, lead}
-use Rattle.coding.proofs.Basic.{picked, unpicked, and-left}
-use Rattle.coding.proofs.Writing.{lead-length, lead-length-short, lead-length-long, wrote-as, wrote-element}
-use Rattle.types.specs.declared.Record.{Record}
-use Rattle.types.specs.Frames.{component}
-use Rattle.write_heads.specs.declared.Front.{Front}
-use Rattle.write_heads.specs.Fronts.{frontFine, frontOctets}
-use Rattle.write_heads.proofs.Sizes.{front-least}
-use Rattle.write.specs.declared.Written as W
-use Rattle.write.specs.Outcome.{done, no, writeOf, leftOf}
-use Rattle.write.specs.Parts.{frontOf, fineOf, chargeOctets, bodyOf}
-use Rattle.write.proofs.Valid.{valid-parts}
-use Rattle.write.proofs.Octets.{write-parts}
+use Rattle.prelude.proofs.Prelude.{ℕ, _+_, _≤_, _<_, arith, zero-add, _≡_, refl, ap, sym, _∙_, Bool, true, not, List, _++_, length, drop, length-append, sets-eq, ltb, le-leb, lt-leb}
+use Rattle.prelude.proofs.Prelude.{ltb-true, ltb-false}
+use Rattle.coding.{specs.Written.Wrote, specs.Written.Room, specs.Written.lead, proofs.Basic.and-left, proofs.Holds.tested, proofs.Writing.lead-length, proofs.Writing.lead-length-short}
+use Rattle.coding.{proofs.Writing.lead-length-long, proofs.Writing.Split, proofs.Writing.room-first, proofs.Writing.room-rest, proofs.Writing.wrote-parts, proofs.Writing.split-length}
+use Rattle.types.specs.{declared.Record.Record, Frames.component}
+use Rattle.write_heads.{specs.Fronts.frontFine, specs.Fronts.frontOctets, proofs.Sizes.front-least}
+use Rattle.write_rates.proofs.Prices.{was-false}
+use Rattle.write.specs.{declared.Written.Written, Outcome.done, Outcome.no, Outcome.writeOf, Outcome.leftOf, Parts.fineOf, Parts.chargeOctets, Parts.bodyOf}
+use Rattle.write.proofs.{Valid.valid-parts, Octets.write-parts}
+
+-- w is the answer to a record, and after what it leaves
+abbrev Answers : Record → List ℕ → Written → List ℕ → Type 0
+Answers r before w after = (w ≡ writeOf r (length before)) × (after ≡ leftOf r before)
 
 module _ (r : Record) (before : List ℕ) where
   abbrev size : ℕ
   size = length (component .write r)
 
-  refused-10 : component .valid r ≡ false → (no 10 ≡ writeOf r (length before)) × (before ≡ leftOf r before)
+  refused-11 : component .valid r ≡ true → 254 < size → Answers r before (no 11) before
   unfolding writeOf leftOf
-  refused-10 v = (
-    sym (unpicked _ _ v),
-    sym (unpicked (component .write r ++ drop size before) before (ap (λ (b : Bool). b && (leb size 254 && leb size (length before))) v)),
-  )
+  refused-11 v l = rw (v, lt-leb size 254 l) (refl, refl)
 
-  refused-11 : component .valid r ≡ true → 254 < size → (no 11 ≡ writeOf r (length before)) × (before ≡ leftOf r before)
+  refused-12 : component .valid r ≡ true → size ≤ 254 → length before < size → Answers r before (no 12) before
   unfolding writeOf leftOf
-  refused-11 v l =
-      let q = lt-leb size 254 l in
-      (sym (picked _ _ v ∙ unpicked _ _ q), sym (unpicked _ _ (ap₂ (λ (a b : Bool). a && (b && leb size (length before))) v q)))
+  refused-12 v l h = rw (v, le-leb size 254 l, lt-leb size (length before) h) (refl, refl)
 
-  refused-12 : component .valid r ≡ true → size ≤ 254 → length before < size → (no 12 ≡ writeOf r (length before)) × (before ≡ leftOf r before)
-  unfolding writeOf leftOf
-  refused-12 v l h =
-      let q = le-leb size 254 l in
-      let z = lt-leb size (length before) h in
-      (sym (picked _ _ v ∙ picked _ _ q ∙ unpicked _ _ z), sym (unpicked _ _ (ap₂ (λ (a b : Bool). a && b) v (ap₂ (λ (a b : Bool). a && b) q z))))
-
-  wrote-all : (after : List ℕ) (k : ℕ) → component .valid r ≡ true → size ≤ 254 → size ≤ length before → Wrote before after 0 (component .write r) k
-      → (done k ≡ writeOf r (length before)) × (after ≡ leftOf r before)
+  wrote-all : (after : List ℕ) (k : ℕ) → component .valid r ≡ true → size ≤ 254 → size ≤ length before → Wrote before after 0 (component .write r) k → Answers r before (done k) after
   unfolding writeOf leftOf
   wrote-all after k v l h w =
-      let q = le-leb size 254 l in
-      let z = le-leb size (length before) h in
-      let e : k ≡ size = w .place ∙ zero-add size in (
-        ap done e ∙ sym (picked _ _ v ∙ picked _ _ q ∙ picked _ _ z),
-        w .stored ∙ sets-eq (component .write r) before 0 (omega (arith, h)) ∙ ap (λ (j : ℕ). component .write r ++ drop j before) (zero-add size)
-            ∙ sym (picked _ _ (ap₂ (λ (a b : Bool). a && b) v (ap₂ (λ (a b : Bool). a && b) q z))),
+      rw (v, le-leb size 254 l, le-leb size (length before) h) (
+        ap done (w .place ∙ zero-add size),
+        w .stored ∙ sets-eq (component .write r) before 0 (omega (arith, h)) ∙ ap (λ (j : ℕ). component .write r ++ drop j before) (zero-add size),
       )
 
-  module _ (l : r .id < 0x10000) where
-    pub not-fine : fineOf (frontOf r) (r .charge) ≡ false → (no 10 ≡ writeOf r (length before)) × (before ≡ leftOf r before)
-    not-fine v = refused-10 (valid-parts r l ∙ v)
+pub not-fine : (r : Record) (before : List ℕ) {b : Bool} {w : Written} → r .front .id < 0x10000 → b ≡ fineOf (r .front) (r .charge) → not b ≡ true → w ≡ no 10
+    → Answers r before w before
+unfolding writeOf leftOf
+not-fine r before l is t e = rw (e, valid-parts r l ∙ was-false is t) (refl, refl)
 
-    module _ (v : fineOf (frontOf r) (r .charge) ≡ true) where
-      abbrev f : Front
-      f = frontOf r
+-- a record that may be written, whose charge is n octets
+pub record Known (r : Record) (n : ℕ) : Type 0 where
+  pub small : r .front .id < 0x10000
+  pub fine : fineOf (r .front) (r .charge) ≡ true
+  pub charge : n ≡ length (chargeOctets (r .front) (r .charge))
 
-      abbrev body : List ℕ
-      body = bodyOf f (r .charge)
+abbrev tag : Record → ℕ
+tag r = 0xa0 + r .front .frame
 
-      front-fine : frontFine f ≡ true
-      front-fine = and-left (frontFine f) _ v
+abbrev body : Record → List ℕ
+body r = bodyOf (r .front) (r .charge)
 
-      valid : component .valid r ≡ true
-      valid = valid-parts r l ∙ v
+module _ {r : Record} {n : ℕ} (c : Known r n) where
+  valid : component .valid r ≡ true
+  valid = valid-parts r (c .small) ∙ c .fine
 
-      size-is : size ≡ length (lead (0xa0 + r .frame) (length body)) + length body
-      size-is = ap length (write-parts r front-fine) ∙ length-append (lead (0xa0 + r .frame) (length body)) body
+  parts : {m : ℕ} → m ≡ length (body r) → Split (component .write r) (lead (tag r) m) (body r)
+  parts e = record { parts = write-parts r (and-left (frontFine (r .front)) _ (c .fine)) ∙ ap (λ (j : ℕ). lead (tag r) j ++ body r) (sym e) }
 
-      body-is : length body ≡ length (frontOctets f (length (chargeOctets f (r .charge)))) + length (chargeOctets f (r .charge))
-      body-is = length-append (frontOctets f (length (chargeOctets f (r .charge)))) (chargeOctets f (r .charge))
+  body-is : {m : ℕ} → m ≡ length (frontOctets (r .front) n) → m + n ≡ length (body r)
+  body-is {m} e =
+      let co = chargeOctets (r .front) (r .charge) in
+      omega (arith, c .charge, ap (λ (k : ℕ). length (frontOctets (r .front) k)) (c .charge), length-append (frontOctets (r .front) (length co)) co)
 
-      -- a charge of 250 octets or more is too long
-      pub long-charge : 250 ≤ length (chargeOctets f (r .charge)) → (no 11 ≡ writeOf r (length before)) × (before ≡ leftOf r before)
-      long-charge h =
-          refused-11 valid (omega (arith, size-is, body-is, h, front-least f (length (chargeOctets f (r .charge))), lead-length (0xa0 + r .frame) (length body)))
+  -- a charge of 250 octets or more is too long
+  pub long-charge : (before : List ℕ) {w : Written} → 250 ≤ n → w ≡ no 11 → Answers r before w before
+  long-charge before h e =
+      rw e (refused-11 r before valid (omega (arith, split-length (parts refl), body-is refl, front-least (r .front) n, lead-length (tag r) (length (body r)))))
 
-      long-lead : 252 ≤ length body → 254 < size
-      long-lead h = go (ltb (length body) 256) refl
-        where
-          go : (t : Bool) → ltb (length body) 256 ≡ t → 254 < size
-          go true q = omega (arith, size-is, h, lead-length-long (0xa0 + r .frame) (length body) (omega (arith, h)) (ltb-true (length body) 256 q))
-          go false q = omega (arith, size-is, h, lead-length (0xa0 + r .frame) (length body), ltb-false (length body) 256 q)
+-- and its front m octets
+pub record Sized (r : Record) (n m : ℕ) : Type 0 where
+  pub known : Known r n
+  pub front : m ≡ length (frontOctets (r .front) n)
 
-      pub long-body : {m : ℕ} → m ≡ length body → 251 < m → (no 11 ≡ writeOf r (length before)) × (before ≡ leftOf r before)
-      long-body e h = refused-11 valid (long-lead (omega (arith, e, h)))
+module _ {r : Record} {n m : ℕ} (c : Sized r n m) where
+  both : Split (component .write r) (lead (tag r) (m + n)) (body r)
+  both = parts (c .known) (body-is (c .known) (c .front))
 
-      fits : length body ≤ 251 → size ≤ 254
-      fits h = go (ltb (length body) 128) refl
-        where
-          go : (t : Bool) → ltb (length body) 128 ≡ t → size ≤ 254
-          go true q = omega (arith, size-is, h, lead-length-short (0xa0 + r .frame) (length body) (ltb-true (length body) 128 q))
-          go false q = omega (arith, size-is, h, lead-length-long (0xa0 + r .frame) (length body) (ltb-false (length body) 128 q) (omega (arith, h)))
+  whole : length (component .write r) ≡ length (lead (tag r) (m + n)) + (m + n)
+  whole = omega (arith, split-length both, body-is (c .known) (c .front))
 
-      module _ {m w : ℕ} (e : m ≡ length body) (h : m ≤ 251) (q : (tag : ℕ) → w ≡ length (lead tag m) + m) where
-        whole-is : w ≡ size
-        whole-is = q (0xa0 + r .frame) ∙ ap (λ (j : ℕ). length (lead (0xa0 + r .frame) j) + j) e ∙ sym size-is
+  pub long-body : (before : List ℕ) {w : Written} → 251 < m + n → w ≡ no 11 → Answers r before w before
+  long-body before h e =
+      rw e (refused-11 r before (valid (c .known)) (tested (ltb (m + n) 256)
+      (λ q. omega (arith, whole, lead-length-long (tag r) (m + n) (omega arith) (ltb-true (m + n) 256 q)))
+      (λ q. omega (arith, whole, lead-length (tag r) (m + n), ltb-false (m + n) 256 q))))
 
-        pub no-room : length before < w → (no 12 ≡ writeOf r (length before)) × (before ≡ leftOf r before)
-        no-room g = refused-12 valid (fits (omega (arith, e, h))) (omega (arith, whole-is, g))
+-- and k in all
+pub record Whole (r : Record) (n m k : ℕ) : Type 0 where
+  pub sized : Sized r n m
+  pub most : m + n ≤ 251
+  pub is : (x : ℕ) → k ≡ length (lead x (m + n)) + (m + n)
 
-        -- the lead, and then the body
-        pub wrote : {mid after : List ℕ} {p k : ℕ} → w ≤ length before → Wrote before mid 0 (lead (0xa0 + r .frame) m) p → Wrote mid after p body k
-            → (done k ≡ writeOf r (length before)) × (after ≡ leftOf r before)
-        wrote g a b =
-            wrote-all _ _ valid (fits (omega (arith, e, h))) (omega (arith, whole-is, g))
-            (wrote-as (sym (write-parts r front-fine)) (wrote-element (0xa0 + r .frame) m e a b))
+module _ {r : Record} {n m k : ℕ} (c : Whole r n m k) where
+  pub whole-is : (length (component .write r) ≡ k) × (k ≤ 254)
+  whole-is = (
+    omega (arith, whole (c .sized), c .is (tag r)),
+    tested (ltb (m + n) 128) (λ q. omega (arith, c .most, c .is (tag r), lead-length-short (tag r) (m + n) (ltb-true (m + n) 128 q)))
+        (λ q. omega (arith, c .most, c .is (tag r), lead-length-long (tag r) (m + n) (ltb-false (m + n) 128 q) (omega (arith, c .most)))),
+  )
+
+  pub no-room : (before : List ℕ) {w : Written} → length before < k → w ≡ no 12 → Answers r before w before
+  no-room before g e = rw e (refused-12 r before (valid (c .sized .known)) (omega (arith, whole-is)) (omega (arith, whole-is)))
+
+  -- the lead, and then the body
+  module _ {before : List ℕ} (g : k ≤ length before) where
+    all-room : Room before 0 (component .write r)
+    all-room = record { fits = omega (arith, whole-is) }
+
+    pub put-record-1 : Room before 0 (lead (tag r) (m + n))
+    put-record-1 = room-first (both (c .sized)) all-room
+
+    module _ {mid : List ℕ} {p : ℕ} (a : Wrote before mid 0 (lead (tag r) (m + n)) p) where
+      pub put-record-2 : Room mid p (body r)
+      put-record-2 = room-rest (both (c .sized)) all-room a
+
+      module _ {after : List ℕ} {j : ℕ} (w : Wrote mid after p (body r) j) where
+        pub put-record-3 : Answers r before (done j) after
+        put-record-3 = wrote-all r before _ _ (valid (c .sized .known)) (omega (arith, whole-is)) (omega (arith, whole-is)) (wrote-parts (both (c .sized)) a w)
+
+        pub put-record-few : j ≤ 254
+        put-record-few = omega (arith, whole-is, wrote-parts (both (c .sized)) a w .place)
 
 -- what is said of a record is said of the same record
-pub of-same : {r r′ : Record} {after : List ℕ} {w : W.Written} (before : List ℕ) → r ≡ r′
-    → (w ≡ writeOf r (length before)) × (after ≡ leftOf r before) → (w ≡ writeOf r′ (length before)) × (after ≡ leftOf r′ before)
-of-same before e h = (h .0 ∙ ap (λ (x : Record). writeOf x (length before)) e, h .1 ∙ ap (λ (x : Record). leftOf x before) e)
+pub of-same : {r r′ : Record} {after : List ℕ} {w : Written} (before : List ℕ) → r ≡ r′ → Answers r before w after → Answers r′ before w after
+of-same before e h = rw e at h

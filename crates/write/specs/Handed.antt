@@ -2,18 +2,12 @@
 use Prim.Native.Nat.{ℕ}
 use mathlib.Core.List.{List}
 use Rattle.types.specs.declared.Record.{Record}
-use Rattle.write_heads.specs.declared.Front.{Front}
+use Rattle.types.specs.declared.Front.{Front}
 use Rattle.write_figures.specs.declared.Outline.{Outline}
 
 abbrev pub handed : Front → Outline → ℕ → List ℕ → List ℕ → List ℕ → List ℕ → Record
 handed f o number currency digits numbers rows = record {
-  frame = f .frame;
-  unnamed = f .unnamed;
-  id = f .id;
-  operation = f .operation;
-  error = f .error;
-  problem = f .problem;
-  detail = f .detail;
+  front = f;
   charge = record {
     figure = record {
       money = record { currency = record { count = o .currency; octets = currency }; multiplier = o .multiplier; number = number };

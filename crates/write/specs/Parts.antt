@@ -6,31 +6,14 @@ use lib.ListN.{length}
 use Rattle.types.specs.declared.Record.{Record}
 use Rattle.types.specs.declared.Charge.{Charge}
 use Rattle.types.specs.Arguments.{noCharge, sameCharge, chargeOf}
-use Rattle.write_heads.specs.declared.Front.{Front}
+use Rattle.types.specs.declared.Front.{Front}
 use Rattle.write_heads.specs.Fronts.{charged, frontFine, frontOctets}
 
 abbrev pub frontOf : Record → Front
-frontOf r = record {
-  frame = r .frame;
-  unnamed = r .unnamed;
-  id = r .id;
-  operation = r .operation;
-  error = r .error;
-  problem = r .problem;
-  detail = r .detail;
-}
+frontOf r = r .front
 
 abbrev pub recordOf : Front → Charge → Record
-recordOf f c = record {
-  frame = f .frame;
-  unnamed = f .unnamed;
-  id = f .id;
-  operation = f .operation;
-  error = f .error;
-  problem = f .problem;
-  detail = f .detail;
-  charge = c;
-}
+recordOf f c = record { front = f; charge = c }
 
 -- the charge fits its front: one that may be written where it follows, else none
 abbrev pub chargeFine : Front → Charge → Bool

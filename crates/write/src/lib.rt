@@ -3,10 +3,10 @@ use types::Figure;
 use write_figures::Outline;
 ghost use mathlib.Core.Path.{_≡_};
 ghost use mathlib.Core.Bool.{true, false, _||_, cond};
-ghost use Prim.Native.Nat.{_+_, _≤_, _<_};
+ghost use Prim.Native.Nat.{_≤_, _<_};
 ghost use lib.ListN.{length};
 ghost use lib.Dec.{eqb};
-ghost use Rattle.coding.specs.Written.{Wrote};
+ghost use Rattle.coding.specs.Written.{Wrote, Room};
 ghost use Rattle.write_heads.specs.Fronts.{frontFine, charged};
 ghost use Rattle.write.specs.Outcome.{no, writeOf, leftOf};
 ghost use Rattle.write_lists.specs.Octets.{withList};
@@ -27,7 +27,7 @@ fn refuse(number: u32) -> Written
 }
 
 // Whether a charge of a kind may stand beside a front: any where one follows, none where none does.
-fn may_hold(f: write_heads::Front, kind: u8) -> bool
+fn may_hold(f: types::Front, kind: u8) -> bool
     ensures { λ r. ⌜ r ≡ charged f || eqb kind 0 ⌝ }
 {
     if write_heads::is_charged(f) {
@@ -37,7 +37,7 @@ fn may_hold(f: write_heads::Front, kind: u8) -> bool
 }
 
 // The operation by which a charge is tested: its own, or, where none follows, one to which no charge at all is fine.
-fn tested_by(f: write_heads::Front) -> u8
+fn tested_by(f: types::Front) -> u8
     requires { ⌜ frontFine f ≡ true ⌝ }
     ensures { λ r. ⌜ r ≡ cond (charged f) (f .operation) 32 ⌝ }
     ensures known { λ r. ⌜ (30 ≤ r) × (r ≤ 36) ⌝ }
@@ -50,7 +50,7 @@ fn tested_by(f: write_heads::Front) -> u8
 
 // Whether a record may be written.
 fn record_fine(
-    f: write_heads::Front,
+    f: types::Front,
     figure: Figure,
     currency: &[u8; 10],
     digits: &[u8; 20],
@@ -74,12 +74,7 @@ fn record_fine(
 }
 
 // The octets of a charge that follows.
-fn charge_size(
-    f: write_heads::Front,
-    figure: Figure,
-    numbers: &[u32; 32],
-    rows: &[u8; 192],
-) -> usize
+fn charge_size(f: types::Front, figure: Figure, numbers: &[u32; 32], rows: &[u8; 192]) -> usize
     requires { ⌜ (fineOf f (withList figure (now numbers) (now rows)) ≡ true) × (length (now rows) ≡ 192) ⌝ }
     ensures { λ r. ⌜ r ≡ length (chargeOctets f (withList figure (now (numbers .entry)) (now (rows .entry)))) ⌝ }
 {
@@ -93,7 +88,7 @@ fn charge_size(
 fn put_body(
     buf: &mut [u8],
     at: usize,
-    f: write_heads::Front,
+    f: types::Front,
     figure: Figure,
     numbers: &[u32; 32],
     rows: &[u8; 192],
@@ -101,7 +96,7 @@ fn put_body(
 ) -> usize
     requires { ⌜ (fineOf f (withList figure (now numbers) (now rows)) ≡ true) × (length (now rows) ≡ 192) ⌝ }
     requires { ⌜ (n ≡ length (chargeOctets f (withList figure (now numbers) (now rows)))) × (n < 250) ⌝ }
-    requires { ⌜ at + length (bodyOf f (withList figure (now numbers) (now rows))) ≤ length (now buf) ⌝ }
+    requires { ⌜ Room (now buf) at (bodyOf f (withList figure (now numbers) (now rows))) ⌝ }
     ensures { λ r. ⌜ Wrote (now (buf .entry)) (now (buf .exit)) at (bodyOf f (withList figure (now (numbers .entry)) (now (rows .entry)))) r ⌝ }
 {
     let p = write_heads::put_front(buf, at, f, n);
@@ -113,7 +108,7 @@ fn put_body(
 
 // Writes a record by its front, its figure and its list.
 fn put_record(
-    f: write_heads::Front,
+    f: types::Front,
     figure: Figure,
     currency: &[u8; 10],
     digits: &[u8; 20],
@@ -148,7 +143,7 @@ fn put_record(
 
 // Writes a record, handed over in parts, into a lent buffer. Numbers go by value and arrays are lent, so that none is copied.
 pub fn write_from(
-    f: write_heads::Front,
+    f: types::Front,
     o: Outline,
     number: u32,
     currency: &[u8; 10],
@@ -169,15 +164,7 @@ pub fn write(r: types::Record, buf: &mut [u8]) -> Written
     ensures { λ w. ⌜ w ≡ writeOf r (length (now (buf .entry))) ⌝ }
     ensures left { λ w. ⌜ now (buf .exit) ≡ leftOf r (now (buf .entry)) ⌝ }
 {
-    let f = write_heads::Front {
-        frame: r.frame,
-        unnamed: r.unnamed,
-        id: r.id,
-        operation: r.operation,
-        error: r.error,
-        problem: r.problem,
-        detail: r.detail,
-    };
+    let f = r.front;
     let figure = r.charge.figure;
     let money = figure.money;
     let currency = money.currency;

@@ -8,7 +8,7 @@ ghost use mathlib.Core.List.{[], _∷_, _++_};
 ghost use lib.ListN.{length, take};
 ghost use Rattle.coding.specs.Codec.{prim, lengthOctets};
 ghost use Rattle.coding.specs.Leaves.{identifier, width, digits};
-ghost use Rattle.coding.specs.Written.{Wrote, lead, fullNumber};
+ghost use Rattle.coding.specs.Written.{Wrote, Room, lead, fullNumber};
 
 // How many octets a shortest number has.
 pub fn width_of(n: u32) -> usize
@@ -20,7 +20,7 @@ pub fn width_of(n: u32) -> usize
 
 // Tag and shortest length octets.
 pub fn put_lead(buf: &mut [u8], at: usize, tag: u8, n: usize) -> usize
-    requires { ⌜ (n < 256) × (at + length (lead tag n) ≤ length (now buf)) ⌝ }
+    requires { ⌜ (n < 256) × Room (now buf) at (lead tag n) ⌝ }
     ensures { λ r. ⌜ Wrote (now (buf .entry)) (now (buf .exit)) at (lead tag n) r ⌝ }
 {
     buf[at] = tag;
@@ -85,7 +85,7 @@ fn put_digits(buf: &mut [u8], at: usize, w: usize, n: u32) -> usize
 
 // An element that holds a number.
 pub fn put_number(buf: &mut [u8], at: usize, tag: u8, n: u32) -> usize
-    requires { ⌜ at + length (fullNumber tag n) ≤ length (now buf) ⌝ }
+    requires { ⌜ Room (now buf) at (fullNumber tag n) ⌝ }
     ensures { λ r. ⌜ Wrote (now (buf .entry)) (now (buf .exit)) at (fullNumber tag n) r ⌝ }
 {
     let w = width_of(n);
@@ -95,7 +95,7 @@ pub fn put_number(buf: &mut [u8], at: usize, tag: u8, n: u32) -> usize
 
 // The first n octets of a string.
 pub fn put_octets(buf: &mut [u8], at: usize, s: &[u8], n: usize) -> usize
-    requires { ⌜ (n ≤ length (now s)) × (at + n ≤ length (now buf)) ⌝ }
+    requires { ⌜ (n ≤ length (now s)) × Room (now buf) at (take n (now s)) ⌝ }
     ensures { λ r. ⌜ Wrote (now (buf .entry)) (now (buf .exit)) at (take n (now (s .entry))) r ⌝ }
 {
     let mut i = 0;
@@ -108,7 +108,7 @@ pub fn put_octets(buf: &mut [u8], at: usize, s: &[u8], n: usize) -> usize
 
 // A NULL element's octets.
 pub fn put_null(buf: &mut [u8], at: usize, tag: u8) -> usize
-    requires { ⌜ at + length (lead tag 0) ≤ length (now buf) ⌝ }
+    requires { ⌜ Room (now buf) at (lead tag 0) ⌝ }
     ensures { λ r. ⌜ Wrote (now (buf .entry)) (now (buf .exit)) at (lead tag 0) r ⌝ }
 {
     put_lead(buf, at, tag, 0)
@@ -116,7 +116,7 @@ pub fn put_null(buf: &mut [u8], at: usize, tag: u8) -> usize
 
 // An element of one octet.
 fn put_one(buf: &mut [u8], at: usize, tag: u8, x: u8) -> usize
-    requires { ⌜ at + 3 ≤ length (now buf) ⌝ }
+    requires { ⌜ Room (now buf) at (tag ∷ 1 ∷ x ∷ []) ⌝ }
     ensures { λ r. ⌜ Wrote (now (buf .entry)) (now (buf .exit)) at (tag ∷ 1 ∷ x ∷ []) r ⌝ }
 {
     buf[at] = tag;
@@ -127,7 +127,7 @@ fn put_one(buf: &mut [u8], at: usize, tag: u8, x: u8) -> usize
 
 // An element that holds a number of one octet.
 pub fn put_small(buf: &mut [u8], at: usize, tag: u8, x: u8) -> usize
-    requires { ⌜ (x < 128) × (at + length (fullNumber tag x) ≤ length (now buf)) ⌝ }
+    requires { ⌜ (x < 128) × Room (now buf) at (fullNumber tag x) ⌝ }
     ensures { λ r. ⌜ Wrote (now (buf .entry)) (now (buf .exit)) at (fullNumber tag x) r ⌝ }
 {
     put_one(buf, at, tag, x)
@@ -149,7 +149,7 @@ pub fn id_width(id: u16) -> usize
 
 // An element that holds an identifier.
 pub fn put_id(buf: &mut [u8], at: usize, tag: u8, id: u16) -> usize
-    requires { ⌜ at + length ((prim tag identifier) .write id) ≤ length (now buf) ⌝ }
+    requires { ⌜ Room (now buf) at ((prim tag identifier) .write id) ⌝ }
     ensures { λ r. ⌜ Wrote (now (buf .entry)) (now (buf .exit)) at ((prim tag identifier) .write id) r ⌝ }
 {
     if id < 0x80 {
@@ -168,7 +168,7 @@ pub fn put_id(buf: &mut [u8], at: usize, tag: u8, id: u16) -> usize
 // An element that holds the first n octets of a string.
 pub fn put_string(buf: &mut [u8], at: usize, tag: u8, s: &[u8], n: usize) -> usize
     requires { ⌜ (n < 256) × (n ≤ length (now s)) ⌝ }
-    requires { ⌜ at + length (tag ∷ lengthOctets n ++ take n (now s)) ≤ length (now buf) ⌝ }
+    requires { ⌜ Room (now buf) at (tag ∷ lengthOctets n ++ take n (now s)) ⌝ }
     ensures { λ r. ⌜ Wrote (now (buf .entry)) (now (buf .exit)) at (tag ∷ lengthOctets n ++ take n (now (s .entry))) r ⌝ }
 {
     let p = put_lead(buf, at, tag, n);

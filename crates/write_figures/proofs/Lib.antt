@@ -1,6 +1,3 @@
-pub mod Truth
-pub mod Tests
-pub mod Valid
 pub mod Forms
 pub mod Sizes
 pub mod Frames

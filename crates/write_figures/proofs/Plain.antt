@@ -1,26 +1,11 @@
 -- The octets of a valid charge that is neither units nor rates, by its kind.
--- Assumes nothing.
-use Prim.Native.Nat.{ℕ, _+_, _≤_}
-use mathlib.Core.Path.{_≡_, sym, ap, ap₂, _∙_}
-use mathlib.Core.List.{List, _++_}
-use mathlib.Core.Bool.{true}
-use native.Mathlib.Omega.{arith}
-use lib.ListN.{length}
-use lib.Dec.{eqb}
-use borrow.Author.Tests.{eq-eqb, ne-eqb}
-use Rattle.coding.specs.Written.{lead, fullNumber}
-use Rattle.coding.proofs.Basic.{and-left, and-right}
-use Rattle.types.specs.declared.Figure.{Figure}
-use Rattle.types.specs.declared.Charge.{Charge}
-use Rattle.types.specs.Charges.{money}
-use Rattle.types.specs.Entries.{noEntries}
-use Rattle.types.specs.Arguments.{plain, sameEntries, chargeOf}
-use Rattle.write_figures.specs.Fine.{figureFine}
+use Rattle.prelude.proofs.Prelude.{ℕ, _+_, _≤_, _<_, _≡_, sym, ap, ap₂, _∙_, List, _++_, true, arith, length, eqb, eq-eqb, ne-eqb}
+use Rattle.coding.{specs.Written.Room, specs.Written.lead, specs.Written.fullNumber, proofs.Basic.and-left, proofs.Basic.and-right, proofs.Writing.room-as, proofs.Writing.room-head}
+use Rattle.coding.{proofs.Small.null-length, proofs.Small.small-length}
+use Rattle.types.specs.{declared.Figure.Figure, declared.Charge.Charge, Charges.money, Entries.noEntries, Arguments.plain, Arguments.sameEntries, Arguments.chargeOf}
+use Rattle.write_tests.{specs.Fine.figureFine, proofs.Truth.truth, proofs.Truth.only-two, proofs.Valid.plain-fine, proofs.Valid.unlisted-fine}
 use Rattle.write_figures.specs.Octets.{framed, ended, written, contents, before, after}
-use Rattle.write_figures.proofs.Truth.{truth, only-two}
-use Rattle.write_figures.proofs.Valid.{plain-fine, unlisted-fine}
-use Rattle.write_figures.proofs.Forms.{charge-write}
-use Rattle.write_figures.proofs.Frames.{fine-small, fine-marks, ended-split}
+use Rattle.write_figures.proofs.{Forms.charge-write, Frames.fine-small, Frames.fine-marks, Frames.fine-money, Frames.ended-split, Frames.before-length, Frames.after-length}
 
 module _ (o : ℕ) (f : Figure) (g : (30 ≤ o) × (o ≤ 36)) (k : (f .kind ≡ 3 → ⊥) × (f .kind ≡ 4 → ⊥)) (v : (chargeOf o) .valid (plain f) ≡ true) where
   pub figure-fine : figureFine o f ≡ true
@@ -43,19 +28,46 @@ module _ (o : ℕ) (f : Figure) (g : (30 ≤ o) × (o ≤ 36)) (k : (f .kind ≡
       figure-write
       ∙ rw (ne-eqb (f .kind) 0 (λ z. omega arith), ne-eqb (f .kind) 1 (λ z. omega arith), ne-eqb (f .kind) 4 (k .1), eq-eqb (f .kind) 5 e)
 
+  pub figure-small : f .arrangement < 128
+  figure-small = let z = fine-small o f figure-fine .arrangement in omega arith
+
+  -- ---- how many they are
+
+  pub figure-none-length : f .kind ≡ 0 → 2 ≡ length ((chargeOf o) .write (plain f))
+  figure-none-length e = omega (arith, ap length (figure-none e), null-length 0x05)
+
+  pub figure-arranged-length : f .kind ≡ 5 → 3 ≡ length ((chargeOf o) .write (plain f))
+  figure-arranged-length e = omega (arith, ap length (figure-arranged e), small-length 0x02 (f .arrangement) figure-small)
+
+  pub figure-free-length : (r : ℕ) → f .kind ≡ 1 → r ≡ length (ended o f (lead 0x81 0)) → r ≡ length ((chargeOf o) .write (plain f))
+  figure-free-length r e q = q ∙ sym (ap length (figure-free e))
+
   -- what is left is money
   module _ (k0 : f .kind ≡ 0 → ⊥) (k1 : f .kind ≡ 1 → ⊥) (k5 : f .kind ≡ 5 → ⊥) where
-    pub figure-kind : f .kind ≡ 2
+    figure-kind : f .kind ≡ 2
     figure-kind = only-two (f .kind) (fine-small o f figure-fine .kind) k0 k1 (k .0) (k .1) k5
 
-    pub figure-money : (chargeOf o) .write (plain f) ≡ ended o f (framed o f (money .write (f .money)))
+    pub figure-valid : money .valid (f .money) ≡ true
+    figure-valid = fine-money o f figure-fine figure-kind
+
+    figure-money : (chargeOf o) .write (plain f) ≡ ended o f (framed o f (money .write (f .money)))
     unfolding written contents
     figure-money =
         figure-write
         ∙ rw (ne-eqb (f .kind) 0 k0, ne-eqb (f .kind) 1 k1, ne-eqb (f .kind) 4 (k .1), ne-eqb (f .kind) 5 k5, eq-eqb (f .kind) 2 figure-kind)
 
-    pub figure-parts : (chargeOf o) .write (plain f) ≡ before o f (length (money .write (f .money))) ++ (money .write (f .money) ++ after o f)
-    figure-parts = figure-money ∙ ended-split o f (money .write (f .money))
+    module _ (n : ℕ) (e : n ≡ length (money .write (f .money))) where
+      pub figure-money-length : (r : ℕ) → ((xs : List ℕ) → length xs ≡ n → r ≡ length (ended o f (framed o f xs))) → r ≡ length ((chargeOf o) .write (plain f))
+      figure-money-length r q = q (money .write (f .money)) (sym e) ∙ sym (ap length figure-money)
+
+      pub figure-octets : (chargeOf o) .write (plain f) ≡ before o f n ++ (money .write (f .money) ++ after o f)
+      figure-octets = figure-money ∙ ended-split o f (money .write (f .money)) ∙ ap (λ (i : ℕ). before o f i ++ (money .write (f .money) ++ after o f)) (sym e)
+
+      pub figure-few : n ≤ 23 → length (before o f n) + n + length (after o f) ≤ 254
+      figure-few l = omega (arith, before-length o f n, after-length o f figure-fine)
+
+      pub figure-1 : {l : List ℕ} {a : ℕ} → Room l a ((chargeOf o) .write (plain f)) → Room l a (before o f n)
+      figure-1 r = room-head _ (room-as r figure-octets)
 
 -- ---- a valid charge that is neither units nor rates has no list
 

@@ -1,34 +1,61 @@
--- The octets of a charge's parts, and how many they are.
--- Assumes nothing.
-use Prim.Native.Nat.{ℕ, suc, _+_, _/_, _%_, _≤_, _<_}
-use mathlib.Core.Path.{_≡_, refl, sym, ap, ap₂, _∙_}
-use mathlib.Core.List.{List, [], _∷_, _++_}
-use mathlib.Core.Bool.{Bool, true, false, _&&_, cond}
-use native.Mathlib.Omega.{arith}
-use lib.ListN.{length, take, length-append, length-take}
-use lib.Seq.{length-take-le}
-use lib.Dec.{ltb, leb, eqb}
-use borrow.Author.Tests.{eq-eqb, ne-eqb, le-ltb}
-use Rattle.coding.specs.Codec.{canonical, over, shape, prim, pair, sort, nothing, leafOver, lengthOctets, padded}
-use Rattle.coding.specs.Leaves.{number, string, identifier, only, width}
-use Rattle.coding.specs.Written.{Wrote, lead, fullNumber}
-use Rattle.coding.proofs.Basic.{and-left, and-right, unpicked}
-use Rattle.coding.proofs.Writing.{number-write, number-length, cons-write, lead-length-short, width-range, wrote-as, wrote-both, wrote-element}
-use Rattle.coding.proofs.Small.{small-length, string-write, string-length, id-length}
-use Rattle.types.specs.declared.Money.{Money}
-use Rattle.types.specs.declared.Currency.{Currency}
-use Rattle.types.specs.declared.Association.{Association}
-use Rattle.types.specs.declared.Scaled.{Scaled}
-use Rattle.types.specs.Charges.{zeroOctet, scaled, currencyLeaf, currency, money, isDigit, isPlan, digitsLeaf, digitsOf, identified, publicParty, plainParty, party, unassociated, association}
+-- The octets of a charge's parts, how many they are, and that each has room where all have.
+use Rattle.prelude.proofs.Prelude.{ℕ, suc, _+_, _≤_, _<_, _≡_, refl, sym, ap, ap₂, _∙_, List, [], _∷_, _++_, Bool, true, false, _&&_, cond, arith, length, take, length-append, length-take}
+use Rattle.prelude.proofs.Prelude.{length-take-le, ltb, leb, eqb, eq-eqb, ne-eqb, eqb-true, eqb-false, le-ltb, ltb-true, ltb-false}
+use Rattle.coding.{specs.Codec.canonical, specs.Codec.over, specs.Codec.shape, specs.Codec.prim, specs.Codec.pair, specs.Codec.sort, specs.Codec.nothing, specs.Codec.leafOver}
+use Rattle.coding.{specs.Codec.lengthOctets, specs.Codec.padded, specs.Leaves.number, specs.Leaves.string, specs.Leaves.identifier, specs.Leaves.only, specs.Leaves.width}
+use Rattle.coding.{specs.Written.Wrote, specs.Written.Room, specs.Written.lead, specs.Written.fullNumber, proofs.Basic.and-left, proofs.Basic.and-right, proofs.Basic.unpicked}
+use Rattle.coding.{proofs.Writing.number-write, proofs.Writing.number-length, proofs.Writing.cons-write, proofs.Writing.lead-length-short, proofs.Writing.width-range}
+use Rattle.coding.{proofs.Writing.wrote-as, proofs.Writing.wrote-both, proofs.Writing.wrote-next, proofs.Writing.wrote-none, proofs.Writing.room-as, proofs.Writing.room-head}
+use Rattle.coding.{proofs.Writing.room-tail, proofs.Holds.tested, proofs.Small.small-length, proofs.Small.string-write, proofs.Small.string-length, proofs.Small.id-length}
+use Rattle.types.specs.{declared.Money.Money, declared.Currency.Currency, declared.Association.Association, declared.Scaled.Scaled, Charges.zeroOctet, Charges.scaled, Charges.currencyLeaf}
+use Rattle.types.specs.{Charges.currency, Charges.money, Charges.isDigit, Charges.isPlan, Charges.sameAssociation, Charges.byIdentifier, Charges.digitsLeaf, Charges.digitsOf}
+use Rattle.types.specs.{Charges.identified, Charges.publicParty, Charges.plainParty, Charges.party, Charges.unassociated, Charges.association}
 use Rattle.write_figures.specs.Octets.{element}
-use Rattle.write_figures.specs.Fine.{digitsFine}
-use Rattle.write_figures.proofs.Truth.{truth}
-use Rattle.write_figures.proofs.Tests.{scaled-is, money-is, public-is, plain-is, association-2, association-3}
+use Rattle.write_tests.{specs.Fine.digitsFine, proofs.Truth.truth, proofs.Tests.scaled-is, proofs.Tests.money-is, proofs.Tests.public-is, proofs.Tests.plain-is, proofs.Tests.association-0}
+use Rattle.write_tests.{proofs.Tests.association-1, proofs.Tests.association-2, proofs.Tests.association-3}
+
+-- ---- by a test, by the kind of an association, by the time of a charge
+
+pub by-test : {P : Type 0} {x y : Bool} (t : Bool) → (t ≡ true → x ≡ true → P) → (t ≡ false → y ≡ true → P) → cond t x y ≡ true → P
+by-test true f g h = f refl h
+by-test false f g h = g refl h
+
+by-number : {P : Type 0} (k n : ℕ) → (k ≡ n → P) → ((k ≡ n → ⊥) → P) → P
+by-number k n f g = tested (eqb k n) (λ e. f (eqb-true k n e)) (λ e. g (eqb-false k n e))
+
+pub by-kind : {P : Type 0} (k : ℕ) → (k ≡ 0 → P) → (k ≡ 1 → P) → (k ≡ 3 → P) → ((k ≡ 0 → ⊥) → (k ≡ 1 → ⊥) → (k ≡ 3 → ⊥) → P) → P
+by-kind k f g h i = by-number k 0 f (λ a. by-number k 1 g (λ b. by-number k 3 h (i a b)))
+
+pub by-time : {P : Type 0} (o : ℕ) → (o < 35 → P) → (35 ≤ o → P) → P
+by-time o f g = tested (ltb o 35) (λ e. f (ltb-true o 35 e)) (λ e. g (ltb-false o 35 e))
+
+-- ---- octets under another name, and in parts: what is written part by part is written whole, and each part has room where all have
+
+pub wrote-is : {l m xs ys : List ℕ} {a b : ℕ} → xs ≡ ys → Wrote l m a ys b → Wrote l m a xs b
+wrote-is e p = wrote-as (sym e) p
+
+pub wrote-nothing : {l xs : List ℕ} {a : ℕ} → xs ≡ [] → Wrote l l a xs a
+wrote-nothing {l} {xs} {a} e = wrote-is e (wrote-next (omega arith) (wrote-none l a))
+
+module _ {all xs ys : List ℕ} (e : all ≡ xs ++ ys) where
+  pub room-2 : {l m : List ℕ} {a b : ℕ} → Room l a all → Wrote l m a xs b → Room m b ys
+  room-2 r p = room-tail p (room-as r e)
+
+  pub wrote-two : {l m n : List ℕ} {a b c : ℕ} → Wrote l m a xs b → Wrote m n b ys c → Wrote l n a all c
+  wrote-two p q = wrote-is e (wrote-both p q)
+
+module _ {all xs ys zs : List ℕ} (e : all ≡ xs ++ (ys ++ zs)) {l m n : List ℕ} {a b c : ℕ} where
+  pub room-3 : Room l a all → Wrote l m a xs b → Wrote m n b ys c → Room n c zs
+  room-3 r p q = room-tail q (room-2 e r p)
+
+  pub wrote-three : {k : List ℕ} {d : ℕ} → Wrote l m a xs b → Wrote m n b ys c → Wrote n k c zs d → Wrote l k a all d
+  wrote-three p q t = wrote-two e p (wrote-both q t)
 
 -- ---- elements
 
-pub element-length : (tag : ℕ) (xs : List ℕ) → length (element tag xs) ≡ length (lead tag (length xs)) + length xs
-element-length tag xs = length-append (lead tag (length xs)) xs
+-- an element whose contents are n octets
+pub element-as : (tag n : ℕ) (xs : List ℕ) → n ≡ length xs → element tag xs ≡ lead tag n ++ xs
+element-as tag n xs e = ap (λ (k : ℕ). lead tag k ++ xs) (sym e)
 
 pub lead-two : (tag n : ℕ) → 256 ≤ n → length (lead tag n) ≡ 4
 unfolding lead lengthOctets
@@ -36,84 +63,88 @@ lead-two tag n h = ap (λ (xs : List ℕ). suc (length xs)) (unpicked _ _ (le-lt
 
 pub lead-few : (tag n : ℕ) → (2 ≤ length (lead tag n)) × (length (lead tag n) ≤ 4)
 unfolding lead lengthOctets
-lead-few tag n = go (ltb n 128) (ltb n 256)
-  where
-    go : (t u : Bool) → (2 ≤ suc (length (cond t (n ∷ []) (cond u (129 ∷ n ∷ []) (130 ∷ n / 256 ∷ n % 256 ∷ [])))))
-        × (suc (length (cond t (n ∷ []) (cond u (129 ∷ n ∷ []) (130 ∷ n / 256 ∷ n % 256 ∷ [])))) ≤ 4)
-    go true u = omega arith
-    go false true = omega arith
-    go false false = omega arith
-
--- a short element
-pub element-short : (tag : ℕ) (xs : List ℕ) → length xs < 128 → length (element tag xs) ≡ 2 + length xs
-element-short tag xs h = element-length tag xs ∙ ap (λ (k : ℕ). k + length xs) (lead-length-short tag (length xs) h)
+lead-few tag n = tested (ltb n 128) (λ q. rw q (omega arith)) (λ q. tested (ltb n 256) (λ r. rw (q, r) (omega arith)) (λ r. rw (q, r) (omega arith)))
 
 -- ---- amounts and times
 
-scaledOctets : Scaled → List ℕ
-scaledOctets s = fullNumber 0x81 (s .number) ++ fullNumber 0x82 (s .scale)
+module _ (tag w : ℕ) (s : Scaled) (h : s .scale ≤ 6) (e : w ≡ width (s .number)) where
+  abbrev scaledOctets : List ℕ
+  scaledOctets = fullNumber 0x81 (s .number) ++ fullNumber 0x82 (s .scale)
 
-scaled-write : (tag : ℕ) (s : Scaled) → (scaled tag) .write s ≡ element tag (scaledOctets s)
-unfolding scaled shape over pair scaledOctets
-scaled-write tag s =
-    cons-write tag _ s
-    ∙ ap (λ (w : List ℕ). element tag w) (ap₂ (λ (x y : List ℕ). x ++ y) (number-write 0x81 0 16777215 (s .number)) (number-write 0x82 0 6 (s .scale)))
+  scaled-contents : 5 + w ≡ length scaledOctets
+  scaled-contents =
+      omega (arith, length-append (fullNumber 0x81 (s .number)) (fullNumber 0x82 (s .scale)), number-length 0x81 (s .number), small-length 0x82 (s .scale) (omega arith))
 
-scaled-contents : (s : Scaled) → s .scale < 128 → length (scaledOctets s) ≡ 5 + width (s .number)
-unfolding scaledOctets
-scaled-contents s h =
-    length-append (fullNumber 0x81 (s .number)) (fullNumber 0x82 (s .scale))
-    ∙ omega (arith, number-length 0x81 (s .number), small-length 0x82 (s .scale) h)
+  pub scaled-octets : (scaled tag) .write s ≡ lead tag (5 + w) ++ scaledOctets
+  unfolding scaled shape over pair
+  scaled-octets =
+      cons-write tag _ s
+      ∙ ap (element tag) (ap₂ (λ (x y : List ℕ). x ++ y) (number-write 0x81 0 16777215 (s .number)) (number-write 0x82 0 6 (s .scale)))
+      ∙ element-as tag (5 + w) scaledOctets scaled-contents
 
-pub scaled-length : (tag : ℕ) (s : Scaled) → s .scale < 128 → length ((scaled tag) .write s) ≡ 7 + width (s .number)
-scaled-length tag s h =
-    let q = scaled-contents s h in
-    ap length (scaled-write tag s) ∙ element-short tag (scaledOctets s) (omega (arith, q, width-range (s .number))) ∙ omega (arith, q)
+  pub scaled-length : 7 + w ≡ length ((scaled tag) .write s)
+  scaled-length =
+      omega (arith, ap length scaled-octets, length-append (lead tag (5 + w)) scaledOctets, lead-length-short tag (5 + w) (omega (arith, width-range (s .number))), scaled-contents)
 
-pub wrote-scaled : {l m n k : List ℕ} {a b d r : ℕ} (tag w : ℕ) (s : Scaled) → s .scale < 128 → w ≡ 5 + width (s .number)
-    → Wrote l m a (lead tag w) b → Wrote m n b (fullNumber 0x81 (s .number)) d → Wrote n k d (fullNumber 0x82 (s .scale)) r → Wrote l k a ((scaled tag) .write s) r
-unfolding scaledOctets
-wrote-scaled tag w s h e x y z = wrote-as (sym (scaled-write tag s)) (wrote-element tag w (e ∙ sym (scaled-contents s h)) x (wrote-both y z))
+  module _ {l : List ℕ} {a : ℕ} (r : Room l a ((scaled tag) .write s)) where
+    pub scaled-1 : Room l a (lead tag (5 + w))
+    scaled-1 = room-head _ (room-as r scaled-octets)
+
+    pub scaled-2 : {m : List ℕ} {b : ℕ} → Wrote l m a (lead tag (5 + w)) b → Room m b (fullNumber 0x81 (s .number))
+    scaled-2 p = room-head (fullNumber 0x82 (s .scale)) (room-2 scaled-octets r p)
+
+    pub scaled-3 : {m n : List ℕ} {b d : ℕ} → Wrote l m a (lead tag (5 + w)) b → Wrote m n b (fullNumber 0x81 (s .number)) d → Room n d (fullNumber 0x82 (s .scale))
+    scaled-3 = room-3 scaled-octets r
 
 -- ---- money
 
 -- a valid currency has room for its octets
-pub currency-room : (tag : ℕ) (c : Currency) → (currency tag) .valid c ≡ true → (c .count ≤ 10) × (length (c .octets) ≡ 10)
+currency-room : (tag : ℕ) (c : Currency) → (currency tag) .valid c ≡ true → (c .count ≤ 10) × (length (c .octets) ≡ 10)
 unfolding currency prim currencyLeaf leafOver padded
 currency-room tag c v = let g = simp truth at (and-left (padded 10 zeroOctet (c .octets, c .count)) _ v) in (g .0, g .1 .0)
 
-pub money-room : (m : Money) → money .valid m ≡ true
-    → (m .currency .count ≤ 10) × (length (m .currency .octets) ≡ 10) × (m .number ≤ 16777215) × (m .multiplier ≤ 6)
-money-room m v =
-    let s : Scaled = record { number = m .number; scale = m .multiplier } in
-    let w = sym (money-is m) ∙ v in
-    let g = simp truth at (sym (scaled-is 0xa2 s) ∙ and-left ((scaled 0xa2) .valid s) _ w) in
-    let q = currency-room 0x81 (m .currency) (and-right ((scaled 0xa2) .valid s) _ w) in
-    (q .0, q .1, g .0, g .1)
+module _ (m : Money) (v : money .valid m ≡ true) where
+  abbrev amount : Scaled
+  amount = record { number = m .number; scale = m .multiplier }
 
-pub currency-write : (tag : ℕ) (c : Currency) → c .count ≤ length (c .octets) → (currency tag) .write c ≡ tag ∷ lengthOctets (c .count) ++ take (c .count) (c .octets)
-unfolding currency prim currencyLeaf leafOver string
-currency-write tag c h = ap (λ (k : ℕ). tag ∷ lengthOctets k ++ take (c .count) (c .octets)) (length-take-le (c .count) (c .octets) h)
+  pub money-room : (m .currency .count ≤ 10) × (length (m .currency .octets) ≡ 10) × (m .number ≤ 16777215) × (m .multiplier ≤ 6)
+  money-room =
+      let w = sym (money-is m) ∙ v in
+      let g = simp truth at (sym (scaled-is 0xa2 amount) ∙ and-left ((scaled 0xa2) .valid amount) _ w) in
+      let q = currency-room 0x81 (m .currency) (and-right ((scaled 0xa2) .valid amount) _ w) in
+      (q .0, q .1, g .0, g .1)
 
-pub money-write : (m : Money) → money .write m ≡ (currency 0x81) .write (m .currency) ++ (scaled 0xa2) .write (record { number = m .number; scale = m .multiplier })
-unfolding money shape over pair
-money-write m = refl
+  pub money-count : m .currency .count ≤ 10
+  money-count = money-room .0
 
-pub money-length : (m : Money) → money .valid m ≡ true → length (money .write m) ≡ 9 + m .currency .count + width (m .number)
-money-length m v =
-    let s : Scaled = record { number = m .number; scale = m .multiplier } in
-    let c = m .currency in
-    let r = money-room m v in
-    ap length (money-write m)
-    ∙ length-append ((currency 0x81) .write c) ((scaled 0xa2) .write s)
-    ∙ omega (
-      arith,
-      r,
-      ap length (currency-write 0x81 c (omega (arith, r))),
-      string-length 0x81 (c .count) (c .octets) (omega (arith, r)),
-      lead-length-short 0x81 (c .count) (omega (arith, r)),
-      scaled-length 0xa2 s (omega (arith, r)),
-    )
+  pub money-fits : m .currency .count ≤ length (m .currency .octets)
+  money-fits = omega (arith, money-room)
+
+  pub money-multiplier : m .multiplier ≤ 6
+  money-multiplier = omega (arith, money-room)
+
+  abbrev currencyOctets : List ℕ
+  currencyOctets = 0x81 ∷ lengthOctets (m .currency .count) ++ take (m .currency .count) (m .currency .octets)
+
+  pub money-octets : money .write m ≡ currencyOctets ++ (scaled 0xa2) .write amount
+  unfolding money shape over pair currency prim currencyLeaf leafOver string
+  money-octets =
+      ap (λ (k : ℕ). (0x81 ∷ lengthOctets k ++ take (m .currency .count) (m .currency .octets)) ++ (scaled 0xa2) .write amount)
+      (length-take-le (m .currency .count) (m .currency .octets) money-fits)
+
+  pub money-length : (w : ℕ) → w ≡ width (m .number) → 9 + m .currency .count + w ≡ length (money .write m)
+  money-length w e =
+      omega (
+        arith,
+        ap length money-octets,
+        length-append currencyOctets ((scaled 0xa2) .write amount),
+        string-length 0x81 (m .currency .count) (m .currency .octets) money-fits,
+        lead-length-short 0x81 (m .currency .count) (omega (arith, money-count)),
+        scaled-length 0xa2 w amount money-multiplier e,
+      )
+
+  pub money-1 : {l : List ℕ} {a : ℕ} → Room l a (money .write m) → Room l a currencyOctets
+  money-1 r = room-head _ (room-as r money-octets)
 
 -- ---- associations
 
@@ -121,23 +152,12 @@ money-length m v =
 abbrev digitsElement : ℕ → Association → List ℕ
 digitsElement tag a = tag ∷ lengthOctets (a .count) ++ take (a .count) (a .digits)
 
-pub digits-room : (ds : List ℕ) (n : ℕ) → digitsFine ds n ≡ true → (n ≤ 20) × (n ≤ length ds)
+digits-room : (ds : List ℕ) (n : ℕ) → digitsFine ds n ≡ true → (n ≤ 20) × (n ≤ length ds)
 unfolding digitsFine digitsLeaf string
 digits-room ds n v =
     let g = simp truth at v in
     let e : length (take n ds) ≡ n = g .0 .0 in
     (omega (arith, g .1 .1 .0), omega (arith, length-take n ds))
-
-digits-write : (tag : ℕ) (a : Association) → a .count ≤ length (a .digits) → (prim tag digitsLeaf) .write (digitsOf a) ≡ digitsElement tag a
-unfolding digitsLeaf
-digits-write tag a h = string-write tag 1 20 isDigit (a .digits) (a .count) h
-
-plan-write : (p : ℕ) → (prim 0x0a (only isPlan (number 0 6))) .write p ≡ fullNumber 0x0a p
-unfolding prim only
-plan-write p = number-write 0x0a 0 6 p
-
-digits-length : (tag : ℕ) (a : Association) → a .count ≤ 20 → a .count ≤ length (a .digits) → length (digitsElement tag a) ≡ 2 + a .count
-digits-length tag a l h = string-length tag (a .count) (a .digits) h ∙ ap (λ (k : ℕ). k + a .count) (lead-length-short tag (a .count) (omega arith))
 
 module _ (a : Association) where
   pub association-none : a .kind ≡ 0 → association .write a ≡ []
@@ -148,77 +168,121 @@ module _ (a : Association) where
   unfolding association sort identified canonical over
   association-id e = rw (eq-eqb (a .kind) 1 e)
 
-  module _ (r : a .count ≤ length (a .digits)) where
-    pub association-public : a .kind ≡ 3 → association .write a ≡ element 0xa0 (element 0xa1 (fullNumber 0x0a (a .plan) ++ digitsElement 0x12 a))
-    unfolding association party sort publicParty canonical over pair
-    association-public e =
+  pub none-length : a .kind ≡ 0 → 0 ≡ length (association .write a)
+  none-length e = sym (ap length (association-none e))
+
+  pub id-size : (w : ℕ) → w ≡ length (identifier .write (a .id)) → a .kind ≡ 1 → 2 + w ≡ length (association .write a)
+  id-size w q e = omega (arith, ap length (association-id e), id-length 0x02 (a .id))
+
+-- what a valid association holds: its digits have room, and its plan is one octet
+module _ (a : Association) (v : association .valid a ≡ true) where
+  association-holds : (a .count ≤ 20) × (a .count ≤ length (a .digits)) × (a .plan ≤ 6)
+  unfolding identified canonical over
+  association-holds =
+      by-kind (a .kind) (λ e. let g = simp truth at (sym (association-0 a e) ∙ v) in omega (arith, g))
+      (λ e. let g = simp truth at (and-left (sameAssociation (byIdentifier (a .id)) a) _ (sym (association-1 a e) ∙ v)) in omega (arith, g))
+      (λ e. numbered (eqb 3 (a .kind) && (eqb 0 (a .id) && (leb (a .plan) 6 && isPlan (a .plan)))) (λ q. let g = simp truth at q in omega (arith, g))
+      (sym (public-is a) ∙ sym (association-3 a e) ∙ v))
+      (λ x y z. numbered (eqb 2 (a .kind) && (eqb 0 (a .id) && eqb 0 (a .plan))) (λ q. let g = simp truth at q in omega (arith, g))
+      (sym (plain-is a) ∙ sym (association-2 a x y z) ∙ v))
+    where
+      numbered : (b : Bool) → (b ≡ true → a .plan ≤ 6) → b && digitsFine (a .digits) (a .count) ≡ true → (a .count ≤ 20) × (a .count ≤ length (a .digits)) × (a .plan ≤ 6)
+      numbered b p w = omega (arith, p (and-left b _ w), digits-room (a .digits) (a .count) (and-right b _ w))
+
+  pub association-count : a .count ≤ 20
+  association-count = association-holds .0
+
+  pub association-fits : a .count ≤ length (a .digits)
+  association-fits = association-holds .1
+
+  pub association-plan : a .plan ≤ 6
+  association-plan = association-holds .2
+
+  digits-write : (tag : ℕ) → (prim tag digitsLeaf) .write (digitsOf a) ≡ digitsElement tag a
+  unfolding digitsLeaf
+  digits-write tag = string-write tag 1 20 isDigit (a .digits) (a .count) association-fits
+
+  digits-length : (tag : ℕ) → 2 + a .count ≡ length (digitsElement tag a)
+  digits-length tag =
+      omega (arith, string-length tag (a .count) (a .digits) association-fits, lead-length-short tag (a .count) (omega (arith, association-count)))
+
+  -- ---- a number with its plan
+
+  abbrev publicOctets : List ℕ
+  publicOctets = fullNumber 0x0a (a .plan) ++ digitsElement 0x12 a
+
+  public-contents : 5 + a .count ≡ length publicOctets
+  public-contents =
+      omega (arith, length-append (fullNumber 0x0a (a .plan)) (digitsElement 0x12 a), small-length 0x0a (a .plan) (omega (arith, association-plan)), digits-length 0x12)
+
+  public-element : 7 + a .count ≡ length (lead 0xa1 (5 + a .count) ++ publicOctets)
+  public-element =
+      omega (arith, length-append (lead 0xa1 (5 + a .count)) publicOctets, lead-length-short 0xa1 (5 + a .count) (omega (arith, association-count)), public-contents)
+
+  module _ (e : a .kind ≡ 3) where
+    public-octets : association .write a ≡ lead 0xa0 (7 + a .count) ++ (lead 0xa1 (5 + a .count) ++ publicOctets)
+    unfolding association party sort publicParty canonical over pair prim only
+    public-octets =
         rw (ne-eqb (a .kind) 1 (λ z. omega arith), ne-eqb (a .kind) 0 (λ z. omega arith))
         (cons-write 0xa0 _ a
         ∙ rw (eq-eqb (a .kind) 3 e)
         (ap (element 0xa0) (cons-write 0xa1 _ a
-        ∙ ap (element 0xa1) (ap₂ (λ (x y : List ℕ). x ++ y) (plan-write (a .plan)) (digits-write 0x12 a r)))))
+        ∙ ap (element 0xa1) (ap₂ (λ (x y : List ℕ). x ++ y) (number-write 0x0a 0 6 (a .plan)) (digits-write 0x12))
+        ∙ element-as 0xa1 (5 + a .count) publicOctets public-contents)
+        ∙ element-as 0xa0 (7 + a .count) (lead 0xa1 (5 + a .count) ++ publicOctets) public-element))
 
-    pub association-plain : (a .kind ≡ 0 → ⊥) → (a .kind ≡ 1 → ⊥) → (a .kind ≡ 3 → ⊥) → association .write a ≡ element 0xa0 (digitsElement 0x80 a)
+    pub public-length : a .count + 9 ≡ length (association .write a)
+    public-length =
+        omega (
+          arith,
+          ap length public-octets,
+          length-append (lead 0xa0 (7 + a .count)) (lead 0xa1 (5 + a .count) ++ publicOctets),
+          lead-length-short 0xa0 (7 + a .count) (omega (arith, association-count)),
+          public-element,
+        )
+
+    module _ {l : List ℕ} {x : ℕ} (r : Room l x (association .write a)) where
+      pub public-1 : Room l x (lead 0xa0 (7 + a .count))
+      public-1 = room-head _ (room-as r public-octets)
+
+      module _ {m : List ℕ} {y : ℕ} (p : Wrote l m x (lead 0xa0 (7 + a .count)) y) where
+        public-rest : Room m y (lead 0xa1 (5 + a .count) ++ publicOctets)
+        public-rest = room-2 public-octets r p
+
+        pub public-2 : Room m y (lead 0xa1 (5 + a .count))
+        public-2 = room-head publicOctets public-rest
+
+        module _ {n : List ℕ} {z : ℕ} (q : Wrote m n y (lead 0xa1 (5 + a .count)) z) where
+          pub public-3 : Room n z (fullNumber 0x0a (a .plan))
+          public-3 = room-head (digitsElement 0x12 a) (room-tail q public-rest)
+
+          module _ {o : List ℕ} {w : ℕ} (t : Wrote n o z (fullNumber 0x0a (a .plan)) w) where
+            pub public-4 : Room o w (digitsElement 0x12 a)
+            public-4 = room-tail t (room-tail q public-rest)
+
+            pub public-all : {k : List ℕ} {d : ℕ} → Wrote o k w (digitsElement 0x12 a) d → Wrote l k x (association .write a) d
+            public-all u = wrote-three public-octets p q (wrote-both t u)
+
+  -- ---- a number without
+
+  module _ (k0 : a .kind ≡ 0 → ⊥) (k1 : a .kind ≡ 1 → ⊥) (k3 : a .kind ≡ 3 → ⊥) where
+    pub plain-octets : association .write a ≡ lead 0xa0 (2 + a .count) ++ digitsElement 0x80 a
     unfolding association party sort plainParty canonical over
-    association-plain k0 k1 k3 =
+    plain-octets =
         rw (ne-eqb (a .kind) 1 k1, ne-eqb (a .kind) 0 k0)
         (cons-write 0xa0 _ a
         ∙ rw (ne-eqb (a .kind) 3 k3)
-        (ap (element 0xa0) (digits-write 0x80 a r)))
+        (ap (element 0xa0) (digits-write 0x80) ∙ element-as 0xa0 (2 + a .count) (digitsElement 0x80 a) (digits-length 0x80)))
 
--- what a valid number holds: its digits have room, and its kind is one octet
-module _ (a : Association) (v : association .valid a ≡ true) where
-  pub public-room : a .kind ≡ 3 → (a .plan ≤ 6) × ((a .count ≤ 20) × (a .count ≤ length (a .digits)))
-  public-room e =
-      let w = sym (public-is a) ∙ sym (association-3 a e) ∙ v in
-      let g = simp truth at (and-left (eqb 3 (a .kind) && (eqb 0 (a .id) && (leb (a .plan) 6 && isPlan (a .plan)))) _ w) in
-      (g .1 .1 .0, digits-room (a .digits) (a .count) (and-right (eqb 3 (a .kind) && (eqb 0 (a .id) && (leb (a .plan) 6 && isPlan (a .plan)))) _ w))
+    pub plain-length : a .count + 4 ≡ length (association .write a)
+    plain-length =
+        omega (
+          arith,
+          ap length plain-octets,
+          length-append (lead 0xa0 (2 + a .count)) (digitsElement 0x80 a),
+          lead-length-short 0xa0 (2 + a .count) (omega (arith, association-count)),
+          digits-length 0x80,
+        )
 
-  pub plain-room : (a .kind ≡ 0 → ⊥) → (a .kind ≡ 1 → ⊥) → (a .kind ≡ 3 → ⊥) → (a .count ≤ 20) × (a .count ≤ length (a .digits))
-  plain-room k0 k1 k3 =
-      let w = sym (plain-is a) ∙ sym (association-2 a k0 k1 k3) ∙ v in
-      digits-room (a .digits) (a .count) (and-right (eqb 2 (a .kind) && (eqb 0 (a .id) && eqb 0 (a .plan))) _ w)
-
--- ---- and their lengths
-
-module _ (a : Association) where
-  pub association-none-length : a .kind ≡ 0 → length (association .write a) ≡ 0
-  association-none-length e = ap length (association-none a e)
-
-  pub association-id-length : a .kind ≡ 1 → length (association .write a) ≡ 2 + length (identifier .write (a .id))
-  association-id-length e = ap length (association-id a e) ∙ id-length 0x02 (a .id)
-
-  module _ (l : a .count ≤ 20) (r : a .count ≤ length (a .digits)) where
-    pub public-contents : a .plan ≤ 6 → length (fullNumber 0x0a (a .plan) ++ digitsElement 0x12 a) ≡ 5 + a .count
-    public-contents p =
-        length-append (fullNumber 0x0a (a .plan)) (digitsElement 0x12 a) ∙ omega (arith, small-length 0x0a (a .plan) (omega arith), digits-length 0x12 a l r)
-
-    pub public-element : a .plan ≤ 6 → length (element 0xa1 (fullNumber 0x0a (a .plan) ++ digitsElement 0x12 a)) ≡ 7 + a .count
-    public-element p =
-        let q = public-contents p in
-        element-short 0xa1 (fullNumber 0x0a (a .plan) ++ digitsElement 0x12 a) (omega (arith, q)) ∙ omega (arith, q)
-
-    pub association-public-length : a .plan ≤ 6 → a .kind ≡ 3 → length (association .write a) ≡ 9 + a .count
-    association-public-length p e =
-        let q = public-element p in
-        ap length (association-public a r e) ∙ element-short 0xa0 (element 0xa1 (fullNumber 0x0a (a .plan) ++ digitsElement 0x12 a)) (omega (arith, q)) ∙ omega (arith, q)
-
-    pub plain-contents : length (digitsElement 0x80 a) ≡ 2 + a .count
-    plain-contents = digits-length 0x80 a l r
-
-    pub association-plain-length : (a .kind ≡ 0 → ⊥) → (a .kind ≡ 1 → ⊥) → (a .kind ≡ 3 → ⊥) → length (association .write a) ≡ 4 + a .count
-    association-plain-length k0 k1 k3 =
-        let q = plain-contents in
-        ap length (association-plain a r k0 k1 k3) ∙ element-short 0xa0 (digitsElement 0x80 a) (omega (arith, q)) ∙ omega (arith, q)
-
-    -- ---- as they are written
-
-    pub wrote-public : {h i j k m : List ℕ} {x y z w n : ℕ} → a .plan ≤ 6 → a .kind ≡ 3 → Wrote h i x (lead 0xa0 (7 + a .count)) y
-        → Wrote i j y (lead 0xa1 (5 + a .count)) z → Wrote j k z (fullNumber 0x0a (a .plan)) w → Wrote k m w (digitsElement 0x12 a) n → Wrote h m x (association .write a) n
-    wrote-public p e s t u v =
-        wrote-as (sym (association-public a r e))
-        (wrote-element 0xa0 (7 + a .count) (sym (public-element p)) s (wrote-element 0xa1 (5 + a .count) (sym (public-contents p)) t (wrote-both u v)))
-
-    pub wrote-plain : {h i j : List ℕ} {x y n : ℕ} → (a .kind ≡ 0 → ⊥) → (a .kind ≡ 1 → ⊥) → (a .kind ≡ 3 → ⊥) → Wrote h i x (lead 0xa0 (2 + a .count)) y
-        → Wrote i j y (digitsElement 0x80 a) n → Wrote h j x (association .write a) n
-    wrote-plain k0 k1 k3 s t = wrote-as (sym (association-plain a r k0 k1 k3)) (wrote-element 0xa0 (2 + a .count) (sym plain-contents) s t)
+    pub plain-1 : {l : List ℕ} {x : ℕ} → Room l x (association .write a) → Room l x (lead 0xa0 (2 + a .count))
+    plain-1 r = room-head _ (room-as r plain-octets)

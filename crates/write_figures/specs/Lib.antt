@@ -1,3 +1,2 @@
-pub mod Fine
 pub mod Octets
 pub mod Handed

@@ -6,16 +6,8 @@ use lib.Dec.{leb, eqb}
 use Rattle.coding.specs.Codec.{oneOf, prim}
 use Rattle.coding.specs.Leaves.{identifier}
 use Rattle.coding.specs.Written.{lead, fullNumber}
-use Rattle.types.specs.Frames.{operations, errors}
-use Rattle.write_heads.specs.declared.Front.{Front}
-
-abbrev pub frontBy : ℕ → ℕ → ℕ → ℕ → ℕ → ℕ → ℕ → Front
-frontBy k u i o e p d = record { frame = k; unnamed = u; id = i; operation = o; error = e; problem = p; detail = d }
-
-abbrev pub sameFront : Front → Front → Bool
-sameFront f g =
-    ((eqb (f .frame) (g .frame) && eqb (f .unnamed) (g .unnamed)) && (eqb (f .id) (g .id) && eqb (f .operation) (g .operation)))
-    && ((eqb (f .error) (g .error) && eqb (f .problem) (g .problem)) && eqb (f .detail) (g .detail))
+use Rattle.types.specs.Frames.{operations, errors, frontBy, sameFront}
+use Rattle.types.specs.declared.Front.{Front}
 
 -- a charge follows
 abbrev pub charged : Front → Bool

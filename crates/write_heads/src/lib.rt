@@ -5,26 +5,14 @@ ghost use mathlib.Core.List.{[], _++_};
 ghost use Prim.Native.Nat.{_+_, _≤_, _<_};
 ghost use lib.ListN.{length};
 ghost use Rattle.coding.specs.Codec.{oneOf};
-ghost use Rattle.coding.specs.Written.{Wrote, lead, fullNumber};
+ghost use Rattle.coding.specs.Written.{Wrote, Room, lead, fullNumber};
 ghost use lib.Dec.{eqb};
 ghost use Rattle.types.specs.Frames.{operations};
 ghost use Rattle.write_heads.specs.Fronts.{frontFine, frontOctets, problemFine, charged, idOctets};
 
-// All of a record but its charge, as C hands it over.
-#[repr(C)]
-pub struct Front {
-    pub frame: u8,
-    pub unnamed: u8,
-    pub id: u16,
-    pub operation: u8,
-    pub error: u8,
-    pub problem: u8,
-    pub detail: u8,
-}
-
 // ---- which may be written
 
-// As `read_heads::known_operation`, of an octet: measured, 23 instructions less for each component than a call of that.
+// As `read_heads::values::known_operation`, of an octet: measured, 23 instructions less for each component than a call of that.
 fn is_operation(n: u8) -> bool
     ensures { λ r. ⌜ r ≡ oneOf operations n ⌝ }
 {
@@ -56,7 +44,7 @@ fn problem_fine(problem: u8, detail: u8) -> bool
 }
 
 // Operation 30 of an invoke asks for a service.
-fn request_fine(f: Front) -> bool
+fn request_fine(f: types::Front) -> bool
     requires { ⌜ (f .frame ≡ 1) × (f .operation ≡ 30) ⌝ }
     ensures { λ r. ⌜ r ≡ frontFine f ⌝ }
 {
@@ -75,7 +63,7 @@ fn request_fine(f: Front) -> bool
     true
 }
 
-fn invoke_fine(f: Front) -> bool
+fn invoke_fine(f: types::Front) -> bool
     requires { ⌜ f .frame ≡ 1 ⌝ }
     ensures { λ r. ⌜ r ≡ frontFine f ⌝ }
 {
@@ -100,7 +88,7 @@ fn invoke_fine(f: Front) -> bool
     true
 }
 
-fn result_fine(f: Front) -> bool
+fn result_fine(f: types::Front) -> bool
     requires { ⌜ f .frame ≡ 2 ⌝ }
     ensures { λ r. ⌜ r ≡ frontFine f ⌝ }
 {
@@ -122,7 +110,7 @@ fn result_fine(f: Front) -> bool
     true
 }
 
-fn error_fine(f: Front) -> bool
+fn error_fine(f: types::Front) -> bool
     requires { ⌜ f .frame ≡ 3 ⌝ }
     ensures { λ r. ⌜ r ≡ frontFine f ⌝ }
 {
@@ -138,10 +126,10 @@ fn error_fine(f: Front) -> bool
     if f.detail != 0 {
         return false;
     }
-    read_heads::known_error(f.error as u32)
+    read_heads::values::known_error(f.error as u32)
 }
 
-fn reject_fine(f: Front) -> bool
+fn reject_fine(f: types::Front) -> bool
     requires { ⌜ f .frame ≡ 4 ⌝ }
     ensures { λ r. ⌜ r ≡ frontFine f ⌝ }
 {
@@ -172,7 +160,7 @@ fn is_called(unnamed: u8, id: u16) -> bool
     true
 }
 
-pub fn front_fine(f: Front) -> bool
+pub fn front_fine(f: types::Front) -> bool
     ensures { λ r. ⌜ r ≡ frontFine f ⌝ }
 {
     if f.frame == 1 {
@@ -191,7 +179,7 @@ pub fn front_fine(f: Front) -> bool
 }
 
 // Whether a charge follows.
-pub fn is_charged(f: Front) -> bool
+pub fn is_charged(f: types::Front) -> bool
     ensures { λ r. ⌜ r ≡ charged f ⌝ }
 {
     if f.frame == 1 {
@@ -209,7 +197,7 @@ pub fn is_charged(f: Front) -> bool
 // ---- octets
 
 // Before a charge of n octets.
-pub fn front_size(f: Front, n: usize) -> usize
+pub fn front_size(f: types::Front, n: usize) -> usize
     requires { ⌜ (frontFine f ≡ true) × (n < 250) ⌝ }
     ensures { λ r. ⌜ r ≡ length (frontOctets f n) ⌝ }
     ensures few { λ r. ⌜ (5 ≤ r) × (r ≤ 10) ⌝ }
@@ -236,8 +224,8 @@ pub fn front_size(f: Front, n: usize) -> usize
     i + 3
 }
 
-fn put_invoke(buf: &mut [u8], at: usize, f: Front) -> usize
-    requires { ⌜ (f .operation < 128) × (f .detail < 128) × (at + length (idOctets f ++ (fullNumber 0x02 (f .operation) ++ cond (eqb (f .operation) 30) (fullNumber 0x0a (f .detail)) [])) ≤ length (now buf)) ⌝ }
+fn put_invoke(buf: &mut [u8], at: usize, f: types::Front) -> usize
+    requires { ⌜ (f .operation < 128) × (f .detail < 128) × Room (now buf) at (idOctets f ++ (fullNumber 0x02 (f .operation) ++ cond (eqb (f .operation) 30) (fullNumber 0x0a (f .detail)) [])) ⌝ }
     ensures { λ r. ⌜ Wrote (now (buf .entry)) (now (buf .exit)) at (idOctets f ++ (fullNumber 0x02 (f .operation) ++ cond (eqb (f .operation) 30) (fullNumber 0x0a (f .detail)) [])) r ⌝ }
 {
     let p = write_elements::put_id(buf, at, 0x02, f.id);
@@ -248,8 +236,8 @@ fn put_invoke(buf: &mut [u8], at: usize, f: Front) -> usize
     q
 }
 
-fn put_result(buf: &mut [u8], at: usize, f: Front, n: usize) -> usize
-    requires { ⌜ (f .operation < 128) × (n < 250) × (at + length (idOctets f ++ (lead 0x30 (3 + n) ++ fullNumber 0x02 (f .operation))) ≤ length (now buf)) ⌝ }
+fn put_result(buf: &mut [u8], at: usize, f: types::Front, n: usize) -> usize
+    requires { ⌜ (f .operation < 128) × (n < 250) × Room (now buf) at (idOctets f ++ (lead 0x30 (3 + n) ++ fullNumber 0x02 (f .operation))) ⌝ }
     ensures { λ r. ⌜ Wrote (now (buf .entry)) (now (buf .exit)) at (idOctets f ++ (lead 0x30 (3 + n) ++ fullNumber 0x02 (f .operation))) r ⌝ }
 {
     let p = write_elements::put_id(buf, at, 0x02, f.id);
@@ -258,8 +246,8 @@ fn put_result(buf: &mut [u8], at: usize, f: Front, n: usize) -> usize
 }
 
 // The identifier, or NULL.
-fn put_caller(buf: &mut [u8], at: usize, f: Front) -> usize
-    requires { ⌜ at + length (cond (eqb (f .unnamed) 1) (lead 0x05 0) (idOctets f)) ≤ length (now buf) ⌝ }
+fn put_caller(buf: &mut [u8], at: usize, f: types::Front) -> usize
+    requires { ⌜ Room (now buf) at (cond (eqb (f .unnamed) 1) (lead 0x05 0) (idOctets f)) ⌝ }
     ensures { λ r. ⌜ Wrote (now (buf .entry)) (now (buf .exit)) at (cond (eqb (f .unnamed) 1) (lead 0x05 0) (idOctets f)) r ⌝ }
 {
     if f.unnamed == 1 {
@@ -268,24 +256,24 @@ fn put_caller(buf: &mut [u8], at: usize, f: Front) -> usize
     write_elements::put_id(buf, at, 0x02, f.id)
 }
 
-fn put_reject(buf: &mut [u8], at: usize, f: Front) -> usize
-    requires { ⌜ (f .detail < 128) × (at + length (cond (eqb (f .unnamed) 1) (lead 0x05 0) (idOctets f) ++ fullNumber (f .problem) (f .detail)) ≤ length (now buf)) ⌝ }
+fn put_reject(buf: &mut [u8], at: usize, f: types::Front) -> usize
+    requires { ⌜ (f .detail < 128) × Room (now buf) at (cond (eqb (f .unnamed) 1) (lead 0x05 0) (idOctets f) ++ fullNumber (f .problem) (f .detail)) ⌝ }
     ensures { λ r. ⌜ Wrote (now (buf .entry)) (now (buf .exit)) at (cond (eqb (f .unnamed) 1) (lead 0x05 0) (idOctets f) ++ fullNumber (f .problem) (f .detail)) r ⌝ }
 {
     let p = put_caller(buf, at, f);
     write_elements::put_small(buf, p, f.problem, f.detail)
 }
 
-fn put_error(buf: &mut [u8], at: usize, f: Front) -> usize
-    requires { ⌜ (f .error < 128) × (at + length (idOctets f ++ fullNumber 0x02 (f .error)) ≤ length (now buf)) ⌝ }
+fn put_error(buf: &mut [u8], at: usize, f: types::Front) -> usize
+    requires { ⌜ (f .error < 128) × Room (now buf) at (idOctets f ++ fullNumber 0x02 (f .error)) ⌝ }
     ensures { λ r. ⌜ Wrote (now (buf .entry)) (now (buf .exit)) at (idOctets f ++ fullNumber 0x02 (f .error)) r ⌝ }
 {
     let p = write_elements::put_id(buf, at, 0x02, f.id);
     write_elements::put_small(buf, p, 0x02, f.error)
 }
 
-pub fn put_front(buf: &mut [u8], at: usize, f: Front, n: usize) -> usize
-    requires { ⌜ (frontFine f ≡ true) × (n < 250) × (at + length (frontOctets f n) ≤ length (now buf)) ⌝ }
+pub fn put_front(buf: &mut [u8], at: usize, f: types::Front, n: usize) -> usize
+    requires { ⌜ (frontFine f ≡ true) × (n < 250) × Room (now buf) at (frontOctets f n) ⌝ }
     ensures { λ r. ⌜ Wrote (now (buf .entry)) (now (buf .exit)) at (frontOctets f n) r ⌝ }
 {
     if f.frame == 1 {

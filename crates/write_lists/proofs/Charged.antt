@@ -1,43 +1,17 @@
 -- What a valid charge holds, by its kind, and its octets.
--- Assumes nothing.
-use Prim.Native.Nat.{ℕ, _+_, _≤_}
-use mathlib.Core.Path.{_≡_, sym, ap, _∙_}
-use mathlib.Core.Bool.{true, _&&_}
-use native.Mathlib.Omega.{arith}
-use lib.ListN.{length, length-append}
-use lib.Dec.{ltb, leb, eqb}
-use borrow.Author.Tests.{eq-eqb, ne-eqb, leb-true}
-use Rattle.coding.specs.Codec.{Run, all, writeAll, some·more}
-use Rattle.coding.specs.Rows.{table}
-use Rattle.coding.specs.Written.{lead}
-use Rattle.coding.proofs.Basic.{and-left, and-right}
-use Rattle.coding.proofs.Rows.{table-length}
-use Rattle.types.specs.declared.Entries.{Entries}
-use Rattle.types.specs.declared.Charge.{Charge}
-use Rattle.types.specs.Entries.{noEntries, unit, unitAt, unitRows, unitList}
-use Rattle.types.specs.Rates.{rate, rateAt, rateRows, rateList}
-use Rattle.types.specs.Arguments.{sameEntries, chargeOf}
-use Rattle.write_figures.specs.Fine.{figureFine, unitsFine, ratesFine, entriesFine}
-use Rattle.write_figures.specs.Octets.{written, contents}
-use Rattle.write_figures.proofs.Valid.{charge-fine}
-use Rattle.write_figures.proofs.Forms.{charge-write}
-use Rattle.write_figures.proofs.Frames.{fine-marks}
+use Rattle.prelude.proofs.Prelude.{ℕ, _+_, _≤_, _≡_, sym, ap, _∙_, true, _&&_, List, _++_, arith, length, length-append, ltb, leb, eq-eqb, ne-eqb, leb-true}
+use Rattle.coding.{specs.Codec.Run, specs.Codec.all, specs.Codec.writeAll, specs.Codec.some·more, specs.Rows.table, specs.Written.Wrote, specs.Written.Room, specs.Written.lead}
+use Rattle.coding.{proofs.Basic.and-left, proofs.Basic.and-right, proofs.Rows.table-length, proofs.Writing.Split, proofs.Writing.room-first, proofs.Writing.room-rest}
+use Rattle.coding.{proofs.Writing.wrote-parts}
+use Rattle.types.specs.{declared.Entries.Entries, declared.Figure.Figure, declared.Charge.Charge, Entries.unit, Entries.unitAt, Entries.unitRows, Entries.unitList, Rates.rate, Rates.rateAt}
+use Rattle.types.specs.{Rates.rateRows, Rates.rateList, Arguments.sameEntries, Arguments.chargeOf}
+use Rattle.write_tests.{specs.Fine.figureFine, specs.Fine.unitsFine, specs.Fine.ratesFine, specs.Fine.entriesFine, proofs.Valid.charge-fine}
+use Rattle.write_figures.{specs.Octets.written, specs.Octets.contents, specs.Octets.before, specs.Octets.after, proofs.Forms.charge-write, proofs.Frames.fine-marks}
+use Rattle.write_figures.{proofs.Frames.ended-split}
+use Rattle.write_rates.proofs.Three.{Three, three-length, room-1, room-2, room-3, wrote-3}
 use Rattle.write_lists.specs.Octets.{unitsCharge, ratesCharge}
 
--- ---- the list, by the kind
-
-module _ (c : Charge) where
-  pub entries-units : c .figure .kind ≡ 3 → entriesFine c ≡ unitsFine (c .entries) (c .figure .count)
-  unfolding entriesFine
-  entries-units e = rw (eq-eqb (c .figure .kind) 3 e)
-
-  pub entries-rates : c .figure .kind ≡ 4 → entriesFine c ≡ ratesFine (c .entries) (c .figure .count)
-  unfolding entriesFine
-  entries-rates e = rw (ne-eqb (c .figure .kind) 3 (λ z. omega arith), eq-eqb (c .figure .kind) 4 e)
-
-  pub entries-none : (c .figure .kind ≡ 3 → ⊥) → (c .figure .kind ≡ 4 → ⊥) → entriesFine c ≡ eqb 0 (c .figure .count) && sameEntries noEntries (c .entries)
-  unfolding entriesFine
-  entries-none e f = rw (ne-eqb (c .figure .kind) 3 e, ne-eqb (c .figure .kind) 4 f)
+-- ---- the list
 
 -- how many entries a list has, and that they are valid
 few-valid : {A : Type 0} (f : Run A) (most n : ℕ) (g : ℕ → A) → (some·more 0x30 most f) .valid (table n g) ≡ true → (n ≤ most) × (all (f .valid) (table n g) ≡ true)
@@ -63,43 +37,66 @@ module _ (o : ℕ) (g : (30 ≤ o) × (o ≤ 36)) (c : Charge) (v : (chargeOf o)
   pub figure-fine : figureFine o (c .figure) ≡ true
   figure-fine = and-left (figureFine o (c .figure)) (entriesFine c) both
 
+  listed : entriesFine c ≡ true
+  listed = and-right (figureFine o (c .figure)) (entriesFine c) both
+
   pub units-fine : c .figure .kind ≡ 3 → unitsFine (c .entries) (c .figure .count) ≡ true
-  units-fine e = sym (entries-units c e) ∙ and-right (figureFine o (c .figure)) (entriesFine c) both
+  unfolding entriesFine
+  units-fine e = rw (eq-eqb (c .figure .kind) 3 e) at listed
 
   pub rates-fine : c .figure .kind ≡ 4 → ratesFine (c .entries) (c .figure .count) ≡ true
-  rates-fine e = sym (entries-rates c e) ∙ and-right (figureFine o (c .figure)) (entriesFine c) both
+  unfolding entriesFine
+  rates-fine e = rw (ne-eqb (c .figure .kind) 3 (λ z. omega arith), eq-eqb (c .figure .kind) 4 e) at listed
 
   parts : (chargeOf o) .write c ≡ written o (c .figure) (contents c)
   parts = charge-write o (g .0) (g .1) c (fine-marks o (c .figure) figure-fine)
 
   pub units-octets : c .figure .kind ≡ 3 → (chargeOf o) .write c ≡ unitsCharge o (c .figure) (c .entries)
   unfolding written contents
-  units-octets e =
-      parts
-      ∙ rw (
-        ne-eqb (c .figure .kind) 0 (λ z. omega arith),
-        ne-eqb (c .figure .kind) 1 (λ z. omega arith),
-        ne-eqb (c .figure .kind) 4 (λ z. omega arith),
-        ne-eqb (c .figure .kind) 5 (λ z. omega arith),
-        ne-eqb (c .figure .kind) 2 (λ z. omega arith),
-        eq-eqb (c .figure .kind) 3 e,
-      )
+  units-octets e = parts ∙ rw e
 
   pub rates-octets : c .figure .kind ≡ 4 → (chargeOf o) .write c ≡ ratesCharge (c .entries) (c .figure .count)
   unfolding written contents
-  rates-octets e =
-      parts
-      ∙ rw (
-        ne-eqb (c .figure .kind) 0 (λ z. omega arith),
-        ne-eqb (c .figure .kind) 1 (λ z. omega arith),
-        eq-eqb (c .figure .kind) 4 e,
-        ne-eqb (c .figure .kind) 2 (λ z. omega arith),
-        ne-eqb (c .figure .kind) 3 (λ z. omega arith),
-      )
+  rates-octets e = parts ∙ rw e
 
--- ---- how many they are
+-- ---- as they are put: k octets, of which a lead says how many
 
-pub rates-length : (e : Entries) (n k : ℕ) → k ≡ length (writeAll (rate .write) (rateList e n)) → length (ratesCharge e n) ≡ length (lead 0x30 k) + k
-rates-length e n k q =
-    let w = writeAll (rate .write) (rateList e n) in
-    length-append (lead 0x30 (length w)) w ∙ ap (λ (j : ℕ). length (lead 0x30 j) + j) (sym q)
+module _ (e : Entries) (n k : ℕ) (q : k ≡ length (writeAll (rate .write) (rateList e n))) where
+  rates-parts : Split (ratesCharge e n) (lead 0x30 k) (writeAll (rate .write) (rateList e n))
+  rates-parts = record { parts = ap (λ (j : ℕ). lead 0x30 j ++ writeAll (rate .write) (rateList e n)) (sym q) }
+
+  pub rates-length : length (ratesCharge e n) ≡ length (lead 0x30 k) + k
+  rates-length = ap length (rates-parts .parts) ∙ length-append (lead 0x30 k) (writeAll (rate .write) (rateList e n)) ∙ omega arith
+
+  module _ {l : List ℕ} {a : ℕ} (h : Room l a (ratesCharge e n)) where
+    pub put-rates-1 : Room l a (lead 0x30 k)
+    put-rates-1 = room-first rates-parts h
+
+    pub put-rates-2 : {m : List ℕ} {b : ℕ} → Wrote l m a (lead 0x30 k) b → Room m b (writeAll (rate .write) (rateList e n))
+    put-rates-2 = room-rest rates-parts h
+
+  pub put-rates-3 : {l m o : List ℕ} {a b d : ℕ} → Wrote l m a (lead 0x30 k) b → Wrote m o b (writeAll (rate .write) (rateList e n)) d → Wrote l o a (ratesCharge e n) d
+  put-rates-3 = wrote-parts rates-parts
+
+module _ (o : ℕ) (f : Figure) (e : Entries) (k : ℕ) (q : k ≡ length (writeAll (unit .write) (unitList e (f .count)))) where
+  units-parts : Three (unitsCharge o f e) (before o f k) (writeAll (unit .write) (unitList e (f .count))) (after o f)
+  units-parts =
+      let xs = writeAll (unit .write) (unitList e (f .count)) in
+      record { parts = ended-split o f xs ∙ ap (λ (j : ℕ). before o f j ++ (xs ++ after o f)) (sym q) }
+
+  pub units-length : length (unitsCharge o f e) ≡ length (before o f k) + k + length (after o f)
+  units-length = omega (arith, three-length units-parts)
+
+  module _ {l : List ℕ} {a : ℕ} (h : Room l a (unitsCharge o f e)) where
+    pub put-units-1 : Room l a (before o f k)
+    put-units-1 = room-1 units-parts h
+
+    pub put-units-2 : {m : List ℕ} {b : ℕ} → Wrote l m a (before o f k) b → Room m b (writeAll (unit .write) (unitList e (f .count)))
+    put-units-2 = room-2 units-parts h
+
+    pub put-units-3 : {m n : List ℕ} {b d : ℕ} → Wrote l m a (before o f k) b → Wrote m n b (writeAll (unit .write) (unitList e (f .count))) d → Room n d (after o f)
+    put-units-3 = room-3 units-parts h
+
+  pub put-units-4 : {l m n r : List ℕ} {a b d z : ℕ} → Wrote l m a (before o f k) b → Wrote m n b (writeAll (unit .write) (unitList e (f .count))) d
+      → Wrote n r d (after o f) z → Wrote l r a (unitsCharge o f e) z
+  put-units-4 = wrote-3 units-parts

@@ -1,26 +1,11 @@
 -- An entry of units: which may be written, and its octets part by part.
--- Assumes nothing.
-use Prim.Native.Nat.{ℕ, zero, suc, _+_, _<_}
-use mathlib.Core.Path.{_≡_, refl, sym, ap, ap₂, _∙_}
-use mathlib.Core.List.{List, [], _++_, append-nil}
-use mathlib.Core.Bool.{Bool, true, false, _&&_, and-comm, cond}
-use mathlib.Core.Logic.{inl, inr}
-use mathlib.Core.Option.{none, some}
-use native.Mathlib.Omega.{arith}
-use lib.ListN.{length, length-append}
-use lib.Dec.{leb, eqb, leb·zero}
-use borrow.Author.Tests.{leb-true, le-leb, eq-eqb, ne-eqb}
-use Rattle.coding.specs.Codec.{prim, cons, pair, alt, maybe, over, canonical, either, writeMaybe}
-use Rattle.coding.specs.Leaves.{number, nullLeaf, width}
-use Rattle.coding.specs.Written.{Wrote, lead, fullNumber}
-use Rattle.coding.proofs.Basic.{and-left, picked, unpicked}
-use Rattle.coding.proofs.Writing.{cons-write, prim-write, number-write, number-length, wrote-element, wrote-as, wrote-both}
-use Rattle.write_figures.proofs.Sizes.{element-length}
-use Rattle.coding.proofs.Tests.{and-true, and-false}
-use Rattle.coding.proofs.Small.{null-length, small-length}
-use Rattle.types.specs.declared.Units.{Units}
-use Rattle.types.specs.Entries.{unit}
-use Rattle.write_rates.proofs.Prices.{eqb-self, zero-first}
+use Rattle.prelude.proofs.Prelude.{ℕ, zero, suc, _+_, _<_, _≡_, sym, ap, _∙_, List, _++_, Bool, true, _&&_, and-comm, cond, arith, length, length-append, leb, eqb, leb·zero, leb-true}
+use Rattle.prelude.proofs.Prelude.{le-leb, ne-eqb}
+use Rattle.coding.{specs.Codec.prim, specs.Codec.cons, specs.Codec.pair, specs.Codec.alt, specs.Codec.maybe, specs.Codec.over, specs.Codec.canonical, specs.Leaves.number}
+use Rattle.coding.{specs.Leaves.nullLeaf, specs.Written.Wrote, specs.Written.Room, specs.Written.lead, proofs.Basic.and-left, proofs.Writing.cons-write, proofs.Writing.number-write}
+use Rattle.coding.{proofs.Writing.lead-length-short, proofs.Holds.tested, proofs.Tests.and-true, proofs.Tests.and-false, proofs.Tests.eqb-self, proofs.Small.null-write}
+use Rattle.types.specs.{declared.Units.Units, Entries.unit}
+use Rattle.write_rates.proofs.{Prices.zero-first, Three.Three, Three.three-length, Three.room-1, Three.room-2, Three.room-3, Three.wrote-3}
 use Rattle.write_lists.specs.Octets.{numberOctets, typeOctets}
 
 -- ---- which may be written
@@ -49,54 +34,38 @@ unit-type u v = omega (arith, leb-true (u .kind) 16 (and-left (leb (u .kind) 16)
 -- ---- its octets
 
 module _ (u : Units) where
-  pub number-known : u .known ≡ 1 → numberOctets u ≡ fullNumber 0x02 (u .number)
-  unfolding numberOctets
-  number-known e = picked _ _ (eq-eqb (u .known) 1 e)
-
-  pub number-unknown : (u .known ≡ 1 → ⊥) → numberOctets u ≡ lead 0x05 0
-  unfolding numberOctets
-  number-unknown e = unpicked _ _ (ne-eqb (u .known) 1 e)
-
-  pub type-none : u .kind ≡ 0 → typeOctets u ≡ []
-  unfolding typeOctets
-  type-none e = picked _ _ (eq-eqb (u .kind) 0 e)
-
-  pub type-given : (u .kind ≡ 0 → ⊥) → typeOctets u ≡ fullNumber 0x02 (u .kind)
-  unfolding typeOctets
-  type-given e = unpicked _ _ (ne-eqb (u .kind) 0 e)
-
-  pub known-size : u .known ≡ 1 → length (numberOctets u) ≡ 2 + width (u .number)
-  known-size e = ap length (number-known e) ∙ number-length 0x02 (u .number)
-
-  pub unknown-size : (u .known ≡ 1 → ⊥) → length (numberOctets u) ≡ 2
-  unknown-size e = ap length (number-unknown e) ∙ null-length 0x05
-
-  pub type-size : (u .kind ≡ 0 → ⊥) → u .kind < 128 → length (typeOctets u) ≡ 3
-  type-size e h = ap length (type-given e) ∙ small-length 0x02 (u .kind) h
-
-  abbrev pub unitContents : List ℕ
+  abbrev unitContents : List ℕ
   unitContents = numberOctets u ++ typeOctets u
 
-  pub unit-write : unit .write u ≡ lead 0x30 (length unitContents) ++ unitContents
+  unit-write : unit .write u ≡ lead 0x30 (length unitContents) ++ unitContents
   unfolding unit canonical over pair alt maybe numberOctets typeOctets nullLeaf
   unit-write =
-      cons-write 0x30 _ u ∙ ap (λ (w : List ℕ). lead 0x30 (length w) ++ w) (ap₂ (λ (x y : List ℕ). x ++ y) (first (eqb (u .known) 1)) (second (eqb (u .kind) 0)))
-    where
-      first : (t : Bool) → either ((prim 0x05 nullLeaf) .write) ((prim 0x02 (number 0 16777215)) .write) (cond t (inr (u .number)) (inl tt)) ≡ cond t (fullNumber 0x02 (u .number)) (lead 0x05 0)
-      first true = number-write 0x02 0 16777215 (u .number)
-      first false = prim-write 0x05 nullLeaf tt ∙ append-nil (lead 0x05 0)
+      let n = number-write 0x02 0 16777215 (u .number) in
+      let t = number-write 0x02 1 16 (u .kind) in
+      cons-write 0x30 _ u
+      ∙ tested (eqb (u .known) 1) (λ p. tested (eqb (u .kind) 0) (λ q. rw (p, q, n)) (λ q. rw (p, q, n, t)))
+      (λ p. tested (eqb (u .kind) 0) (λ q. rw (p, q, null-write 0x05 tt)) (λ q. rw (p, q, null-write 0x05 tt, t)))
 
-      second : (t : Bool) → writeMaybe ((prim 0x02 (number 1 16)) .write) (cond t none (some (u .kind))) ≡ cond t [] (fullNumber 0x02 (u .kind))
-      second true = refl
-      second false = number-write 0x02 1 16 (u .kind)
+-- ---- as they are put: x and y octets, of which its lead says how many
 
-  -- k is the length that its lead says
-  pub unit-room : (k : ℕ) → length (numberOctets u) + length (typeOctets u) ≡ k → length (unit .write u) ≡ length (lead 0x30 k) + k
-  unit-room k e =
-      ap length unit-write ∙ element-length 0x30 unitContents
-      ∙ ap (λ (x : ℕ). length (lead 0x30 x) + x) (length-append (numberOctets u) (typeOctets u) ∙ e)
+module _ (u : Units) (x y : ℕ) (e : x ≡ length (numberOctets u)) (f : y ≡ length (typeOctets u)) where
+  unit-parts : Three (unit .write u) (lead 0x30 (x + y)) (numberOctets u) (typeOctets u)
+  unit-parts =
+      record { parts = unit-write u ∙ ap (λ (k : ℕ). lead 0x30 k ++ (numberOctets u ++ typeOctets u)) (length-append (numberOctets u) (typeOctets u) ∙ omega arith) }
 
-  pub wrote-unit : {l m n o : List ℕ} {p q r s : ℕ} (k : ℕ) → length (numberOctets u) + length (typeOctets u) ≡ k → Wrote l m p (lead 0x30 k) q
-      → Wrote m n q (numberOctets u) r → Wrote n o r (typeOctets u) s → Wrote l o p (unit .write u) s
-  wrote-unit k e x y z =
-      wrote-as (sym unit-write) (wrote-element 0x30 k (sym (length-append (numberOctets u) (typeOctets u) ∙ e)) x (wrote-both y z))
+  pub unit-length : x + y < 128 → length (unit .write u) ≡ 2 + x + y
+  unit-length h = omega (arith, three-length unit-parts, lead-length-short 0x30 (x + y) h)
+
+  module _ {l : List ℕ} {a : ℕ} (h : Room l a (unit .write u)) where
+    pub put-unit-1 : Room l a (lead 0x30 (x + y))
+    put-unit-1 = room-1 unit-parts h
+
+    pub put-unit-2 : {m : List ℕ} {b : ℕ} → Wrote l m a (lead 0x30 (x + y)) b → Room m b (numberOctets u)
+    put-unit-2 = room-2 unit-parts h
+
+    pub put-unit-3 : {m n : List ℕ} {b d : ℕ} → Wrote l m a (lead 0x30 (x + y)) b → Wrote m n b (numberOctets u) d → Room n d (typeOctets u)
+    put-unit-3 = room-3 unit-parts h
+
+  pub put-unit-4 : {l m n o : List ℕ} {a b d z : ℕ} → Wrote l m a (lead 0x30 (x + y)) b → Wrote m n b (numberOctets u) d → Wrote n o d (typeOctets u) z
+      → Wrote l o a (unit .write u) z
+  put-unit-4 = wrote-3 unit-parts

@@ -12,7 +12,7 @@ use Rattle.types.specs.declared.Charge.{Charge}
 use Rattle.types.specs.Entries.{unit, unitList}
 use Rattle.types.specs.Rates.{rate, rateList}
 use Rattle.write_figures.specs.Octets.{element, framed, ended}
-use Rattle.write_figures.specs.Fine.{laid}
+use Rattle.write_tests.specs.Fine.{laid}
 
 -- 02 number, or 05 00 where it is not available
 unfoldable pub numberOctets : Units → List ℕ

@@ -5,13 +5,13 @@ use types::Figure;
 use types::Units;
 ghost use mathlib.Core.Path.{_≡_};
 ghost use mathlib.Core.Bool.{true};
-ghost use Prim.Native.Nat.{_+_, _≤_, _<_};
+ghost use Prim.Native.Nat.{_≤_, _<_};
 ghost use lib.ListN.{length};
 ghost use Rattle.coding.specs.Codec.{all, writeAll};
-ghost use Rattle.coding.specs.Written.{Wrote};
+ghost use Rattle.coding.specs.Written.{Wrote, Room};
 ghost use Rattle.types.specs.Entries.{unit, unitAt, unitList};
 ghost use Rattle.types.specs.Arguments.{chargeOf};
-ghost use Rattle.write_figures.specs.Fine.{laid, figureFine, unitsFine, ratesFine, entriesFine};
+ghost use Rattle.write_tests.specs.Fine.{laid, figureFine, unitsFine, ratesFine, entriesFine};
 ghost use Rattle.write_lists.specs.Octets.{numberOctets, typeOctets, withList, unitsCharge, ratesCharge};
 
 // ---- an entry of units
@@ -34,7 +34,7 @@ fn unit_fine(u: Units) -> bool
         return false;
     }
     if u.known == 1 {
-        return u.number <= 16777215;
+        return u.number <= types::MOST;
     }
     if u.known != 0 {
         return false;
@@ -72,7 +72,7 @@ fn unit_size(u: Units) -> usize
 }
 
 fn put_number(buf: &mut [u8], at: usize, u: Units) -> usize
-    requires { ⌜ at + length (numberOctets u) ≤ length (now buf) ⌝ }
+    requires { ⌜ Room (now buf) at (numberOctets u) ⌝ }
     ensures { λ r. ⌜ Wrote (now (buf .entry)) (now (buf .exit)) at (numberOctets u) r ⌝ }
 {
     if u.known == 1 {
@@ -82,7 +82,7 @@ fn put_number(buf: &mut [u8], at: usize, u: Units) -> usize
 }
 
 fn put_type(buf: &mut [u8], at: usize, u: Units) -> usize
-    requires { ⌜ (u .kind < 128) × (at + length (typeOctets u) ≤ length (now buf)) ⌝ }
+    requires { ⌜ (u .kind < 128) × Room (now buf) at (typeOctets u) ⌝ }
     ensures { λ r. ⌜ Wrote (now (buf .entry)) (now (buf .exit)) at (typeOctets u) r ⌝ }
 {
     if u.kind == 0 {
@@ -93,7 +93,7 @@ fn put_type(buf: &mut [u8], at: usize, u: Units) -> usize
 
 fn put_unit(buf: &mut [u8], at: usize, u: Units) -> usize
     requires { ⌜ unit .valid u ≡ true ⌝ }
-    requires { ⌜ at + length (unit .write u) ≤ length (now buf) ⌝ }
+    requires { ⌜ Room (now buf) at (unit .write u) ⌝ }
     ensures { λ r. ⌜ Wrote (now (buf .entry)) (now (buf .exit)) at (unit .write u) r ⌝ }
 {
     let n = number_size(u) + type_size(u);
@@ -157,7 +157,7 @@ fn units_size(numbers: &[u32; 32], octets: &[u8; 192], n: usize) -> usize
 fn put_units(buf: &mut [u8], at: usize, numbers: &[u32; 32], octets: &[u8; 192], n: usize) -> usize
     requires { ⌜ n ≤ 32 ⌝ }
     requires { ⌜ all (unit .valid) (unitList (laid (now numbers) (now octets)) n) ≡ true ⌝ }
-    requires { ⌜ at + length (writeAll (unit .write) (unitList (laid (now numbers) (now octets)) n)) ≤ length (now buf) ⌝ }
+    requires { ⌜ Room (now buf) at (writeAll (unit .write) (unitList (laid (now numbers) (now octets)) n)) ⌝ }
     ensures { λ r. ⌜ Wrote (now (buf .entry)) (now (buf .exit)) at (writeAll (unit .write) (unitList (laid (now (numbers .entry)) (now (octets .entry))) n)) r ⌝ }
 {
     let mut p = at;
@@ -186,7 +186,7 @@ fn entries_fine(f: Figure, numbers: &[u32; 32], octets: &[u8; 192]) -> bool
     if f.count != 0 {
         return false;
     }
-    write_figures::no_entries(numbers, octets)
+    write_tests::no_entries(numbers, octets)
 }
 
 // Whether a charge may be written as the argument or result of an operation.
@@ -203,7 +203,7 @@ pub fn charge_fine(
     requires { ⌜ (length (now numbers) ≡ 32) × (length (now octets) ≡ 192) ⌝ }
     ensures { λ r. ⌜ r ≡ (chargeOf operation) .valid (withList f (now (numbers .entry)) (now (octets .entry))) ⌝ }
 {
-    if !write_figures::parts_fine(f, currency, digits, operation) {
+    if !write_tests::parts_fine(f, currency, digits, operation) {
         return false;
     }
     entries_fine(f, numbers, octets)
@@ -238,7 +238,7 @@ fn put_units_charge(
 ) -> usize
     requires { ⌜ (figureFine operation f ≡ true) × (unitsFine (laid (now numbers) (now octets)) (f .count) ≡ true) ⌝ }
     requires { ⌜ length (unitsCharge operation f (laid (now numbers) (now octets))) ≤ 254 ⌝ }
-    requires { ⌜ at + length (unitsCharge operation f (laid (now numbers) (now octets))) ≤ length (now buf) ⌝ }
+    requires { ⌜ Room (now buf) at (unitsCharge operation f (laid (now numbers) (now octets))) ⌝ }
     ensures { λ r. ⌜ Wrote (now (buf .entry)) (now (buf .exit)) at (unitsCharge operation f (laid (now (numbers .entry)) (now (octets .entry)))) r ⌝ }
 {
     let n = f.count as usize;
@@ -259,7 +259,7 @@ fn put_rates_charge(
     requires { ⌜ length (now octets) ≡ 192 ⌝ }
     requires { ⌜ ratesFine (laid (now numbers) (now octets)) count ≡ true ⌝ }
     requires { ⌜ length (ratesCharge (laid (now numbers) (now octets)) count) ≤ 254 ⌝ }
-    requires { ⌜ at + length (ratesCharge (laid (now numbers) (now octets)) count) ≤ length (now buf) ⌝ }
+    requires { ⌜ Room (now buf) at (ratesCharge (laid (now numbers) (now octets)) count) ⌝ }
     ensures { λ r. ⌜ Wrote (now (buf .entry)) (now (buf .exit)) at (ratesCharge (laid (now (numbers .entry)) (now (octets .entry))) count) r ⌝ }
 {
     let n = count as usize;
@@ -281,7 +281,7 @@ pub fn put_charge(
     requires { ⌜ length (now octets) ≡ 192 ⌝ }
     requires { ⌜ (chargeOf operation) .valid (withList f (now numbers) (now octets)) ≡ true ⌝ }
     requires { ⌜ length ((chargeOf operation) .write (withList f (now numbers) (now octets))) ≤ 254 ⌝ }
-    requires { ⌜ at + length ((chargeOf operation) .write (withList f (now numbers) (now octets))) ≤ length (now buf) ⌝ }
+    requires { ⌜ Room (now buf) at ((chargeOf operation) .write (withList f (now numbers) (now octets))) ⌝ }
     ensures { λ r. ⌜ Wrote (now (buf .entry)) (now (buf .exit)) at ((chargeOf operation) .write (withList f (now (numbers .entry)) (now (octets .entry)))) r ⌝ }
 {
     if f.kind == 3 {

@@ -1,3 +1,4 @@
+pub mod Three
 pub mod Tables
 pub mod Places
 pub mod Prices

@@ -1,84 +1,125 @@
 -- Lists in rows: loops over the entries of a table, and arrays that hold the rows of a table and zeros after them.
--- Assumes nothing.
-use Prim.Native.Nat.{ℕ, zero, suc, _+_, _-_, _*_, _≤_, _<_}
-use mathlib.Core.Path.{_≡_, refl, sym, ap, ap₂, _∙_}
-use mathlib.Core.List.{List, [], _∷_, _++_, append-nil, append-assoc}
-use mathlib.Core.Bool.{Bool, true, false, not, _&&_}
-use native.Mathlib.Omega.{arith}
-use native.Mathlib.Nat.{mul-zero, mul-suc}
-use native.Mathlib.Numerals.{add-one}
-use lib.ListN.{length, getD, take, drop, replicate, length-append, length-drop, take-append-drop}
-use lib.Seq.{take-add, drop-cons, length-take-le, getD-drop}
-use lib.Dec.{ltb, eqb}
-use borrow.Author.Tests.{eq-eqb, le-leb, lt-leb, lt-ltb, not-true, not-false}
-use Rattle.coding.specs.Codec.{Run, all, writeAll, some·more, sameList, pad}
-use Rattle.coding.specs.Written.{Wrote}
-use Rattle.coding.specs.Rows.{rows, table}
-use Rattle.coding.proofs.Basic.{and-left, and-right, and-both, and-no}
-use Rattle.coding.proofs.Writing.{wrote-as, wrote-both}
-use Rattle.coding.proofs.Rows.{table-length, table-more, rows-append}
-use Rattle.coding.proofs.Tests.{and-false}
-use Rattle.write_figures.proofs.Tests.{zeros-more, zeros-whole}
+use Rattle.prelude.proofs.Prelude.{ℕ, zero, suc, _+_, _-_, _*_, _≤_, _<_, _≡_, refl, sym, ap, ap₂, _∙_, List, [], _∷_, _++_, append-nil, append-assoc, Bool, true, false, not, _&&_, arith}
+use Rattle.prelude.proofs.Prelude.{mul-zero, mul-suc, add-one, length, getD, take, drop, replicate, length-append, length-drop, take-append-drop, take-add, drop-cons, drop-length}
+use Rattle.prelude.proofs.Prelude.{length-take-le, getD-drop, ltb, leb, eqb, eq-eqb, ne-eqb, leb-true, ltb-true, ltb-false, not-true, not-false}
+use Rattle.coding.{specs.Codec.Run, specs.Codec.all, specs.Codec.writeAll, specs.Codec.some·more, specs.Codec.sameList, specs.Codec.pad, specs.Written.Wrote, specs.Written.Room}
+use Rattle.coding.{specs.Rows.rows, specs.Rows.table, proofs.Basic.and-left, proofs.Basic.and-right, proofs.Writing.wrote-as, proofs.Writing.wrote-both, proofs.Writing.wrote-next}
+use Rattle.coding.{proofs.Writing.wrote-none, proofs.Writing.Split, proofs.Writing.split, proofs.Writing.room-first, proofs.Writing.room-rest, proofs.Rows.table-length}
+use Rattle.coding.{proofs.Rows.table-more, proofs.Rows.rows-append, proofs.Tests.and-false}
+use Rattle.write_tests.{proofs.Tests.zeros-more, proofs.Tests.zeros-whole, specs.Fine.laid}
 use Rattle.types.specs.Arguments.{sameEntries}
-use Rattle.write_figures.specs.Fine.{laid}
 use Rattle.write_rates.specs.Arrays.{zeroPast, unusedZero}
 
--- ---- a loop that tests the entries: x is entry i, taken out of the arrays
+-- ---- the entries from i on
 
-module _ {A : Type 0} (p : A → Bool) where
-  all-end : (xs : List A) (x : A) → all p xs ≡ true → p x ≡ true → all p (xs ++ (x ∷ [])) ≡ true
-  all-end [] x v e = and-both (p x) true e refl
-  all-end (y ∷ xs) x v e = and-both (p y) _ (and-left (p y) (all p xs) v) (all-end xs x (and-right (p y) (all p xs) v) e)
-
-  pub all-more : (g : ℕ → A) (i : ℕ) {x : A} {b : Bool} → x ≡ g i → b ≡ p x → not b ≡ false → all p (table i g) ≡ true → all p (table (i + 1) g) ≡ true
-  all-more g i {x} {b} e f t v =
-      ap (λ (k : ℕ). all p (table k g)) (add-one i) ∙ ap (all p) (table-more i g) ∙ all-end (table i g) (g i) v (ap p (sym e) ∙ sym f ∙ not-false b t)
-
-  stops : (n : ℕ) (g : ℕ → A) (i : ℕ) → i < n → p (g i) ≡ false → all p (table n g) ≡ false
+module _ {A : Type 0} where
+  table-get : (n : ℕ) (g : ℕ → A) (z : A) (i : ℕ) → i < n → getD (table n g) i z ≡ g i
   unfolding table
-  stops zero g i h e = absurd (omega arith)
-  stops (suc n) g zero h e = ap (λ (t : Bool). t && all p (table n (λ i. g (suc i)))) e
-  stops (suc n) g (suc i) h e = and-no (p (g 0)) _ (stops n (λ i. g (suc i)) i (omega arith) e)
+  table-get zero g z i h = absurd (omega arith)
+  table-get (suc n) g z zero h = refl
+  table-get (suc n) g z (suc i) h = table-get n (λ j. g (suc j)) z i (omega arith)
 
-  pub all-stop : (n : ℕ) (g : ℕ → A) (i : ℕ) {x : A} {b : Bool} → x ≡ g i → b ≡ p x → not b ≡ true → i < n → false ≡ all p (table n g)
-  all-stop n g i {x} {b} e f t h = sym (stops n g i h (ap p (sym e) ∙ sym f ∙ not-true b t))
+  rest-more : (n : ℕ) (g : ℕ → A) (i : ℕ) {x : A} → i < n → x ≡ g i → drop i (table n g) ≡ x ∷ drop (i + 1) (table n g)
+  rest-more n g i {x} h e =
+      drop-cons (table n g) i x (omega (arith, table-length n g)) ∙ ap₂ (λ (y : A) (k : ℕ). y ∷ drop k (table n g)) (table-get n g x i h ∙ sym e) (sym (add-one i))
 
-  passes : (n : ℕ) (g : ℕ → A) (i : ℕ) → i < n → all p (table n g) ≡ true → p (g i) ≡ true
-  unfolding table
-  passes zero g i h v = absurd (omega arith)
-  passes (suc n) g zero h v = and-left (p (g 0)) _ v
-  passes (suc n) g (suc i) h v = passes n (λ i. g (suc i)) i (omega arith) (and-right (p (g 0)) _ v)
+  rest-none : (n : ℕ) (g : ℕ → A) (i : ℕ) → i ≤ n → (i < n → ⊥) → drop i (table n g) ≡ []
+  rest-none n g i m h = let e : i ≡ length (table n g) = omega (arith, table-length n g) in rw e (drop-length (table n g))
 
-  -- an entry of a list that passes, passes
-  pub all-at : (n : ℕ) (g : ℕ → A) (i : ℕ) {x : A} → x ≡ g i → i < n → all p (table n g) ≡ true → p x ≡ true
-  all-at n g i e h v = ap p e ∙ passes n g i h v
+-- ---- loops over n entries, of which i are done: x is entry i, taken out of the arrays
 
--- ---- a loop over the octets of the entries
+-- each is tested
+pub record Passing {A : Type 0} (p : A → Bool) (g : ℕ → A) (n i : ℕ) : Type 0 where
+  pub most : i ≤ n
+  pub same : all p (table n g) ≡ all p (drop i (table n g))
 
-module _ {A : Type 0} (w : A → List ℕ) where
-  written-append : (xs ys : List A) → writeAll w (xs ++ ys) ≡ writeAll w xs ++ writeAll w ys
-  written-append [] ys = refl
-  written-append (x ∷ xs) ys = ap (λ (l : List ℕ). w x ++ l) (written-append xs ys) ∙ sym (append-assoc (w x) (writeAll w xs) (writeAll w ys))
+module _ {A : Type 0} {p : A → Bool} {g : ℕ → A} {n : ℕ} where
+  pub passing-none : Passing p g n 0
+  passing-none = record { most = omega arith; same = refl }
 
-  written-more : (g : ℕ → A) (i : ℕ) {x : A} → x ≡ g i → writeAll w (table (i + 1) g) ≡ writeAll w (table i g) ++ w x
-  written-more g i {x} e =
-      ap (λ (k : ℕ). writeAll w (table k g)) (add-one i) ∙ ap (writeAll w) (table-more i g) ∙ written-append (table i g) (g i ∷ [])
-      ∙ ap (λ (l : List ℕ). writeAll w (table i g) ++ l) (append-nil (w (g i)) ∙ ap w (sym e))
+  tested : {i : ℕ} {x : A} {b : Bool} → Passing p g n i → i < n → x ≡ g i → b ≡ p x → all p (table n g) ≡ b && all p (drop (i + 1) (table n g))
+  tested {i} l h e f = l .same ∙ ap (all p) (rest-more n g i h e) ∙ ap (λ (t : Bool). t && all p (drop (i + 1) (table n g))) (sym f)
 
-  pub size-more : (g : ℕ → A) (i : ℕ) {x : A} → x ≡ g i → length (writeAll w (table (i + 1) g)) ≡ length (writeAll w (table i g)) + length (w x)
-  size-more g i {x} e = ap length (written-more g i e) ∙ length-append (writeAll w (table i g)) (w x)
+  pub passing-more : {i : ℕ} {x : A} {b : Bool} → Passing p g n i → i < n → x ≡ g i → b ≡ p x → not b ≡ false → Passing p g n (i + 1)
+  passing-more {i} {x} {b} l h e f t = record { most = omega arith; same = tested l h e f ∙ rw (not-false b t) }
 
-  pub size-most : (g : ℕ → A) (i n : ℕ) → i ≤ n → length (writeAll w (table i g)) ≤ length (writeAll w (table n g))
-  unfolding table
-  size-most g zero n h = omega arith
-  size-most g (suc i) zero h = absurd (omega arith)
-  size-most g (suc i) (suc n) h =
-      let r : ℕ → A = λ j. g (suc j) in
-      omega (arith, length-append (w (g 0)) (writeAll w (table i r)), length-append (w (g 0)) (writeAll w (table n r)), size-most r i n (omega arith))
+  pub passing-stop : {i : ℕ} {x : A} {b : Bool} → Passing p g n i → i < n → x ≡ g i → b ≡ p x → not b ≡ true → false ≡ all p (table n g)
+  passing-stop {i} {x} {b} l h e f t = sym (tested l h e f ∙ rw (not-true b t))
 
-  pub wrote-more : {l m n : List ℕ} {a p q : ℕ} (g : ℕ → A) (i : ℕ) {x : A} → x ≡ g i → Wrote l m a (writeAll w (table i g)) p → Wrote m n p (w x) q
-      → Wrote l n a (writeAll w (table (i + 1) g)) q
-  wrote-more g i e y z = wrote-as (sym (written-more g i e)) (wrote-both y z)
+  pub passing-done : {i : ℕ} → Passing p g n i → (i < n → ⊥) → true ≡ all p (table n g)
+  passing-done {i} l h = sym (l .same ∙ ap (all p) (rest-none n g i (l .most) h))
+
+-- each is valid: those from i on are
+pub record Left {A : Type 0} (f : Run A) (g : ℕ → A) (n i : ℕ) : Type 0 where
+  pub most : i ≤ n
+  pub valid : all (f .valid) (drop i (table n g)) ≡ true
+
+module _ {A : Type 0} {f : Run A} {g : ℕ → A} {n i : ℕ} {x : A} (l : Left f g n i) (h : i < n) (e : x ≡ g i) where
+  both : f .valid x && all (f .valid) (drop (i + 1) (table n g)) ≡ true
+  both = ap (all (f .valid)) (sym (rest-more n g i h e)) ∙ l .valid
+
+  pub left-valid : f .valid x ≡ true
+  left-valid = and-left (f .valid x) _ both
+
+  left-more : Left f g n (i + 1)
+  left-more = record { most = omega arith; valid = and-right (f .valid x) _ both }
+
+-- their sizes are added up, each at most `each`
+pub record Sizing {A : Type 0} (f : Run A) (each : ℕ) (g : ℕ → A) (n size i : ℕ) : Type 0 where
+  pub left : Left f g n i
+  pub few : size ≤ each * i
+  pub counted : length (writeAll (f .write) (table n g)) ≡ size + length (writeAll (f .write) (drop i (table n g)))
+
+module _ {A : Type 0} {f : Run A} {each : ℕ} {g : ℕ → A} {n : ℕ} where
+  pub sizing-none : all (f .valid) (table n g) ≡ true → Sizing f each g n 0 0
+  sizing-none v = record { left = record { most = omega arith; valid = v }; few = omega arith; counted = omega arith }
+
+  pub sizing-more : {size i k : ℕ} {x : A} → Sizing f each g n size i → i < n → x ≡ g i → (k ≡ length (f .write x)) × (k ≤ each) → Sizing f each g n (size + k) (i + 1)
+  sizing-more {size} {i} {k} {x} l h e q = record {
+    left = left-more (l .left) h e;
+    few = omega (arith, l .few, q .1);
+    counted = omega (
+      arith,
+      l .counted,
+      q .0,
+      ap (λ (xs : List A). length (writeAll (f .write) xs)) (rest-more n g i h e),
+      length-append (f .write x) (writeAll (f .write) (drop (i + 1) (table n g))),
+    );
+  }
+
+  pub sizing-done : {size i : ℕ} → Sizing f each g n size i → (i < n → ⊥) → size ≡ length (writeAll (f .write) (table n g))
+  sizing-done {size} {i} l h = omega (arith, l .counted, ap (λ (xs : List A). length (writeAll (f .write) xs)) (rest-none n g i (l .left .most) h))
+
+-- they are written one after the other
+pub record Putting {A : Type 0} (f : Run A) (g : ℕ → A) (n : ℕ) (l m : List ℕ) (a p i : ℕ) : Type 0 where
+  pub left : Left f g n i
+  pub done : List ℕ
+  pub wrote : Wrote l m a done p
+  pub parts : Split (writeAll (f .write) (table n g)) done (writeAll (f .write) (drop i (table n g)))
+
+module _ {A : Type 0} {f : Run A} {g : ℕ → A} {n : ℕ} {l : List ℕ} {a : ℕ} where
+  pub putting-none : all (f .valid) (table n g) ≡ true → Putting f g n l l a a 0
+  putting-none v = record { left = record { most = omega arith; valid = v }; done = []; wrote = wrote-next (omega arith) (wrote-none l a); parts = split [] _ }
+
+  pub putting-room : {m : List ℕ} {p i : ℕ} {x : A} → Putting f g n l m a p i → Room l a (writeAll (f .write) (table n g)) → i < n → x ≡ g i → Room m p (f .write x)
+  putting-room {i} {x} t r h e =
+      room-first (record { parts = ap (writeAll (f .write)) (rest-more n g i h e) }) (room-rest (t .parts) r (t .wrote))
+
+  pub putting-more : {m k : List ℕ} {p q i : ℕ} {x : A} → Putting f g n l m a p i → i < n → x ≡ g i → Wrote m k p (f .write x) q → Putting f g n l k a q (i + 1)
+  putting-more {i} {x} t h e y = record {
+    left = left-more (t .left) h e;
+    done = t .done ++ f .write x;
+    wrote = wrote-both (t .wrote) y;
+    parts = record {
+      parts =
+          t .parts .parts ∙ ap (λ (xs : List A). t .done ++ writeAll (f .write) xs) (rest-more n g i h e)
+          ∙ sym (append-assoc (t .done) (f .write x) (writeAll (f .write) (drop (i + 1) (table n g))));
+    };
+  }
+
+  pub putting-done : {m : List ℕ} {p i : ℕ} → Putting f g n l m a p i → (i < n → ⊥) → Wrote l m a (writeAll (f .write) (table n g)) p
+  putting-done {i} t h =
+      wrote-as (sym (t .parts .parts ∙ ap (λ (xs : List A). t .done ++ writeAll (f .write) xs) (rest-none n g i (t .left .most) h) ∙ append-nil (t .done))) (t .wrote)
 
 -- ---- arrays
 
@@ -94,17 +135,20 @@ past-same n m a e h =
     ap₂ (λ (k : ℕ) (t : List ℕ). sameList eqb (take m a ++ replicate k 0) t) l (sym (take-append-drop m a))
     ∙ same-append (take m a) (replicate (length a - m) 0) (drop m a)
 
--- a loop that tests whether all is zero past the first m places: j of those are tested
-abbrev pub ZeroTo : ℕ → List ℕ → ℕ → Bool → Type 0
-ZeroTo m a j b = b ≡ sameList eqb (replicate j 0) (take j (drop m a))
+-- a loop that tests whether all of n places is zero past the first m: j of those are tested
+pub record Clear (m n : ℕ) (a : List ℕ) (j : ℕ) (b : Bool) : Type 0 where
+  pub most : j ≤ n - m
+  pub same : b ≡ sameList eqb (replicate j 0) (take j (drop m a))
 
-module _ (m n : ℕ) (a : List ℕ) (e : length a ≡ n) where
-  pub zero-more : (j : ℕ) (b r : Bool) → j < n - m → ZeroTo m a j b → r ≡ b && eqb 0 (getD a (m + j) 0) → ZeroTo m a (j + 1) r
-  zero-more j b r h z q =
-      zeros-more (drop m a) j b r (omega (arith, e, length-drop m a)) z (q ∙ ap (λ (x : ℕ). b && eqb 0 x) (sym (getD-drop m a j 0)))
+module _ {m n : ℕ} {a : List ℕ} {j : ℕ} {b : Bool} where
+  pub clear-more : {x : ℕ} {r : Bool} → Clear m n a j b → length a ≡ n → j < n - m → r ≡ b && eqb 0 x → x ≡ getD a (m + j) 0 → Clear m n a (j + 1) r
+  clear-more {x} {r} z e h q i = record {
+    most = omega arith;
+    same = zeros-more (drop m a) j b r (omega (arith, e, length-drop m a)) (z .same) (q ∙ ap (λ (y : ℕ). b && eqb 0 y) (i ∙ sym (getD-drop m a j 0)));
+  }
 
-  pub zero-done : (j : ℕ) (b : Bool) → j ≡ n - m → ZeroTo m a j b → b ≡ zeroPast m a
-  zero-done j b h z = zeros-whole (drop m a) j (length a - m) b (omega (arith, e)) (length-drop m a) z
+  pub clear-done : Clear m n a j b → length a ≡ n → (j < n - m → ⊥) → b ≡ zeroPast m a
+  clear-done z e h = zeros-whole (drop m a) j (length a - m) b (omega (arith, e, z .most)) (length-drop m a) (z .same)
 
 -- k places of an array from a place on
 unfoldable pub picks : ℕ → ℕ → List ℕ → List ℕ
@@ -138,25 +182,20 @@ module _ {A : Type 0} (f : Run A) (most k j : ℕ) (low small : A → List ℕ) 
   abbrev RowsSame : ℕ → Bool
   RowsSame n = sameEntries (laid (pad 32 0 (rows low (table n g))) (pad 192 0 (rows small (table n g)))) (laid numbers octets)
 
-  abbrev ListFine : ℕ → Bool
-  ListFine n = RowsSame n && (some·more 0x30 most f) .valid (table n g)
-
-  pub list-none : (n : ℕ) → n ≡ 0 → ListFine n ≡ false
-  unfolding some·more
-  list-none n e = let z : (some·more 0x30 most f) .valid (table n g) ≡ false = rw (table-length n g, e) in and-no (RowsSame n) _ z
-
-  pub list-over : (n : ℕ) → most < n → ListFine n ≡ false
-  unfolding some·more
-  list-over n h =
-      let z : (some·more 0x30 most f) .valid (table n g) ≡ false = rw (table-length n g, lt-leb n most h) (and-false (ltb 0 n)) in
-      and-no (RowsSame n) _ z
-
   -- the used rows hold the entries by themselves, so the rest must be zero, and the entries valid
-  pub list-fine : (n p q : ℕ) → 1 ≤ n → n ≤ most → k * n ≡ p → j * n ≡ q → length numbers ≡ 32 → length octets ≡ 192 → p ≤ 32 → q ≤ 192
-      → ((i : ℕ) → i < n → low (g i) ≡ take k (drop (k * i) numbers)) → ((i : ℕ) → i < n → small (g i) ≡ take j (drop (j * i) octets))
-      → ListFine n ≡ unusedZero numbers octets p q && all (f .valid) (table n g)
+  pub list-fine : (n p q : ℕ) → k * n ≡ p → j * n ≡ q → length numbers ≡ 32 → length octets ≡ 192 → (n ≤ most → (p ≤ 32) × (q ≤ 192))
+      → ((i : ℕ) → i < most → low (g i) ≡ take k (drop (k * i) numbers)) → ((i : ℕ) → i < most → small (g i) ≡ take j (drop (j * i) octets))
+      → RowsSame n && (some·more 0x30 most f) .valid (table n g) ≡ not (eqb n 0) && (leb n most && (unusedZero numbers octets p q && all (f .valid) (table n g)))
   unfolding some·more
-  list-fine n p q o h ep eq ln lo hp hq rn ro =
-      ap₂ (λ (x y : Bool). x && y)
-      (ap₂ (λ (x y : Bool). x && y) (rows-same low k numbers g 32 n p ln ep hp rn) (rows-same small j octets g 192 n q lo eq hq ro))
-      (rw (table-length n g, lt-ltb 0 n (omega arith), le-leb n most h))
+  list-fine n p q ep eq ln lo room rn ro = rw (table-length n g) (go (ltb 0 n) (leb n most) refl refl)
+    where
+      go : (a b : Bool) → ltb 0 n ≡ a → leb n most ≡ b
+          → RowsSame n && (a && (b && all (f .valid) (table n g))) ≡ not (eqb n 0) && (b && (unusedZero numbers octets p q && all (f .valid) (table n g)))
+      go false b x y = and-false (RowsSame n) ∙ rw (eq-eqb n 0 (omega (arith, ltb-false 0 n x)))
+      go true false x y = and-false (RowsSame n) ∙ rw (ne-eqb n 0 (λ z. omega (arith, ltb-true 0 n x)))
+      go true true x y =
+          let h = leb-true n most y in
+          ap₂ (λ (s t : Bool). s && t)
+          (ap₂ (λ (s t : Bool). s && t) (rows-same low k numbers g 32 n p ln ep (room h .0) (λ i l. rn i (omega (arith, h))))
+          (rows-same small j octets g 192 n q lo eq (room h .1) (λ i l. ro i (omega (arith, h))))) refl
+          ∙ rw (ne-eqb n 0 (λ z. omega (arith, ltb-true 0 n x)))

@@ -8,9 +8,9 @@ ghost use mathlib.Core.Bool.{true};
 ghost use Prim.Native.Nat.{_+_, _≤_, _<_};
 ghost use lib.ListN.{length, getD, take, drop};
 ghost use Rattle.coding.specs.Codec.{all, writeAll};
-ghost use Rattle.coding.specs.Written.{Wrote};
+ghost use Rattle.coding.specs.Written.{Wrote, Room};
 ghost use Rattle.types.specs.Rates.{moneyOf, rate, rateAt, rateList};
-ghost use Rattle.write_figures.specs.Fine.{laid, ratesFine};
+ghost use Rattle.write_tests.specs.Fine.{laid, ratesFine};
 ghost use Rattle.write_rates.specs.Arrays.{zeroPast, unusedZero};
 ghost use Rattle.write_rates.specs.Prices.{detailFine, unstepped, stepFine, timesFine, amountFine, stepOctets, termOctets, pricedOctets, priceOctets};
 
@@ -24,7 +24,7 @@ fn numbers_zero(numbers: &[u32; 32], n: usize) -> bool
     let mut clear = true;
     let mut j = 0;
     while j < 32 - n {
-        clear = write_figures::still(clear, numbers[n + j]);
+        clear = write_tests::still(clear, numbers[n + j]);
         j += 1;
     }
     clear
@@ -38,7 +38,7 @@ fn octets_zero(octets: &[u8; 192], n: usize) -> bool
     let mut clear = true;
     let mut j = 0;
     while j < 192 - n {
-        clear = write_figures::still(clear, write_figures::wide32(octets[n + j]));
+        clear = write_tests::still(clear, write_tests::wide32(octets[n + j]));
         j += 1;
     }
     clear
@@ -152,7 +152,7 @@ fn step_fine(r: Rate) -> bool
     ensures { λ b. ⌜ b ≡ stepFine r ⌝ }
 {
     if r.stepped == 1 {
-        return write_figures::scaled_fine(Scaled {
+        return write_tests::scaled_fine(Scaled {
             number: r.step,
             scale: r.stepscale,
         });
@@ -165,7 +165,7 @@ fn times_fine(r: Rate) -> bool
     ensures { λ b. ⌜ b ≡ timesFine r ⌝ }
 {
     if r.kind == 1 {
-        if !write_figures::scaled_fine(Scaled {
+        if !write_tests::scaled_fine(Scaled {
             number: r.time,
             scale: r.scale,
         }) {
@@ -190,9 +190,9 @@ fn amount_fine(r: Rate) -> bool
     let currency = m.currency;
     let octets = currency.octets;
     if r.kind <= 3 {
-        return write_figures::money_fine(m);
+        return write_tests::money_fine(m);
     }
-    write_figures::no_money(m, &octets)
+    write_tests::no_money(m, &octets)
 }
 
 fn rate_fine(r: Rate) -> bool
@@ -278,7 +278,7 @@ fn rate_size(r: Rate) -> usize
 }
 
 fn put_step(buf: &mut [u8], at: usize, r: Rate) -> usize
-    requires { ⌜ (rate .valid r ≡ true) × (at + length (stepOctets r) ≤ length (now buf)) ⌝ }
+    requires { ⌜ (rate .valid r ≡ true) × Room (now buf) at (stepOctets r) ⌝ }
     ensures { λ n. ⌜ Wrote (now (buf .entry)) (now (buf .exit)) at (stepOctets r) n ⌝ }
 {
     let t = Scaled {
@@ -292,7 +292,7 @@ fn put_step(buf: &mut [u8], at: usize, r: Rate) -> usize
 }
 
 fn put_terms(buf: &mut [u8], at: usize, r: Rate) -> usize
-    requires { ⌜ (rate .valid r ≡ true) × (at + length (termOctets r) ≤ length (now buf)) ⌝ }
+    requires { ⌜ (rate .valid r ≡ true) × Room (now buf) at (termOctets r) ⌝ }
     ensures { λ n. ⌜ Wrote (now (buf .entry)) (now (buf .exit)) at (termOctets r) n ⌝ }
 {
     let t = Scaled {
@@ -311,7 +311,7 @@ fn put_terms(buf: &mut [u8], at: usize, r: Rate) -> usize
 }
 
 fn put_priced(buf: &mut [u8], at: usize, r: Rate) -> usize
-    requires { ⌜ (rate .valid r ≡ true) × (r .kind ≤ 3) × (at + length (priceOctets r) ≤ length (now buf)) ⌝ }
+    requires { ⌜ (rate .valid r ≡ true) × (r .kind ≤ 3) × Room (now buf) at (priceOctets r) ⌝ }
     ensures { λ n. ⌜ Wrote (now (buf .entry)) (now (buf .exit)) at (priceOctets r) n ⌝ }
 {
     let m = money_of(r);
@@ -322,7 +322,7 @@ fn put_priced(buf: &mut [u8], at: usize, r: Rate) -> usize
 }
 
 fn put_price(buf: &mut [u8], at: usize, r: Rate) -> usize
-    requires { ⌜ (rate .valid r ≡ true) × (at + length (priceOctets r) ≤ length (now buf)) ⌝ }
+    requires { ⌜ (rate .valid r ≡ true) × Room (now buf) at (priceOctets r) ⌝ }
     ensures { λ n. ⌜ Wrote (now (buf .entry)) (now (buf .exit)) at (priceOctets r) n ⌝ }
 {
     if r.kind <= 3 {
@@ -338,7 +338,7 @@ fn put_price(buf: &mut [u8], at: usize, r: Rate) -> usize
 }
 
 fn put_rate(buf: &mut [u8], at: usize, r: Rate) -> usize
-    requires { ⌜ (rate .valid r ≡ true) × (at + length (rate .write r) ≤ length (now buf)) ⌝ }
+    requires { ⌜ (rate .valid r ≡ true) × Room (now buf) at (rate .write r) ⌝ }
     ensures { λ n. ⌜ Wrote (now (buf .entry)) (now (buf .exit)) at (rate .write r) n ⌝ }
 {
     let n = price_size(r);
@@ -408,7 +408,7 @@ pub fn put_rates(
 ) -> usize
     requires { ⌜ (n ≤ 10) × (length (now octets) ≡ 192) ⌝ }
     requires { ⌜ all (rate .valid) (rateList (laid (now numbers) (now octets)) n) ≡ true ⌝ }
-    requires { ⌜ at + length (writeAll (rate .write) (rateList (laid (now numbers) (now octets)) n)) ≤ length (now buf) ⌝ }
+    requires { ⌜ Room (now buf) at (writeAll (rate .write) (rateList (laid (now numbers) (now octets)) n)) ⌝ }
     ensures { λ r. ⌜ Wrote (now (buf .entry)) (now (buf .exit)) at (writeAll (rate .write) (rateList (laid (now (numbers .entry)) (now (octets .entry))) n)) r ⌝ }
 {
     let mut p = at;

@@ -1,10 +1,6 @@
-use mathlib.Core.Path.{ap, _∙_}
-use mathlib.Core.Bool.{not}
-use borrow.Author.Needs.{needs}
-use lib.Dec.{eqb}
+use Rattle.prelude.proofs.Prelude.{ap, _∙_, not, needs, eqb}
 use Rattle.write.specs.declared.Written.{Written}
-use Rattle.closing.proofs.Asked.{asked}
-use Rattle.closing.proofs.argument_fine.Statement.{statement}
+use Rattle.closing.proofs.{Asked.asked, argument_fine.Statement.statement}
 use Rattle.closing.proofs.argument_fine.Tie as tie
 
 returns : tie.Need-returns

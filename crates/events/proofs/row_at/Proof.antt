@@ -1,11 +1,6 @@
-use borrow.Author.Needs.{needs}
+use Rattle.prelude.proofs.Prelude.{needs}
 use Rattle.events.proofs.row_at.Statement.{statement}
 use Rattle.events.proofs.row_at.Tie as tie
-
-returns : tie.Need-returns
-returns c =
-    let set = c .before .before .before in
-    rw (set .before .before .kind-of .ensures, set .set-of .ensures)
 
 pub row-at-spec : {M : Type 1} → statement M
 row-at-spec =
@@ -16,4 +11,4 @@ row-at-spec =
     (search needs) (search needs) (search needs) (search needs)
     (search needs) (search needs) (search needs) (search needs)
     (search needs) (search needs) (search needs) (search needs)
-    returns)
+    (λ c. let set = c .before .before .before in rw (set .before .before .kind-of .ensures, set .set-of .ensures)))

@@ -1,11 +1,7 @@
-use native.Mathlib.Omega.{arith}
+use Rattle.prelude.proofs.Prelude.{arith, needs}
 use Rattle.facility.specs.Element.{elementOf}
-use borrow.Author.Needs.{needs}
 use Rattle.facility.proofs.element.Statement.{statement}
 use Rattle.facility.proofs.element.Tie as tie
-
-starts-from-requires : tie.Need-starts-from-requires
-starts-from-requires c κs = c .before .is-led .ensures .1 (c .if1 .taken)
 
 returns : tie.Need-returns
 unfolding elementOf
@@ -17,4 +13,4 @@ returns-2 c =
     (rw (← c .before .before .is-led .ensures .0, c .before .if1 .left) (c .refused .ensures), rw (c .refused .ensures) (omega arith))
 
 pub element-spec : {M : Type 1} → statement M
-element-spec = tie.close (tie.spec (search needs) starts-from-requires returns (search needs) returns-2)
+element-spec = tie.close (tie.spec (search needs) (λ c κs. c .before .is-led .ensures .1 (c .if1 .taken)) returns (search needs) returns-2)

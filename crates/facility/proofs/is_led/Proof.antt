@@ -1,14 +1,6 @@
-use native.Mathlib.Omega.{arith}
-use Prim.Native.Nat.{_<_}
-use native.Mathlib.Nat.{le-pred-of-lt}
-use mathlib.Core.Path.{sym, _∙_}
-use lib.ListN.{length}
-use mathlib.Core.Bool.{true≢false}
-use borrow.Author.Tests.{le-ltb, lt-ltb, eq-eqb, ne-eqb}
+use Rattle.prelude.proofs.Prelude.{arith, _<_, le-pred-of-lt, sym, _∙_, length, true≢false, le-ltb, lt-ltb, eq-eqb, ne-eqb, needs}
 use Rattle.facility.specs.Element.{led}
-use Rattle.facility.proofs.Tiling.{third-decides}
-use borrow.Author.Needs.{needs}
-use Rattle.facility.proofs.is_led.Statement.{statement}
+use Rattle.facility.proofs.{Tiling.third-decides, is_led.Statement.statement}
 use Rattle.facility.proofs.is_led.Tie as tie
 
 returns : tie.Need-returns

@@ -1,4 +1,4 @@
-use mathlib.Core.Path.{refl}
+use Rattle.prelude.proofs.Prelude.{refl}
 use Rattle.coding.specs.Codec.{pad}
 use Rattle.facility.proofs.refused.Statement.{statement}
 use Rattle.facility.proofs.refused.Tie as tie

@@ -1,10 +1,5 @@
-use Prim.Native.Nat.{ℕ, _-_}
-use native.Mathlib.Omega.{arith}
-use mathlib.Core.Path.{_≡_, refl, _∙_}
-use mathlib.Core.List.{List, [], _∷_, _++_}
-use lib.ListN.{length, length-append}
-use Rattle.coding.specs.Codec.{pad}
-use Rattle.coding.proofs.Arrays.{padded-more}
+use Rattle.prelude.proofs.Prelude.{ℕ, _-_, arith, _≡_, refl, _∙_, List, [], _∷_, _++_, length, length-append}
+use Rattle.coding.{specs.Codec.pad, proofs.Arrays.padded-more}
 use Rattle.facility.proofs.Tiling.{Laid, Tile-at, laid-start, laid-more, laid-done, laid-fault, tile-read}
 use Rattle.facility.proofs.starts_from.Statement.{statement}
 use Rattle.facility.proofs.starts_from.Tie as tie

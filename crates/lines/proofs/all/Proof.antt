@@ -1,6 +1,5 @@
--- `lines::all` meets its contract. The measure is the counter.
--- Assumes nothing.
-use borrow.Author.Needs.{needs}
+-- The measure is the counter.
+use Rattle.prelude.proofs.Prelude.{needs}
 use Rattle.lines.proofs.all.Statement.{statement}
 use Rattle.lines.proofs.all.Tie as tie
 

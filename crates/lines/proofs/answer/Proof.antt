@@ -1,12 +1,4 @@
--- `lines::answer` meets its contract.
--- Assumes nothing.
-use native.Mathlib.Omega.{arith}
-use borrow.Author.Needs.{needs}
-use mathlib.Core.Path.{_≡_, sym, _∙_}
-use mathlib.Core.Bool.{true, _||_}
-use lib.ListN.{length-take}
-use lib.Dec.{eqb}
-use borrow.Author.Tests.{lt-ltb, le-ltb, not-true, not-false}
+use Rattle.prelude.proofs.Prelude.{arith, needs, _≡_, sym, _∙_, true, _||_, length-take, eqb, lt-ltb, le-ltb, not-true, not-false}
 use Rattle.lines.specs.Machine.{answerText}
 use Rattle.lines.proofs.answer.Statement.{statement}
 use Rattle.lines.proofs.answer.Tie as tie
@@ -20,20 +12,12 @@ returns c =
 whole : (c : tie.Else1) → let l = c .before .before .before .args .l in (eqb (l .phase) 0 || eqb (l .phase) 3) ≡ true
 whole c = sym (c .before .is-whole .ensures) ∙ not-false _ (c .if1 .left)
 
-returns-2 : tie.Need-returns-2
-unfolding answerText
-returns-2 c =
-    let m = c .before .before in
-    (rw (whole (m .before), lt-ltb _ _ (m .if2 .taken)) (c .put-refused .ensures .0), omega (arith, c .put-refused .ensures .1))
-
-returns-3 : tie.Need-returns-3
-unfolding answerText
-returns-3 c =
-    let m = c .before .before .before in
-    (rw (whole (m .before), le-ltb _ _ (m .if2 .left)) (c .answer-to .ensures .0), c .answer-to .ensures .1)
-
 pub answer-spec : {M : Type 1} → statement M
 answer-spec =
     tie.close
-    (tie.spec (λ c κs. search needs) (λ c κs. search needs) returns (λ c κs. search needs) returns-2 (λ c. simp length-take (omega arith))
-    (λ c κs. search needs) returns-3)
+    (tie.spec (λ c κs. search needs) (λ c κs. search needs) returns (λ c κs. search needs)
+    (λ c. unfold answerText in let m = c .before .before in
+    (rw (whole (m .before), lt-ltb _ _ (m .if2 .taken)) (c .put-refused .ensures .0), omega (arith, c .put-refused .ensures .1)))
+    (λ c. simp length-take (omega arith)) (λ c κs. search needs)
+    (λ c. unfold answerText in let m = c .before .before .before in
+    (rw (whole (m .before), le-ltb _ _ (m .if2 .left)) (c .answer-to .ensures .0), c .answer-to .ensures .1)))

@@ -1,23 +1,12 @@
--- `lines::answer_to` meets its contract. A record that was read is valid and its shortest form is no longer than what was read, so the writer never refuses it.
--- Assumes nothing.
-use native.Mathlib.Omega.{arith}
-use borrow.Author.Needs.{needs}
+-- A record that was read is valid and its shortest form is no longer than what was read, so the writer never refuses it.
+use Rattle.prelude.proofs.Prelude.{arith, needs}
 use Rattle.coding.proofs.Writing.{wrote-as}
-use Rattle.lines.proofs.Replies.{Formed, number-below, reply-refused, formed}
-use Rattle.lines.proofs.answer_to.Statement.{statement}
+use Rattle.lines.proofs.{Replies.Formed, Replies.number-below, Replies.reply-refused, Replies.formed, answer_to.Statement.statement}
 use Rattle.lines.proofs.answer_to.Tie as tie
 
-put-refused-requires : tie.Need-put-refused-requires
-put-refused-requires c κs = (omega (arith, number-below _ _ (c .before .before .read .ensures)), omega arith)
-
-returns : tie.Need-returns
-returns c = (
-  wrote-as (reply-refused _ _ (c .before .before .before .read .ensures) (c .before .before .if1 .taken)) (c .put-refused .ensures .0),
-  omega (arith, c .put-refused .ensures .1),
-)
-
 -- what was read is written
-formed-at : (c : tie.After-write) → let e = c .before .before .before in Formed (e .before .before .before .args .octets .now) (c .write .result) (c .write .last .1 .0)
+formed-at : (c : tie.After-write) → let e = c .before .before .before in
+    Formed (e .before .before .before .args .octets .now) (c .write .result) (c .write .last .1 .0)
 formed-at c =
     let e = c .before .before .before in
     let r = e .before in
@@ -26,19 +15,11 @@ formed-at c =
 never : (c : tie.Then2) → ⊥
 never c = c .if2 .taken (formed-at (c .before .before) .accepted)
 
-put-octets-requires : tie.Need-put-octets-requires
-put-octets-requires c κs =
-    let w = c .before .before .before in
-    let f = formed-at (w .before .before) in
-    (f .inside, f .few, omega arith)
-
-returns-3 : tie.Need-returns-3
-returns-3 c =
-    let w = c .before .before .before in
-    (wrote-as (formed-at (w .before .before .before) .text) (c .put-octets .ensures .0), c .put-octets .ensures .1)
-
 pub answer-to-spec : {M : Type 1} → statement M
 answer-to-spec =
     tie.close
-    (tie.spec (λ c κs. search needs) put-refused-requires returns (λ c. search needs) (λ c κs. search needs) (λ c κs. absurd (never (c .before)))
-    (λ c. absurd (never (c .before .before))) (λ c. search needs) (λ c. search needs) put-octets-requires returns-3)
+    (tie.spec (λ c κs. search needs) (λ c κs. (omega (arith, number-below _ _ (c .before .before .read .ensures)), omega arith))
+    (λ c. (wrote-as (reply-refused _ _ (c .before .before .before .read .ensures) (c .before .before .if1 .taken)) (c .put-refused .ensures .0), omega (arith, c .put-refused .ensures .1)))
+    (λ c. search needs) (λ c κs. search needs) (λ c κs. absurd (never (c .before))) (λ c. absurd (never (c .before .before))) (λ c. search needs)
+    (λ c. search needs) (λ c κs. let w = c .before .before .before in let f = formed-at (w .before .before) in (f .inside, f .few, omega arith))
+    (λ c. let w = c .before .before .before in (wrote-as (formed-at (w .before .before .before) .text) (c .put-octets .ensures .0), c .put-octets .ensures .1)))

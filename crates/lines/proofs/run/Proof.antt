@@ -1,19 +1,9 @@
--- `lines::run` meets its contract. The loop's invariant: the characters passed have left what is at hand, and the answers to the lines that ended are put. The measure is what is left.
+-- The loop's invariant: the characters passed have left what is at hand, and the answers to the lines that ended are put. The measure is what is left.
 -- Where out has no more room, some answer was put, so some character was passed.
--- Assumes nothing.
-use native.Mathlib.Omega.{arith}
-use borrow.Author.Needs.{needs}
-use Prim.Native.Nat.{ℕ, _≤_, _*_, _-_}
-use mathlib.Core.Path.{_≡_, _∙_}
-use mathlib.Core.List.{List, [], _++_, append-nil, append-assoc}
-use lib.ListN.{length}
-use borrow.Author.Tests.{leb-true, leb-false}
-use Rattle.coding.specs.Reader.{part}
-use Rattle.coding.specs.Written.{Wrote}
-use Rattle.coding.proofs.Writing.{wrote-none, wrote-both}
+use Rattle.prelude.proofs.Prelude.{arith, needs, ℕ, _≤_, _*_, _-_, _≡_, _∙_, List, [], _++_, append-nil, append-assoc, length, leb-true, leb-false}
+use Rattle.coding.{specs.Reader.part, specs.Written.Wrote, proofs.Writing.wrote-none, proofs.Writing.wrote-both}
 use Rattle.lines.specs.Machine.{state, turns}
-use Rattle.lines.proofs.Steps.{turns-none, turns-both, heard-open, heard-ended}
-use Rattle.lines.proofs.run.Statement.{statement}
+use Rattle.lines.proofs.{Steps.turns-none, Steps.turns-both, Steps.heard-open, Steps.heard-ended, run.Statement.statement}
 use Rattle.lines.proofs.run.Tie as tie
 
 abbrev Inv-loop : tie.InvT-loop
@@ -24,9 +14,6 @@ Inv-loop s from octets₀ out₀ at₀ line₀ used₀ octets out at line used =
 
 abbrev μ-loop : tie.MeasureT-loop
 μ-loop s from octets₀ out₀ at₀ line₀ used₀ octets out at line used = length s - at
-
-loop-holds : tie.Need-loop-holds Inv-loop μ-loop
-loop-holds c = (omega arith, omega arith, omega arith, omega arith, [], wrote-none _ _, λ t. turns-none _ _ _ ∙ rw append-nil)
 
 -- the line that was taken, and the turn that it is taken in
 abbrev turn-of : tie.After-take-line Inv-loop μ-loop → tie.At-loop Inv-loop μ-loop
@@ -61,18 +48,11 @@ loop-again-2 c =
       λ t. turns-both _ _ _ _ _ (v .inv .1) (w .take-line .ensures .0 .onward) (v .inv .6 t) (heard-open _ _ _ _ _ _ (w .take-line .ensures .0) (c .if2 .left) _),
     )
 
-returns : tie.Need-returns Inv-loop μ-loop
-returns c =
-    let i = c .before .before .loop .inv in
-    record { onward = omega (arith, leb-false); inside = omega arith; room = omega arith; text = _; put = i .5; ran = i .6 }
-
-returns-2 : tie.Need-returns-2 Inv-loop μ-loop
-returns-2 c =
-    let i = c .before .loop .inv in
-    record { onward = omega arith; inside = omega arith; room = omega arith; text = _; put = i .5; ran = i .6 }
-
 pub run-spec : {M : Type 1} → statement M
 run-spec =
     tie.close
-    (tie.spec Inv-loop μ-loop loop-holds (λ c κs. search needs) (λ c κs. search needs) (λ c κs. search needs) (λ c. search needs) loop-again (λ c. search needs)
-    loop-again-2 returns returns-2)
+    (tie.spec Inv-loop μ-loop (λ c. (omega arith, omega arith, omega arith, omega arith, [], wrote-none _ _, λ t. turns-none _ _ _ ∙ rw append-nil))
+    (λ c κs. search needs) (λ c κs. search needs) (λ c κs. search needs) (λ c. search needs) loop-again (λ c. search needs) loop-again-2
+    (λ c. let i = c .before .before .loop .inv in
+    record { onward = omega (arith, leb-false); inside = omega arith; room = omega arith; text = _; put = i .5; ran = i .6 })
+    (λ c. let i = c .before .loop .inv in record { onward = omega arith; inside = omega arith; room = omega arith; text = _; put = i .5; ran = i .6 }))

@@ -1,8 +1,4 @@
--- `lines::written` meets its contract.
--- Assumes nothing.
-use native.Mathlib.Omega.{arith}
-use borrow.Author.Needs.{needs}
-use lib.ListN.{length-take}
+use Rattle.prelude.proofs.Prelude.{arith, needs, length-take}
 use Rattle.lines.proofs.written.Statement.{statement}
 use Rattle.lines.proofs.written.Tie as tie
 

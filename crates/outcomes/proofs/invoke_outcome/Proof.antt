@@ -1,11 +1,6 @@
-use mathlib.Core.Path.{_∙_, sym}
-use borrow.Author.Tests.{eq-eqb, ne-eqb}
-use borrow.Author.Needs.{needs}
+use Rattle.prelude.proofs.Prelude.{_∙_, sym, eq-eqb, ne-eqb, needs}
 use Rattle.outcomes.proofs.invoke_outcome.Statement.{statement}
 use Rattle.outcomes.proofs.invoke_outcome.Tie as tie
-
-returns : tie.Need-returns
-returns c = simp (eq-eqb _ _ (c .if1 .taken))
 
 returns-2 : tie.Need-returns-2
 returns-2 c =
@@ -29,6 +24,4 @@ returns-4 c =
     ) (c .figure-outcome .ensures)
 
 pub invoke-outcome-spec : {M : Type 1} → statement M
-invoke-outcome-spec =
-    tie.close
-    (tie.spec returns (search needs) (search needs) returns-2 returns-3 (search needs) returns-4)
+invoke-outcome-spec = tie.close (tie.spec (λ c. simp (eq-eqb _ _ (c .if1 .taken))) (search needs) (search needs) returns-2 returns-3 (search needs) returns-4)

@@ -1,18 +1,6 @@
-use borrow.Author.Tests.{ne-eqb}
+use Rattle.same_final.proofs.Ways.{ways}
 use Rattle.outcomes.proofs.settled.Statement.{statement}
 use Rattle.outcomes.proofs.settled.Tie as tie
 
-returns : tie.Need-returns
-returns c = rw (c .before .if1 .taken)
-
-returns-2 : tie.Need-returns-2
-returns-2 c = rw (c .before .if2 .taken)
-
-returns-3 : tie.Need-returns-3
-returns-3 c = rw (c .before .if3 .taken)
-
-returns-4 : tie.Need-returns-4
-returns-4 c = simp (ne-eqb _ _ (c .before .before .if1 .left), ne-eqb _ _ (c .before .if2 .left), ne-eqb _ _ (c .if3 .left))
-
 pub settled-spec : {M : Type 1} → statement M
-settled-spec = tie.close (tie.spec returns returns-2 returns-3 returns-4)
+settled-spec = tie.close (tie.spec (λ c. search ways) (λ c. search ways) (λ c. search ways) (λ c. search ways))

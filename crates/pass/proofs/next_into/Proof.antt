@@ -1,26 +1,9 @@
--- `pass::next_into` meets its contract: where a component was found, its answer is that of its octets by themselves.
-use native.Mathlib.Omega.{arith}
-use mathlib.Core.Path.{sym, ap, _∙_}
-use borrow.Author.Needs.{needs}
+-- Where a component was found, its answer is that of its octets by themselves.
+use Rattle.prelude.proofs.Prelude.{arith, sym, ap, _∙_, needs}
 use Rattle.coding.specs.Reader.{part}
 use Rattle.types.specs.declared.Answer.{Answer}
 use Rattle.pass.proofs.next_into.Statement.{statement}
 use Rattle.pass.proofs.next_into.Tie as tie
-
-returns : tie.Need-returns
-returns c =
-    let zeroed = c .before .before .before in
-    let i = zeroed .before .before in
-    c .without .ensures ∙ sym (i .before .find .ensures .0 (i .if1 .taken))
-
-sub-read-into : tie.Need-sub-read-into
-sub-read-into c = omega (arith, (c .before .find .ensures .1 (c .if1 .left)) .0)
-
-part-read-into-start : tie.Need-part-read-into-start
-part-read-into-start c = omega (arith, (c .before .find .ensures .1 (c .if1 .left)) .0)
-
-part-read-into-end : tie.Need-part-read-into-end
-part-read-into-end c = omega (arith, (c .before .find .ensures .1 (c .if1 .left)) .1)
 
 returns-2 : tie.Need-returns-2
 unfolding part
@@ -32,4 +15,9 @@ returns-2 c =
     ap (λ (a : Answer). record { ended = 0; after = f .result .after; answer = a }) (c .read-into .ensures) ∙ sym there
 
 pub next-into-spec : {M : Type 1} → statement M
-next-into-spec = tie.close (tie.spec (search needs) (search needs) returns sub-read-into part-read-into-start part-read-into-end (search needs) returns-2)
+next-into-spec =
+    tie.close
+    (tie.spec (search needs) (search needs)
+    (λ c. let zeroed = c .before .before .before in let i = zeroed .before .before in c .without .ensures ∙ sym (i .before .find .ensures .0 (i .if1 .taken)))
+    (λ c. omega (arith, (c .before .find .ensures .1 (c .if1 .left)) .0)) (λ c. omega (arith, (c .before .find .ensures .1 (c .if1 .left)) .0))
+    (λ c. omega (arith, (c .before .find .ensures .1 (c .if1 .left)) .1)) (search needs) returns-2)

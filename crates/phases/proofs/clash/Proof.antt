@@ -1,5 +1,4 @@
-use Rattle.phases.proofs.Choice.{tests}
-use Rattle.phases.proofs.clash.Statement.{statement}
+use Rattle.phases.proofs.{Choice.tests, clash.Statement.statement}
 use Rattle.phases.proofs.clash.Tie as tie
 
 pub clash-spec : {M : Type 1} → statement M

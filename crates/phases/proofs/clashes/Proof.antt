@@ -1,13 +1,6 @@
-use mathlib.Core.Path.{_∙_, sym}
-use borrow.Author.Needs.{needs}
+use Rattle.prelude.proofs.Prelude.{_∙_, sym, needs}
 use Rattle.phases.proofs.clashes.Statement.{statement}
 use Rattle.phases.proofs.clashes.Tie as tie
-
-returns : tie.Need-returns
-returns c = simp (sym (c .before .clash .ensures) ∙ c .if1 .taken)
-
-returns-2 : tie.Need-returns-2
-returns-2 c = simp (sym (c .before .before .before .clash .ensures) ∙ c .before .before .if1 .left, sym (c .before .clash2 .ensures) ∙ c .if2 .taken)
 
 returns-3 : tie.Need-returns-3
 returns-3 c =
@@ -16,5 +9,7 @@ returns-3 c =
 
 pub clashes-spec : {M : Type 1} → statement M
 clashes-spec =
-    tie.close
-    (tie.spec (search needs) returns (search needs) returns-2 (search needs) returns-3)
+    tie.close (tie.spec
+    (search needs) (λ c. simp (sym (c .before .clash .ensures) ∙ c .if1 .taken)) (search needs)
+    (λ c. simp (sym (c .before .before .before .clash .ensures) ∙ c .before .before .if1 .left, sym (c .before .clash2 .ensures) ∙ c .if2 .taken))
+    (search needs) returns-3)

@@ -1,12 +1,6 @@
-use borrow.Author.Tests.{eq-eqb, ne-eqb}
+use Rattle.prelude.proofs.Prelude.{eq-eqb, ne-eqb}
 use Rattle.phases.proofs.id_of.Statement.{statement}
 use Rattle.phases.proofs.id_of.Tie as tie
 
-returns : tie.Need-returns
-returns c = simp (eq-eqb _ _ (c .if1 .taken))
-
-returns-2 : tie.Need-returns-2
-returns-2 c = simp (ne-eqb _ _ (c .if1 .left))
-
 pub id-of-spec : {M : Type 1} → statement M
-id-of-spec = tie.close (tie.spec returns returns-2)
+id-of-spec = tie.close (tie.spec (λ c. simp (eq-eqb _ _ (c .if1 .taken))) (λ c. simp (ne-eqb _ _ (c .if1 .left))))

@@ -1,10 +1,6 @@
-use borrow.Author.Tests.{ne-eqb}
-use borrow.Author.Needs.{needs}
+use Rattle.prelude.proofs.Prelude.{ne-eqb, needs}
 use Rattle.phases.proofs.moved.Statement.{statement}
 use Rattle.phases.proofs.moved.Tie as tie
-
-returns : tie.Need-returns
-returns c = rw (ne-eqb _ _ (c .if1 .taken))
 
 returns-2 : tie.Need-returns-2
 returns-2 c =
@@ -22,4 +18,6 @@ returns-2 c =
     )
 
 pub moved-spec : {M : Type 1} → statement M
-moved-spec = tie.close (tie.spec returns (search needs) (search needs) (search needs) (search needs) (search needs) (search needs) returns-2)
+moved-spec =
+    tie.close
+    (tie.spec (λ c. rw (ne-eqb _ _ (c .if1 .taken))) (search needs) (search needs) (search needs) (search needs) (search needs) (search needs) returns-2)

@@ -1,15 +1,7 @@
-use mathlib.Core.Path.{sym}
-use borrow.Author.Needs.{needs}
+use Rattle.prelude.proofs.Prelude.{sym, needs}
 use Rattle.phases.specs.Phases.{allowed, leadsTo}
-use Rattle.phases.proofs.Transitions.{past-kind, past-phase, look-up}
-use Rattle.phases.proofs.next_phase.Statement.{statement}
+use Rattle.phases.proofs.{Transitions.past-kind, Transitions.past-phase, Transitions.look-up, next_phase.Statement.statement}
 use Rattle.phases.proofs.next_phase.Tie as tie
-
-returns : tie.Need-returns
-returns c = sym (past-kind (c .before .args .kind) (c .before .args .phase) (c .if1 .taken))
-
-returns-2 : tie.Need-returns-2
-returns-2 c = sym (past-phase (c .before .before .args .kind) (c .before .before .args .phase) (c .if2 .taken))
 
 -- the code's table is the one computed from the transitions
 returns-3 : tie.Need-returns-3
@@ -17,4 +9,8 @@ unfolding allowed leadsTo
 returns-3 c = look-up (c .before .before .args .kind) (c .before .before .args .phase) (c .before .if1 .left) (c .if2 .left)
 
 pub next-phase-spec : {M : Type 1} → statement M
-next-phase-spec = tie.close (tie.spec returns returns-2 (search needs) (search needs) (search needs) (search needs) (search needs) returns-3)
+next-phase-spec =
+    tie.close
+    (tie.spec (λ c. sym (past-kind (c .before .args .kind) (c .before .args .phase) (c .if1 .taken)))
+    (λ c. sym (past-phase (c .before .before .args .kind) (c .before .before .args .phase) (c .if2 .taken))) (search needs) (search needs) (search needs)
+    (search needs) (search needs) returns-3)

@@ -1,7 +1,5 @@
-use mathlib.Core.Path.{sym, _∙_}
-use borrow.Author.Needs.{needs}
-use Rattle.phases.proofs.Phases.{moving-none, moving-clash, moving-went}
-use Rattle.phases.proofs.phase_step.Statement.{statement}
+use Rattle.prelude.proofs.Prelude.{sym, _∙_, needs}
+use Rattle.phases.proofs.{Phases.moving-none, Phases.moving-clash, Phases.moving-went, phase_step.Statement.statement}
 use Rattle.phases.proofs.phase_step.Tie as tie
 
 returns : tie.Need-returns

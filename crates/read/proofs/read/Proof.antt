@@ -1,12 +1,8 @@
--- `read::read` meets its contract: that of `read_into`, in one record.
-use borrow.Author.Needs.{needs}
-use Rattle.read.proofs.read.Statement.{statement}
-use Rattle.read.proofs.read.Tie as tie
-
-returns : tie.Need-returns
-returns c = rw (c .number16 .ensures, c .before .figure-of .ensures) (c .before .before .before .read-into .ensures)
+-- That of `read_into`, in one record.
+use Rattle.prelude.proofs.Prelude.{needs}
+use Rattle.read.proofs.read.{Statement.statement, Tie.close, Tie.spec}
 
 pub read-spec : {M : Type 1} → statement M
 read-spec =
-    tie.close
-    (tie.spec (search needs) (search needs) (search needs) (search needs) (search needs) (search needs) (search needs) (search needs) (search needs) (search needs) (search needs) returns)
+    close (spec (search needs) (search needs) (search needs)
+    (λ c. let parts = c .before .before in rw (c .figure-of .ensures, parts .front-of .ensures) (parts .before .before .read-into .ensures)))

@@ -1,10 +1,6 @@
--- `read::refused` meets its contract: number and offset from the fault and its place.
-use borrow.Author.Needs.{needs}
-use Rattle.read.proofs.refused.Statement.{statement}
-use Rattle.read.proofs.refused.Tie as tie
-
-returns : tie.Need-returns
-returns c = rw (c .offset-of .ensures, c .before .number-of .ensures)
+-- Number and offset from the fault and its place.
+use Rattle.prelude.proofs.Prelude.{needs}
+use Rattle.read.proofs.refused.{Statement.statement, Tie.close, Tie.spec}
 
 pub refused-spec : {M : Type 1} → statement M
-refused-spec = tie.close (tie.spec (search needs) (search needs) (search needs) returns)
+refused-spec = close (spec (search needs) (search needs) (search needs) (λ c. rw (c .offset-of .ensures, c .before .number-of .ensures)))

@@ -1,26 +1,10 @@
--- `read_elements::identifier_long` meets its contract.
--- Assumes nothing.
-use borrow.Author.Needs.{needs}
-use Rattle.coding.specs.Codec.{prim}
-use Rattle.coding.specs.Leaves.{identifier}
-use native.Mathlib.Omega.{arith}
-use Rattle.coding.specs.Reader.{primitive}
-use Rattle.coding.proofs.Reading.{reading}
+use Rattle.prelude.proofs.Prelude.{needs, arith}
+use Rattle.coding.{specs.Codec.prim, specs.Leaves.identifier, specs.Reader.primitive, proofs.Reading.reading}
 use Rattle.read_elements.proofs.identifier_long.Statement.{statement}
 use Rattle.read_elements.proofs.identifier_long.Tie as tie
 
-returns : tie.Need-returns
-unfolding prim identifier primitive
-returns c = (search reading, omega arith)
-
-returns-2 : tie.Need-returns-2
-unfolding prim identifier primitive
-returns-2 c = (search reading, omega arith)
-
-returns-3 : tie.Need-returns-3
-unfolding prim identifier primitive
-returns-3 c = (search reading, omega arith)
-
 pub identifier-long-spec : {M : Type 1} → statement M
+unfolding prim identifier primitive
 identifier-long-spec =
-    tie.close (tie.spec (search needs) returns (search needs) returns-2 returns-3)
+    tie.close
+    (tie.spec (search needs) (λ c. (search reading, omega arith)) (search needs) (λ c. (search reading, omega arith)) (λ c. (search reading, omega arith)))

@@ -1,69 +1,40 @@
--- `read_figures::public_at` meets its contract: each return by the answers that led to it.
-use borrow.Author.Needs.{needs}
-use mathlib.Core.Path.{refl}
-use Rattle.coding.proofs.Reading.{reading, step, remains, shut, halts}
-use Rattle.read_figures.proofs.Steps.{public-steps, excluded, allowed}
-use Rattle.read_figures.proofs.Answers.{storing, surplus, arrived, goes}
-use Rattle.read_figures.proofs.public_at.Statement.{statement}
+-- Each return by the answers that led to it.
+use Rattle.prelude.proofs.Prelude.{needs, _≡_, refl, _∙_, cond}
+use Rattle.coding.{specs.Reader.after, specs.Reader.closed, specs.Reader.primitive, specs.Reader.Ans.halt, specs.Reader.Fault.contents, specs.Shown.shown, proofs.Reading.reading}
+use Rattle.coding.{proofs.Reading.step, proofs.Reading.remains, proofs.Reading.shut, proofs.Reading.halts}
+use Rattle.types.specs.Charges.{noAssociation, isPlan, publicParty}
+use Rattle.read_figures.specs.Numbers.{numbered}
+use Rattle.read_figures.proofs.{Steps.public-steps, Steps.excluded, Steps.allowed, Answers.storing, Answers.surplus, Answers.arrived, Answers.goes, public_at.Statement.statement}
 use Rattle.read_figures.proofs.public_at.Tie as tie
 
-returns : tie.Need-returns
-returns c = (rw public-steps (search (storing, reading)), (refl, refl))
-
-returns-2 : tie.Need-returns-2
-returns-2 c = (rw public-steps (search (storing, reading) depth 8), (refl, refl))
-
-returns-3 : tie.Need-returns-3
-returns-3 c =
-    let c3 = c .before .before .before in
-    let c6 = c3 .before .before .before in (
-      rw public-steps
-          (surplus _ _ (c .halted3 .ensures) refl
-          (step _ _ _ _ (c6 .before .before .open-long .ensures .0) (c6 .if1 .left)
-          (step _ _ _ _ (c3 .before .before .natural-long .ensures .0) (c3 .if2 .left)
-          (excluded _ _ _ _ _ (c .before .if3 .taken) (halts _ _ _))))),
-      (refl, refl),
-    )
-
-returns-4 : tie.Need-returns-4
-returns-4 c = (rw public-steps (search (storing, reading, allowed) depth 8), search)
-
-returns-5 : tie.Need-returns-5
-returns-5 c =
-    let c3 = c .before .before .before in
-    let c6 = c3 .before .before .before in
-    let c9 = c6 .before .before .before in
-    let c11 = c9 .before .before in
-    let c14 = c11 .before .before .before in (
-      rw public-steps
-          (surplus _ _ (c .halted5 .ensures) refl
-          (step _ _ _ _ (c14 .before .before .open-long .ensures .0) (c14 .if1 .left)
-          (step _ _ _ _ (c11 .before .before .natural-long .ensures .0) (c11 .if2 .left)
-          (allowed _ _ _ _ _ (c9 .if3 .left)
-          (goes _ _ _ _ _ (c6 .digits-at .ensures .0) (c3 .before .if4 .left)
-          (remains _ _ _ _ _ (c .before .if5 .taken))))))),
-      search,
-    )
-
-returns-6 : tie.Need-returns-6
-returns-6 c =
-    let c3 = c .before .before .before in
-    let c6 = c3 .before .before .before in
-    let c9 = c6 .before .before .before in
-    let c11 = c9 .before .before in
-    let c14 = c11 .before .before .before in (
-      rw public-steps
-          (arrived _ _ (c .reached .ensures)
-          (step _ _ _ _ (c14 .before .before .open-long .ensures .0) (c14 .if1 .left)
-          (step _ _ _ _ (c11 .before .before .natural-long .ensures .0) (c11 .if2 .left)
-          (allowed _ _ _ _ _ (c9 .if3 .left)
-          (goes _ _ _ _ _ (c6 .digits-at .ensures .0) (c3 .before .if4 .left)
-          (shut _ _ _ _ _ (c .before .if5 .left))))))),
-      search,
-    )
+-- what is left to read where the kind is read
+kinded : (c : tie.Else2) →
+    let n = c .before .before in
+    let e = n .before .before .before in
+    let g = e .before .before .args in
+    let k = n .natural-long .result in
+    let o = e .open-long .result in
+    shown noAssociation (cond (isPlan (k .value)) (after (primitive 0x12 (numbered 3 (k .value)) (g .s .now) (k .next) (o .value .stop)) (λ a last.
+    closed a last (o .value .stop) (o .next))) (halt contents (o .value .start))) ≡ shown noAssociation (publicParty .read (g .s .now) (g .at) (g .end))
+kinded c = rw public-steps (search (step, refl) depth 8)
 
 pub public-at-spec : {M : Type 1} → statement M
 public-at-spec =
     tie.close
-    (tie.spec (search needs) (search needs) returns (search needs) (search needs) returns-2 (search needs) returns-3 (search needs) (λ c κs. search needs) (search needs) returns-4
-    (search needs) returns-5 (search needs) returns-6)
+    (tie.spec (search needs) (search needs) (λ c. (rw public-steps (search (storing, reading)), (refl, refl))) (search needs) (search needs)
+    (λ c. (rw public-steps (search (storing, reading) depth 8), (refl, refl))) (search needs)
+    (λ c.
+    let k = c .before .before .before in
+    (surplus _ _ (c .halted3 .ensures) refl (excluded _ _ _ _ _ (c .before .if3 .taken) (halts _ _ _)) ∙ kinded k, (refl, refl)))
+    (search needs) (λ c κs. search needs) (search needs) (λ c. (rw public-steps (search (storing, reading, allowed) depth 8), search)) (search needs)
+    (λ c.
+    let d = c .before .before .before in
+    let p = d .before .before .before in
+    let k = p .before .before .before in
+    (search (surplus, allowed, goes, remains) ∙ kinded (k .before .before), search))
+    (search needs)
+    (λ c.
+    let d = c .before .before .before in
+    let p = d .before .before .before in
+    let k = p .before .before .before in
+    (search (arrived, allowed, goes, shut) ∙ kinded (k .before .before), search)))

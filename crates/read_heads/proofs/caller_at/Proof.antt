@@ -1,7 +1,5 @@
-use borrow.Author.Needs.{needs}
-use mathlib.Core.Path.{refl}
-use Rattle.coding.specs.Codec.{alt}
-use Rattle.coding.proofs.Reading.{reading}
+use Rattle.prelude.proofs.Prelude.{needs, refl}
+use Rattle.coding.{specs.Codec.alt, proofs.Reading.reading}
 use Rattle.types.specs.Frames.{caller}
 use Rattle.read_heads.proofs.caller_at.Statement.{statement}
 use Rattle.read_heads.proofs.caller_at.Tie as tie

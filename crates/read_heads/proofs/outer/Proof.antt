@@ -1,4 +1,3 @@
--- `read_heads::outer` meets its contract.
 use Rattle.coding.proofs.Tests.{tests}
 use Rattle.read_heads.proofs.outer.Statement.{statement}
 use Rattle.read_heads.proofs.outer.Tie as tie

@@ -1,4 +1,4 @@
-use borrow.Author.Needs.{needs}
+use Rattle.prelude.proofs.Prelude.{needs}
 use Rattle.coding.proofs.Reading.{reading}
 use Rattle.read_heads.specs.Heads.{problemIn}
 use Rattle.read_heads.proofs.problem_at.Statement.{statement}

@@ -1,36 +1,22 @@
--- `read_heads::reject_head` meets its contract: each return by what was read so far.
-use borrow.Author.Needs.{needs}
-use native.Mathlib.Omega.{arith}
-use mathlib.Core.Path.{sym}
-use Rattle.read_heads.specs.Heads.{restOf}
-use Rattle.read_heads.proofs.Answers.{stopped, heading, goes, ends-with}
-use Rattle.read_heads.proofs.Rejects.{reject-by}
-use Rattle.read_heads.proofs.reject_head.Statement.{statement}
+-- A reject's contents: who is answered, then the problem. Each return by what was read so far.
+use Rattle.prelude.proofs.Prelude.{needs, arith, ℕ, _≡_, List, length}
+use Rattle.coding.{specs.Reader.after, specs.Reader.closed, specs.Codec.sort, specs.Codec.canonical, specs.Codec.over, specs.Codec.leads, proofs.Reading.flat}
+use Rattle.types.specs.Frames.{rejects, problem, problems, caller, reject}
+use Rattle.read_heads.specs.Heads.{problemIn, problemsIn, contentsOf, restOf}
+use Rattle.read_heads.proofs.{Answers.heading, Answers.ends-with, reject_head.Statement.statement}
 use Rattle.read_heads.proofs.reject_head.Tie as tie
 
-returns : tie.Need-returns
-returns c = stopped _ (c .no-head .ensures) (rw (reject-by _ _ _) (search heading))
-
-returns-2 : tie.Need-returns-2
-returns-2 c = stopped _ (c .no-head2 .ensures) (rw (reject-by _ _ _) (search heading))
-
-returns-3 : tie.Need-returns-3
-returns-3 c = stopped _ (c .no-head3 .ensures) (rw (reject-by _ _ _) (search heading))
-
-returns-4 : tie.Need-returns-4
-unfolding restOf
-returns-4 c =
-    let read = c .before .before in
-    let problem = read .before .before in
-    let answered = problem .before .before .before in (
-      rw (reject-by _ _ _)
-          (goes _ _ _ (answered .caller-at .ensures .0) (problem .before .if1 .left)
-          (goes _ _ _ (problem .problems-at .ensures) (read .if2 .left)
-          (ends-with _ _ _ _ _ (sym (answered .caller-at .ensures .1 _ _)) (c .if3 .left)))),
-      omega arith,
-    )
+reject-by : (s : List ℕ) (start stop : ℕ) → contentsOf reject s start stop
+    ≡ after (caller .read s start stop) (λ c m. after (problemsIn s m stop) (λ p n. closed (rejects c (p .tag) (p .detail)) n stop (length s)))
+unfolding contentsOf reject leads problems sort problem canonical over problemsIn problemIn
+reject-by s start stop = simp flat
 
 pub reject-head-spec : {M : Type 1} → statement M
+unfolding restOf
 reject-head-spec =
-    tie.close
-    (tie.spec (search needs) (search needs) returns (search needs) (search needs) returns-2 (search needs) returns-3 returns-4)
+    tie.close (tie.spec
+    (search needs) (search needs) (λ c. (rw (c .no-head .ensures, reject-by _ _ _) (search heading), rw (c .no-head .ensures) (omega arith))) (search needs) (search needs)
+    (λ c. (rw (c .no-head2 .ensures, reject-by _ _ _) (search heading), rw (c .no-head2 .ensures) (omega arith))) (search needs)
+    (λ c. (rw (c .no-head3 .ensures, reject-by _ _ _) (search heading), rw (c .no-head3 .ensures) (omega arith)))
+    (λ c. let problem = c .before .before .before in
+    let answered = problem .before .before .before in (rw (reject-by _ _ _) (search (heading, ends-with, answered .before .caller-at .ensures .1)), omega arith)))

@@ -1,14 +1,8 @@
--- `read_lists::keep_unit` meets its contract: each store is the next of the row.
-use borrow.Author.Needs.{needs}
-use mathlib.Core.Path.{refl}
-use native.Mathlib.Numerals.{towards-suc}
+-- Each store is the next of the row.
+use Rattle.prelude.proofs.Prelude.{needs, refl, towards-suc}
 use Rattle.read_lists.proofs.keep_unit.Statement.{statement}
 use Rattle.read_lists.proofs.keep_unit.Tie as tie
 
-returns : tie.Need-returns
-returns c = (refl, simp towards-suc)
-
 pub keep-unit-spec : {M : Type 1} → statement M
 keep-unit-spec =
-    tie.close
-    (tie.spec (search needs) (search needs) (search needs) (search needs) (search needs) (search needs) (search needs) returns)
+    tie.close (tie.spec (search needs) (search needs) (search needs) (search needs) (search needs) (search needs) (search needs) (λ c. (refl, simp towards-suc)))

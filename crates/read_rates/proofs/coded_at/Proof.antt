@@ -1,21 +1,13 @@
--- `read_rates::coded_at` meets its contract: each return by the answers that led to it.
-use borrow.Author.Needs.{needs}
-use mathlib.Core.Path.{_∙_}
-use Rattle.coding.specs.Codec.{canonical, over}
-use Rattle.coding.proofs.Reading.{reading}
+-- Each return by the answers that led to it.
+use Rattle.prelude.proofs.Prelude.{needs, _∙_}
+use Rattle.coding.{specs.Codec.canonical, specs.Codec.over, proofs.Reading.reading}
 use Rattle.types.specs.Rates.{coded}
 use Rattle.read_rates.proofs.coded_at.Statement.{statement}
 use Rattle.read_rates.proofs.coded_at.Tie as tie
 
-returns : tie.Need-returns
-unfolding coded canonical over
-returns c = c .no-rate .ensures ∙ (search reading)
-
-returns-2 : tie.Need-returns-2
-unfolding coded canonical over
-returns-2 c = c .rate-read .ensures ∙ (search reading)
-
 pub coded-at-spec : {M : Type 1} → statement M
+unfolding coded canonical over
 coded-at-spec =
     tie.close
-    (tie.spec (search needs) (search needs) returns (search needs) (search needs) returns-2)
+    (tie.spec (search needs) (search needs) (λ c. c .no-rate .ensures ∙ (search reading)) (search needs) (search needs)
+    (λ c. c .rate-read .ensures ∙ (search reading)))

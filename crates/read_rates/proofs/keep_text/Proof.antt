@@ -1,20 +1,15 @@
--- `read_rates::keep_text` meets its contract: an array of ten places is its own first ten.
-use Prim.Native.Nat.{_≤_}
-use native.Mathlib.Omega.{arith}
-use borrow.Author.Needs.{needs}
-use mathlib.Core.Path.{sym, ap, _∙_}
-use lib.ListN.{length}
-use lib.Seq.{sets, take-append-le}
+-- An array of ten places is its own first ten.
+use Rattle.prelude.proofs.Prelude.{_≤_, arith, needs, sym, ap, _∙_, length, length-take, sets, take-append-le}
 use Rattle.coding.specs.Codec.{pad}
 use Rattle.read_rates.proofs.keep_text.Statement.{statement}
 use Rattle.read_rates.proofs.keep_text.Tie as tie
 
-returns : tie.Need-returns
+pub keep-text-spec : {M : Type 1} → statement M
 unfolding pad
-returns c =
+keep-text-spec =
+    tie.close
+    (tie.spec (search needs) (λ c κs. (omega arith, record { fits = omega (arith, length-take 10 (c .before .before .args .t3)) }))
+    (λ c.
     let a = c .before .before .before .args in
     let h : 10 ≤ length (a .t3) = omega arith in
-    c .put-octets .ensures .stored ∙ ap (sets (a .octets .now) (a .at)) (sym (take-append-le 10 (a .t3) _ h))
-
-pub keep-text-spec : {M : Type 1} → statement M
-keep-text-spec = tie.close (tie.spec (search needs) (search needs) returns)
+    c .put-octets .ensures .stored ∙ ap (sets (a .octets .now) (a .at)) (sym (take-append-le 10 (a .t3) _ h))))

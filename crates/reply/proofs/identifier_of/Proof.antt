@@ -1,25 +1,8 @@
--- `reply::identifier_of` meets its contract, at each test that stops it and where the identifier is read.
-use borrow.Author.Needs.{needs}
-use native.Mathlib.Omega.{arith}
+-- , at each test that stops it and where the identifier is read.
+use Rattle.prelude.proofs.Prelude.{needs, arith}
 use Rattle.read_heads.proofs.Entered.{tag-below, tag-above, tag-among}
-use Rattle.reply.proofs.Ids.{id-empty, id-strange, id-shut, id-over, id-found}
-use Rattle.reply.proofs.identifier_of.Statement.{statement}
+use Rattle.reply.proofs.{Ids.id-empty, Ids.id-strange, Ids.id-shut, Ids.id-over, Ids.id-found, identifier_of.Statement.statement}
 use Rattle.reply.proofs.identifier_of.Tie as tie
-
-returns : tie.Need-returns
-returns c = id-empty _ (c .if1 .taken)
-
-returns-2 : tie.Need-returns-2
-returns-2 c = id-strange _ (omega arith) (tag-below _ (c .if2 .taken))
-
-returns-3 : tie.Need-returns-3
-returns-3 c = id-strange _ (omega arith) (tag-above _ (c .if3 .taken))
-
-returns-4 : tie.Need-returns-4
-returns-4 c =
-    let o = c .before .before in
-    let t = o .before in
-    id-shut _ (omega arith) (tag-among _ (t .before .if2 .left) (t .if3 .left)) _ (o .open-at .ensures .0) (c .if4 .taken)
 
 returns-5 : tie.Need-returns-5
 returns-5 c =
@@ -39,4 +22,8 @@ returns-6 c =
 pub identifier-of-spec : {M : Type 1} → statement M
 identifier-of-spec =
     tie.close
-    (tie.spec returns (search needs) returns-2 returns-3 (search needs) returns-4 returns-5 (search needs) (search needs) returns-6)
+    (tie.spec (λ c. id-empty _ (c .if1 .taken)) (search needs) (λ c. id-strange _ (omega arith) (tag-below _ (c .if2 .taken)))
+    (λ c. id-strange _ (omega arith) (tag-above _ (c .if3 .taken))) (search needs)
+    (λ c. let o = c .before .before in let t = o .before in
+    id-shut _ (omega arith) (tag-among _ (t .before .if2 .left) (t .if3 .left)) _ (o .open-at .ensures .0) (c .if4 .taken))
+    returns-5 (search needs) (search needs) returns-6)

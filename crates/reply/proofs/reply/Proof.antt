@@ -1,19 +1,9 @@
--- `reply::reply` meets its contract: silent, or the reject by the number, the first octet and the identifier.
-use borrow.Author.Needs.{needs}
-use mathlib.Core.Path.{ap, sym, _∙_}
+-- Silent, or the reject by the number, the first octet and the identifier.
+use Rattle.prelude.proofs.Prelude.{needs, ap, sym, _∙_}
 use Rattle.types.specs.declared.Answer.{Answer}
 use Rattle.reply.specs.Reply.{replyBy}
-use Rattle.reply.proofs.Silence.{silent-accepted, silent-reject, spoken, replied}
-use Rattle.reply.proofs.reply.Statement.{statement}
+use Rattle.reply.proofs.{Silence.silent-accepted, Silence.silent-reject, Silence.spoken, Silence.replied, reply.Statement.statement}
 use Rattle.reply.proofs.reply.Tie as tie
-
-returns : tie.Need-returns
-returns c =
-    let number = ap (λ (a : Answer). a .number) (c .before .before .read-into .ensures) in
-    rw (c .nothing .ensures) (silent-accepted _ _ (sym number ∙ c .before .if1 .taken))
-
-returns-2 : tie.Need-returns-2
-returns-2 c = rw (c .nothing2 .ensures) (silent-reject _ _ (sym (c .before .before .first-of .ensures) ∙ c .before .if2 .taken))
 
 returns-3 : tie.Need-returns-3
 returns-3 c =
@@ -30,4 +20,8 @@ returns-3 c =
 pub reply-spec : {M : Type 1} → statement M
 reply-spec =
     tie.close
-    (tie.spec (search needs) (search needs) returns (search needs) (search needs) returns-2 (search needs) (search needs) (search needs) (search needs) returns-3)
+    (tie.spec (search needs) (search needs)
+    (λ c. let number = ap (λ (a : Answer). a .number) (c .before .before .read-into .ensures) in
+    rw (c .nothing .ensures) (silent-accepted _ _ (sym number ∙ c .before .if1 .taken)))
+    (search needs) (search needs) (λ c. rw (c .nothing2 .ensures) (silent-reject _ _ (sym (c .before .before .first-of .ensures) ∙ c .before .if2 .taken)))
+    (search needs) (search needs) (search needs) (search needs) returns-3)

@@ -1,41 +1,19 @@
--- `step::taken` meets its contract: the record that is taken apart again is the one that was read.
-use Prim.Native.Nat.{ℕ, _≤_}
-use native.Mathlib.Omega.{arith}
-use mathlib.Core.Path.{_≡_, ap, sym, _∙_}
-use mathlib.Core.List.{List}
-use lib.ListN.{getD}
-use borrow.Author.Needs.{needs}
-use Rattle.types.specs.declared.Answer.{Answer}
-use Rattle.types.specs.declared.Figure.{Figure}
-use Rattle.types.specs.Stored.{two, figureIn}
-use Rattle.types.specs.Frames.{readOf}
-use Rattle.read.specs.declared.Refusal.{Refusal}
-use Rattle.read.specs.Whole.{wholeAnswer}
-use Rattle.step.proofs.Steps.{taken-refused, taken-unkept, taken-kept}
-use Rattle.outcomes.proofs.Refusals.{number-fits}
-use Rattle.step.proofs.taken.Statement.{statement}
+-- The record that is taken apart again is the one that was read.
+use Rattle.prelude.proofs.Prelude.{ℕ, _≤_, arith, _≡_, ap, sym, _∙_, List, needs}
+use Rattle.types.specs.{declared.Answer.Answer, declared.Figure.Figure, declared.Front.Front, Stored.frontIn, Stored.figureIn, Frames.readOf}
+use Rattle.read.specs.{declared.Refusal.Refusal, Whole.wholeAnswer}
+use Rattle.outcomes.{specs.Parts.chargeFrom, proofs.Refusals.number-fits}
+use Rattle.step.proofs.{Steps.taken-refused, Steps.taken-unkept, Steps.taken-kept, taken.Statement.statement}
 use Rattle.step.proofs.taken.Tie as tie
 
--- the answer with its identifier and its figure as numbers
-abbrev apart : Refusal → List ℕ → ℕ → Figure → List ℕ → List ℕ → Answer
-apart r front id figure numbers rows = record {
-  number = r .number;
-  offset = r .offset;
-  value = record {
-    frame = getD front 0 0;
-    unnamed = getD front 1 0;
-    id = id;
-    operation = getD front 4 0;
-    error = getD front 5 0;
-    problem = getD front 6 0;
-    detail = getD front 7 0;
-    charge = record { figure = figure; entries = record { numbers = numbers; octets = rows } };
-  };
-}
+-- the answer that was read, with its front and its figure taken apart
+abbrev apart : Refusal → Front → Figure → List ℕ → List ℕ → Answer
+apart r front figure numbers rows =
+    record { number = r .number; offset = r .offset; value = record { front = front; charge = chargeFrom figure numbers rows } }
 
-read-apart : (front stored o : List ℕ) {r : Refusal} {numbers rows : List ℕ} {id : ℕ} {figure : Figure}
-    → wholeAnswer r front stored numbers rows ≡ readOf o → id ≡ two front 2 → figure ≡ figureIn stored → apart r front id figure numbers rows ≡ readOf o
-read-apart front stored o {r} {numbers} {rows} e i f = (λ k. apart r front (i k) (f k) numbers rows) ∙ e
+read-apart : (lent stored o : List ℕ) {r : Refusal} {numbers rows : List ℕ} {front : Front} {figure : Figure}
+    → wholeAnswer r lent stored numbers rows ≡ readOf o → front ≡ frontIn lent → figure ≡ figureIn stored → apart r front figure numbers rows ≡ readOf o
+read-apart lent stored o {r} {numbers} {rows} e i f = (λ k. apart r (i k) (f k) numbers rows) ∙ e
 
 cast-plain : tie.Need-cast-plain
 cast-plain c =
@@ -58,12 +36,13 @@ returns-2 c =
     let r = p .before .before in
     let k = r .before .before .before in
     let n = k .before in
-    let i = n .before .before .before in
+    let g = n .before .before in
+    let i = g .before .before in
     let m = i .before .before .before in
     let s = m .before .before .before in
     let x = s .before .before .before .args in
     let l = m .read-into .last .1 in
-    let read = read-apart (l .0) (l .1 .0) (x .octets .now) (m .read-into .ensures) (n .number16 .ensures) (n .before .figure-of .ensures) in
+    let read = read-apart (l .0) (l .1 .0) (x .octets .now) (m .read-into .ensures) (n .front-of .ensures) (g .figure-of .ensures) in
     taken-unkept (x .a) (x .octets .now) read (i .if1 .left) (k .claimed .result) (r .resolved .result) (p .before .noted .result)
     (k .claimed .ensures) (r .resolved .ensures) (p .before .noted .ensures) (c .still .result) (sym (p .place-of .ensures) ∙ c .before .if2 .taken) (c .still .ensures)
 
@@ -73,12 +52,13 @@ returns-3 c =
     let r = p .before .before in
     let k = r .before .before .before in
     let n = k .before in
-    let i = n .before .before .before in
+    let g = n .before .before in
+    let i = g .before .before in
     let m = i .before .before .before in
     let s = m .before .before .before in
     let x = s .before .before .before .args in
     let l = m .read-into .last .1 in
-    let read = read-apart (l .0) (l .1 .0) (x .octets .now) (m .read-into .ensures) (n .number16 .ensures) (n .before .figure-of .ensures) in
+    let read = read-apart (l .0) (l .1 .0) (x .octets .now) (m .read-into .ensures) (n .front-of .ensures) (g .figure-of .ensures) in
     taken-kept (x .a) (x .octets .now) read (i .if1 .left) (k .claimed .result) (r .resolved .result) (p .before .noted .result)
     (k .claimed .ensures) (r .resolved .ensures) (p .before .noted .ensures) (p .place-of .result) (p .place-of .ensures) (c .if2 .left)
 
@@ -86,4 +66,4 @@ pub taken-spec : {M : Type 1} → statement M
 taken-spec =
     tie.close
     (tie.spec (search needs) cast-plain (search needs) returns (search needs) (search needs) (search needs) (search needs) (search needs) (search needs)
-    (search needs) (search needs) (search needs) (search needs) (search needs) (search needs) returns-2 returns-3)
+    (search needs) returns-2 returns-3)

@@ -1,5 +1,4 @@
-use native.Mathlib.Omega.{arith}
-use borrow.Author.Needs.{needs}
+use Rattle.prelude.proofs.Prelude.{arith, needs}
 use Rattle.values.proofs.three_identifiers.Statement.{statement}
 use Rattle.values.proofs.three_identifiers.Tie as tie
 

@@ -1,10 +1,7 @@
-use borrow.Author.Tests.{eq-eqb, ne-eqb}
-use borrow.Author.Needs.{needs}
+use Rattle.prelude.proofs.Prelude.{eq-eqb, needs}
+use Rattle.phases.proofs.Choice.{tests}
 use Rattle.why.proofs.concluded.Statement.{statement}
 use Rattle.why.proofs.concluded.Tie as tie
-
-returns : tie.Need-returns
-returns c = simp (ne-eqb _ _ (c .before .if1 .taken)) (c .because .ensures)
 
 returns-2 : tie.Need-returns-2
 returns-2 c =
@@ -25,14 +22,4 @@ returns-2 c =
 pub concluded-spec : {M : Type 1} → statement M
 concluded-spec =
     tie.close
-    (tie.spec
-    (search needs)
-    returns
-    (search needs)
-    (search needs)
-    (search needs)
-    (search needs)
-    (search needs)
-    (search needs)
-    (search needs)
-    returns-2)
+    (tie.spec (search needs) (λ c. search tests) (search needs) (search needs) (search needs) (search needs) (search needs) (search needs) (search needs) returns-2)

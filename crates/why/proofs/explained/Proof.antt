@@ -1,14 +1,7 @@
-use borrow.Author.Needs.{needs}
-use Prim.Native.Nat.{_-_, _/_}
-use mathlib.Core.Path.{_≡_, sym, _∙_}
-use native.Mathlib.Omega.{arith}
-use lib.ListN.{length}
-use Rattle.events.specs.Events.{eventsFrom, eventsOf, Going}
-use Rattle.events.proofs.Laws.{begins, inside, goes-on}
-use Rattle.why.specs.Reasons.{reasonOf}
-use Rattle.why.specs.Seeing.{runFrom}
-use Rattle.why.proofs.Seeing.{run-start, run-next, run-end}
-use Rattle.why.proofs.explained.Statement.{statement}
+use Rattle.prelude.proofs.Prelude.{needs, _-_, _/_, _≡_, sym, _∙_, arith, length}
+use Rattle.events.{specs.Events.eventsFrom, specs.Events.eventsOf, specs.Events.Going, proofs.Laws.begins, proofs.Laws.inside, proofs.Laws.goes-on}
+use Rattle.why.specs.{Reasons.reasonOf, Seeing.runFrom}
+use Rattle.why.proofs.{Seeing.run-start, Seeing.run-next, Seeing.run-end, explained.Statement.statement}
 use Rattle.why.proofs.explained.Tie as tie
 
 -- what is left gives from here what the whole list gives from the start
@@ -18,22 +11,6 @@ Inv-loop rows octets n state₀ at₀ i₀ state at i =
 
 abbrev μ-loop : tie.MeasureT-loop
 μ-loop rows octets n state₀ at₀ i₀ state at i = n - i
-
-loop-holds : tie.Need-loop-holds Inv-loop μ-loop
-loop-holds c =
-    let start = c .before .before .before in
-    (begins _ _ (start .pre), rw (c .fresh .ensures) (run-start (start .args .rows .now) (start .args .octets .now)))
-
-add-end : tie.Need-add-end Inv-loop μ-loop
-add-end c =
-    let at = c .before .before in
-    omega (arith, c .count-at .ensures, inside _ _ _ _ (at .loop .inv .0) (c .before .loop-test .taken))
-
-part-turn-end : tie.Need-part-turn-end Inv-loop μ-loop
-part-turn-end c =
-    let counted = c .before in
-    let at = counted .before .before in
-    omega (arith, counted .count-at .ensures, inside _ _ _ _ (at .loop .inv .0) (counted .before .loop-test .taken))
 
 loop-again : tie.Need-loop-again Inv-loop μ-loop
 loop-again c =
@@ -53,8 +30,7 @@ returns : tie.Need-returns Inv-loop μ-loop
 returns c =
     let over = c .before .before in
     let at = over .before in
-    let start = at .before .before .before in
-    c .concluded .ensures ∙ sym (run-end (start .before .args .rows .now) (start .before .args .octets .now) (at .loop .i) (at .loop .at) (at .loop .state) (over .loop-test .left)) ∙ at .loop .inv .1
+    c .concluded .ensures ∙ sym (run-end _ _ (at .loop .i) (at .loop .at) (at .loop .state) (over .loop-test .left)) ∙ at .loop .inv .1
 
 pub explained-spec : {M : Type 1} → statement M
 explained-spec =
@@ -63,14 +39,14 @@ explained-spec =
     Inv-loop
     μ-loop
     (search needs)
-    loop-holds
+    (λ c. let start = c .before .before .before in (begins _ _ (start .pre), rw (c .fresh .ensures) (run-start (start .args .rows .now) (start .args .octets .now))))
     (search needs)
-    add-end
+    (λ c. let at = c .before .before in omega (arith, c .count-at .ensures, inside _ _ _ _ (at .loop .inv .0) (c .before .loop-test .taken)))
     (search needs)
     (omega arith)
     (omega arith)
     (omega arith)
-    part-turn-end
+    (λ c. let counted = c .before in let at = counted .before .before in omega (arith, counted .count-at .ensures, inside _ _ _ _ (at .loop .inv .0) (counted .before .loop-test .taken)))
     (search needs)
     (omega arith)
     loop-again

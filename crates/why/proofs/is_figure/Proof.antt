@@ -1,11 +1,6 @@
-use mathlib.Core.Path.{sym, _∙_}
-use borrow.Author.Tests.{eq-eqb, ne-eqb, not-true, not-false}
-use borrow.Author.Needs.{needs}
+use Rattle.prelude.proofs.Prelude.{sym, _∙_, eq-eqb, ne-eqb, not-true, not-false, needs}
 use Rattle.why.proofs.is_figure.Statement.{statement}
 use Rattle.why.proofs.is_figure.Tie as tie
-
-returns : tie.Need-returns
-returns c = rw (sym (c .before .before .read .ensures)) (simp (ne-eqb _ _ (c .if1 .taken)))
 
 returns-2 : tie.Need-returns-2
 returns-2 c =
@@ -20,4 +15,4 @@ returns-3 c =
 
 pub is-figure-spec : {M : Type 1} → statement M
 is-figure-spec =
-    tie.close (tie.spec (search needs) returns (search needs) returns-2 (search needs) returns-3)
+    tie.close (tie.spec (search needs) (λ c. rw (sym (c .before .before .read .ensures)) (simp (ne-eqb _ _ (c .if1 .taken)))) (search needs) returns-2 (search needs) returns-3)

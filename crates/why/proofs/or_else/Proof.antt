@@ -1,15 +1,6 @@
-use borrow.Author.Tests.{eq-eqb, ne-eqb}
+use Rattle.outcomes.proofs.Refusals.{ways}
 use Rattle.why.proofs.or_else.Statement.{statement}
 use Rattle.why.proofs.or_else.Tie as tie
 
-returns : tie.Need-returns
-returns c = simp (ne-eqb _ _ (c .if1 .taken))
-
-returns-2 : tie.Need-returns-2
-returns-2 c = rw (eq-eqb _ _ (c .before .if1 .left), c .if2 .taken)
-
-returns-3 : tie.Need-returns-3
-returns-3 c = rw (eq-eqb _ _ (c .before .if1 .left), c .if2 .left)
-
 pub or-else-spec : {M : Type 1} → statement M
-or-else-spec = tie.close (tie.spec returns returns-2 returns-3)
+or-else-spec = tie.close (tie.spec (λ c. search ways) (λ c. search ways) (λ c. search ways))

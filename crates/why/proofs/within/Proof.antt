@@ -1,12 +1,6 @@
-use borrow.Author.Tests.{lt-leb, le-leb}
+use Rattle.phases.proofs.Choice.{tests}
 use Rattle.why.proofs.within.Statement.{statement}
 use Rattle.why.proofs.within.Tie as tie
 
-returns : tie.Need-returns
-returns c = simp (lt-leb _ _ (c .if1 .taken))
-
-returns-2 : tie.Need-returns-2
-returns-2 c = simp (le-leb _ _ (c .if1 .left))
-
 pub within-spec : {M : Type 1} → statement M
-within-spec = tie.close (tie.spec returns returns-2)
+within-spec = tie.close (tie.spec (λ c. search tests) (λ c. search tests))

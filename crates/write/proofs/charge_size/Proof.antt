@@ -1,10 +1,7 @@
-use borrow.Author.Needs.{needs}
-use mathlib.Core.Path.{sym, ap, _∙_}
-use lib.ListN.{length}
+use Rattle.prelude.proofs.Prelude.{sym, ap, _∙_, length, needs}
 use Rattle.coding.proofs.Basic.{picked, unpicked}
 use Rattle.write_lists.specs.Octets.{withList}
-use Rattle.write.proofs.Fits.{operation-range, its-front, its-charge}
-use Rattle.write.proofs.charge_size.Statement.{statement}
+use Rattle.write.proofs.{Fits.operation-range, Fits.its-front, Fits.its-charge, charge_size.Statement.statement}
 use Rattle.write.proofs.charge_size.Tie as tie
 
 charge-size-requires : tie.Need-charge-size-requires
@@ -15,13 +12,9 @@ charge-size-requires c κs =
     let q = sym (c .before .is-charged .ensures) ∙ c .if1 .taken in
     (operation-range (a .f) (its-front (a .f) x (s .pre .0)) q, (s .pre .1, its-charge (a .f) x (s .pre .0) q))
 
-returns : tie.Need-returns
-returns c =
-    c .charge-size .ensures .0 ∙ sym (ap length (picked _ _ (sym (c .before .before .is-charged .ensures) ∙ c .before .if1 .taken)))
-
-returns-2 : tie.Need-returns-2
-returns-2 c =
-    sym (ap length (unpicked _ _ (sym (c .before .is-charged .ensures) ∙ c .if1 .left)))
-
 pub charge-size-spec : {M : Type 1} → statement M
-charge-size-spec = tie.close (tie.spec (λ c κs. search needs) charge-size-requires returns returns-2)
+charge-size-spec =
+    tie.close
+    (tie.spec (λ c κs. search needs) charge-size-requires
+    (λ c. c .charge-size .ensures .0 ∙ sym (ap length (picked _ _ (sym (c .before .before .is-charged .ensures) ∙ c .before .if1 .taken))))
+    (λ c. sym (ap length (unpicked _ _ (sym (c .before .is-charged .ensures) ∙ c .if1 .left)))))

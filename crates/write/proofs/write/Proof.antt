@@ -1,9 +1,6 @@
-use borrow.Author.Needs.{needs}
+use Rattle.prelude.proofs.Prelude.{needs}
 use Rattle.write.proofs.write.Statement.{statement}
 use Rattle.write.proofs.write.Tie as tie
 
-returns : tie.Need-returns
-returns c = c .before .before .write-from .ensures
-
 pub write-spec : {M : Type 1} → statement M
-write-spec = tie.close (tie.spec (λ c κs. search needs) (λ c. search needs) returns)
+write-spec = tie.close (tie.spec (λ c κs. search needs) (λ c. search needs) (λ c. c .before .before .write-from .ensures))

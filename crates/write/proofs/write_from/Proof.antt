@@ -1,10 +1,8 @@
-use mathlib.Core.Path.{sym, ap}
-use borrow.Author.Needs.{needs}
+use Rattle.prelude.proofs.Prelude.{sym, ap, needs}
 use Rattle.types.specs.declared.Figure.{Figure}
 use Rattle.write_lists.specs.Octets.{withList}
 use Rattle.write.specs.Parts.{recordOf}
-use Rattle.write.proofs.Outcomes.{of-same}
-use Rattle.write.proofs.write_from.Statement.{statement}
+use Rattle.write.proofs.{Outcomes.of-same, write_from.Statement.statement}
 use Rattle.write.proofs.write_from.Tie as tie
 
 put-record-requires : tie.Need-put-record-requires

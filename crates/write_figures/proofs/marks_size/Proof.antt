@@ -1,7 +1,5 @@
-use native.Mathlib.Omega.{arith}
-use borrow.Author.Needs.{needs}
-use Rattle.write_figures.proofs.Frames.{marks-during-length, marks-ending-length}
-use Rattle.write_figures.proofs.marks_size.Statement.{statement}
+use Rattle.prelude.proofs.Prelude.{ap, arith, length, needs}
+use Rattle.write_figures.proofs.{Frames.marks-during-length, Frames.marks-ending, marks_size.Statement.statement}
 use Rattle.write_figures.proofs.marks_size.Tie as tie
 
 returns : tie.Need-returns
@@ -14,7 +12,7 @@ returns-2 : tie.Need-returns-2
 returns-2 c =
     let s = c .before .before in
     let f = s .args .f in
-    omega (arith, marks-ending-length (s .args .operation) f (c .if1 .left), c .before .billing-size .ensures .0 0x82 (f .billing) (s .pre .1))
+    omega (arith, ap length (marks-ending (s .args .operation) f (c .if1 .left)), c .before .billing-size .ensures .0 0x82 (f .billing) (s .pre .1))
 
 pub marks-size-spec : {M : Type 1} → statement M
 marks-size-spec = tie.close (tie.spec (search needs) (search needs) returns returns-2)

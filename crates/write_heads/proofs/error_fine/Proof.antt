@@ -1,11 +1,9 @@
-use borrow.Author.Needs.{needs}
-use Rattle.coding.proofs.Tests.{tests}
-use Rattle.write_heads.proofs.Fine.{error-is}
-use Rattle.write_heads.proofs.error_fine.Statement.{statement}
+use Rattle.prelude.proofs.Prelude.{needs}
+use Rattle.write_heads.specs.Fronts.{frontFine}
+use Rattle.write_heads.proofs.{Fine.fine, error_fine.Statement.statement}
 use Rattle.write_heads.proofs.error_fine.Tie as tie
 
 pub error-fine-spec : {M : Type 1} → statement M
+unfolding frontFine
 error-fine-spec =
-    tie.close
-    (tie.spec (λ c. search (tests, error-is)) (λ c. search (tests, error-is)) (λ c. search (tests, error-is)) (λ c. search (tests, error-is)) (search needs)
-    (search needs) (λ c. search (tests, error-is)))
+    tie.close (tie.spec (λ c. search fine) (λ c. search fine) (λ c. search fine) (λ c. search fine) (search needs) (search needs) (λ c. search fine))

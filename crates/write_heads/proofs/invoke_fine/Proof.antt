@@ -1,11 +1,10 @@
-use borrow.Author.Needs.{needs}
-use Rattle.coding.proofs.Tests.{tests}
-use Rattle.write_heads.proofs.Fine.{invoke-is, invoke-no, invoke-yes}
-use Rattle.write_heads.proofs.invoke_fine.Statement.{statement}
+use Rattle.prelude.proofs.Prelude.{needs}
+use Rattle.write_heads.specs.Fronts.{frontFine}
+use Rattle.write_heads.proofs.{Fine.fine, Fine.told-no, Fine.invoke-yes, invoke_fine.Statement.statement}
 use Rattle.write_heads.proofs.invoke_fine.Tie as tie
 
 pub invoke-fine-spec : {M : Type 1} → statement M
+unfolding frontFine
 invoke-fine-spec =
     tie.close
-    (tie.spec (search needs) (λ c. search needs) (search needs) (λ c. search invoke-no) (λ c. search (tests, invoke-is)) (λ c. search (tests, invoke-is))
-    (λ c. search (tests, invoke-is)) (λ c. search (tests, invoke-is)) (λ c. search invoke-yes))
+    (tie.spec (search needs) (λ c. search needs) (search needs) (λ c. search (fine, told-no)) (λ c. search fine) (λ c. search fine) (λ c. search fine) (λ c. search fine) (λ c. search invoke-yes))

@@ -1,8 +1,7 @@
-use borrow.Author.Needs.{needs}
-use Rattle.coding.proofs.Tests.{tests}
-use Rattle.write_heads.proofs.Sizes.{room-null, room-named}
+use Rattle.prelude.proofs.Prelude.{needs}
+use Rattle.coding.proofs.{Tests.tests, Writing.room-as}
 use Rattle.write_heads.proofs.put_caller.Statement.{statement}
 use Rattle.write_heads.proofs.put_caller.Tie as tie
 
 pub put-caller-spec : {M : Type 1} → statement M
-put-caller-spec = tie.close (tie.spec (λ c κs. search room-null) (search needs) (λ c. search tests) (λ c κs. search room-named) (search needs) (λ c. search tests))
+put-caller-spec = tie.close (tie.spec (λ c κs. search (tests, room-as)) (search needs) (λ c. search tests) (λ c κs. search (tests, room-as)) (search needs) (λ c. search tests))

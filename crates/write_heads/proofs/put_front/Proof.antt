@@ -1,10 +1,14 @@
-use borrow.Author.Needs.{needs}
-use Rattle.write_heads.proofs.Sizes.{fronts}
-use Rattle.write_heads.proofs.put_front.Statement.{statement}
+use Rattle.prelude.proofs.Prelude.{needs}
+use Rattle.coding.proofs.{Tests.tests, Writing.room-as}
+use Rattle.write_heads.specs.Fronts.{frontOctets}
+use Rattle.write_heads.proofs.{Sizes.small-operation, Sizes.small-error, Sizes.small-detail, put_front.Statement.statement}
 use Rattle.write_heads.proofs.put_front.Tie as tie
 
+ruleset fronts = (tests, room-as, small-operation, small-error, small-detail)
+
 pub put-front-spec : {M : Type 1} → statement M
+unfolding frontOctets
 put-front-spec =
     tie.close
-    (tie.spec (λ c κs. search fronts) (search needs) (λ c. search fronts) (λ c κs. search fronts) (search needs) (λ c. search fronts) (λ c κs. search fronts)
-    (search needs) (λ c. search fronts) (λ c κs. search fronts) (search needs) (λ c. search fronts))
+    (tie.spec (λ c κs. search fronts) (search needs) (λ c. search tests) (λ c κs. search fronts) (search needs) (λ c. search tests) (λ c κs. search fronts)
+    (search needs) (λ c. search tests) (λ c κs. search fronts) (search needs) (λ c. search tests))

@@ -1,10 +1,8 @@
-use Rattle.coding.proofs.Tests.{tests}
-use Rattle.write_heads.proofs.Fine.{request-is}
-use Rattle.write_heads.proofs.request_fine.Statement.{statement}
+use Rattle.coding.specs.Codec.{oneOf}
+use Rattle.write_heads.specs.Fronts.{frontFine}
+use Rattle.write_heads.proofs.{Fine.fine, request_fine.Statement.statement}
 use Rattle.write_heads.proofs.request_fine.Tie as tie
 
 pub request-fine-spec : {M : Type 1} → statement M
-request-fine-spec =
-    tie.close
-    (tie.spec (λ c. search (tests, request-is)) (λ c. search (tests, request-is)) (λ c. search (tests, request-is)) (λ c. search (tests, request-is))
-    (λ c. search (tests, request-is)))
+unfolding frontFine oneOf
+request-fine-spec = tie.close (tie.spec (λ c. search fine) (λ c. search fine) (λ c. search fine) (λ c. search fine) (λ c. search fine))

@@ -1,10 +1,8 @@
-use Rattle.coding.proofs.Tests.{tests}
-use Rattle.write_heads.proofs.Fine.{result-is}
-use Rattle.write_heads.proofs.result_fine.Statement.{statement}
+use Rattle.coding.specs.Codec.{oneOf}
+use Rattle.write_heads.specs.Fronts.{frontFine}
+use Rattle.write_heads.proofs.{Fine.fine, result_fine.Statement.statement}
 use Rattle.write_heads.proofs.result_fine.Tie as tie
 
 pub result-fine-spec : {M : Type 1} → statement M
-result-fine-spec =
-    tie.close
-    (tie.spec (λ c. search (tests, result-is)) (λ c. search (tests, result-is)) (λ c. search (tests, result-is)) (λ c. search (tests, result-is))
-    (λ c. search (tests, result-is)) (λ c. search (tests, result-is)))
+unfolding frontFine oneOf
+result-fine-spec = tie.close (tie.spec (λ c. search fine) (λ c. search fine) (λ c. search fine) (λ c. search fine) (λ c. search fine) (λ c. search fine))

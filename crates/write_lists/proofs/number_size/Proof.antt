@@ -1,20 +1,14 @@
--- `write_lists::number_size` meets its contract.
--- Assumes nothing.
-use native.Mathlib.Omega.{arith}
-use borrow.Author.Needs.{needs}
-use Rattle.coding.proofs.Writing.{width-range}
-use Rattle.write_lists.proofs.Entry.{known-size, unknown-size}
+use Rattle.prelude.proofs.Prelude.{arith, eq-eqb, ne-eqb, needs}
+use Rattle.coding.proofs.{Writing.width-range, Writing.number-length, Small.null-length}
+use Rattle.write_lists.specs.Octets.{numberOctets}
 use Rattle.write_lists.proofs.number_size.Statement.{statement}
 use Rattle.write_lists.proofs.number_size.Tie as tie
 
-add-result : tie.Need-add-result
-add-result c = omega (arith, width-range (c .before .before .before .args .u .number), c .width-of .ensures)
-
-returns : tie.Need-returns
-returns c = let u = c .before .before .before .args .u in omega (arith, width-range (u .number), c .width-of .ensures, known-size u (omega arith))
-
-returns-2 : tie.Need-returns-2
-returns-2 c = omega (arith, unknown-size (c .before .before .args .u) (λ z. omega arith))
-
 pub number-size-spec : {M : Type 1} → statement M
-number-size-spec = tie.close (tie.spec (λ c κs. search needs) add-result returns returns-2)
+unfolding numberOctets
+number-size-spec =
+    tie.close
+    (tie.spec (λ c κs. search needs) (λ c. omega (arith, width-range (c .before .before .before .args .u .number), c .width-of .ensures))
+    (λ c. let u = c .before .before .before .args .u in
+    rw (eq-eqb (u .known) 1 (omega arith)) (omega (arith, width-range (u .number), c .width-of .ensures, number-length 0x02 (u .number))))
+    (λ c. rw (ne-eqb (c .before .before .args .u .known) 1 (λ z. omega arith)) (omega (arith, null-length 0x05))))

@@ -1,85 +1,42 @@
--- `write_lists::put_charge` meets its contract.
--- Assumes nothing.
-use mathlib.Core.Path.{ap, sym, _∙_}
-use native.Mathlib.Omega.{arith}
-use lib.ListN.{length}
-use borrow.Author.Needs.{needs}
-use Rattle.coding.proofs.Writing.{wrote-as}
-use Rattle.types.specs.Arguments.{chargeOf}
+use Rattle.prelude.proofs.Prelude.{ap, _∙_, arith, needs, length}
+use Rattle.types.specs.{declared.Charge.Charge, Arguments.chargeOf}
 use Rattle.write_figures.proofs.Plain.{unlisted-plain, unlisted-write}
+use Rattle.write_rates.proofs.Three.{named, room-by}
 use Rattle.write_lists.specs.Octets.{withList}
 use Rattle.write_lists.proofs.Charged.{figure-fine, units-fine, rates-fine, units-octets, rates-octets}
 use Rattle.write_lists.proofs.put_charge.Statement.{statement}
 use Rattle.write_lists.proofs.put_charge.Tie as tie
 
+abbrev held : tie.Start → Charge
+held s = withList (s .args .f) (s .args .numbers .now) (s .args .octets .now)
+
 put-units-charge-requires : tie.Need-put-units-charge-requires
 put-units-charge-requires c κs =
     let c3 = c .before .before .before in
     let s = c3 .before in
-    let a = s .args in
-    let o = a .operation in
-    let x = withList (a .f) (a .numbers .now) (a .octets .now) in
-    let v = s .pre .1 .1 .0 in
-    let e = ap length (units-octets o (s .pre .0) x v (omega arith)) in (
-      (figure-fine o (s .pre .0) x v, units-fine o (s .pre .0) x v (omega arith)),
-      (omega (arith, s .pre .1 .1 .1, e), omega (arith, s .pre .1 .1 .1, e)),
-    )
-
-returns : tie.Need-returns
-returns c =
-    let c3 = c .before .before .before in let c6 = c3 .before .before .before in
-    let s = c6 .before in
-    let a = s .args in
-    wrote-as (sym (units-octets (a .operation) (s .pre .0) (withList (a .f) (a .numbers .now) (a .octets .now)) (s .pre .1 .1 .0) (omega arith))) (c .before .before .put-units-charge .ensures)
+    let v = s .pre .1 .1 in
+    let e = units-octets (s .args .operation) (s .pre .0) (held s) (v .0) (omega arith) in
+    ((figure-fine _ (s .pre .0) (held s) (v .0), units-fine _ (s .pre .0) (held s) (v .0) (omega arith)), (omega (arith, v .1 .0, ap length e), room-by e (v .1 .1)))
 
 put-rates-charge-requires : tie.Need-put-rates-charge-requires
 put-rates-charge-requires c κs =
     let c3 = c .before .before .before in
     let s = c3 .before .before .before in
-    let a = s .args in
-    let o = a .operation in
-    let x = withList (a .f) (a .numbers .now) (a .octets .now) in
-    let v = s .pre .1 .1 .0 in
-    let e = ap length (rates-octets o (s .pre .0) x v (omega arith)) in
-    (s .pre .1 .0, (rates-fine o (s .pre .0) x v (omega arith), (omega (arith, s .pre .1 .1 .1, e), omega (arith, s .pre .1 .1 .1, e))))
-
-returns-2 : tie.Need-returns-2
-returns-2 c =
-    let c3 = c .before .before .before in let c6 = c3 .before .before .before in
-    let s = c6 .before .before .before in
-    let a = s .args in
-    wrote-as (sym (rates-octets (a .operation) (s .pre .0) (withList (a .f) (a .numbers .now) (a .octets .now)) (s .pre .1 .1 .0) (omega arith))) (c .before .before .put-rates-charge .ensures)
+    let v = s .pre .1 .1 in
+    let e = rates-octets (s .args .operation) (s .pre .0) (held s) (v .0) (omega arith) in
+    (s .pre .1 .0, (rates-fine _ (s .pre .0) (held s) (v .0) (omega arith), (omega (arith, v .1 .0, ap length e), room-by e (v .1 .1))))
 
 put-figure-requires : tie.Need-put-figure-requires
 put-figure-requires c κs =
     let c3 = c .before .before .before in
     let s = c3 .before .before .before in
-    let a = s .args in
-    let o = a .operation in
-    let x = withList (a .f) (a .numbers .now) (a .octets .now) in
     let v = s .pre .1 .1 .0 in
-    let k3 = c .before .before .before .if1 .left in
-    let k4 = c .before .if2 .left in (
-      s .pre .0,
-      (
-        (k3, k4),
-        (
-          ap ((chargeOf o) .valid) (unlisted-plain o (s .pre .0 .0) (s .pre .0 .1) x k3 k4 v) ∙ v,
-          omega (arith, s .pre .1 .1 .1, ap length (unlisted-write o (s .pre .0 .0) (s .pre .0 .1) x k3 k4 v)),
-        ),
-      ),
-    )
-
-returns-3 : tie.Need-returns-3
-returns-3 c =
-    let c3 = c .before .before .before in let c6 = c3 .before .before .before in
-    let s = c6 .before .before .before in
-    let a = s .args in
-    wrote-as (sym (unlisted-write (a .operation) (s .pre .0 .0) (s .pre .0 .1) (withList (a .f) (a .numbers .now) (a .octets .now))
-    (c3 .before .before .before .if1 .left) (c3 .before .if2 .left) (s .pre .1 .1 .0))) (c .before .before .put-figure .ensures)
+    let k3 = c3 .if1 .left in
+    let k4 = c .before .if2 .left in
+    (s .pre .0, ((k3, k4), (ap ((chargeOf (s .args .operation)) .valid) (unlisted-plain _ (s .pre .0 .0) (s .pre .0 .1) (held s) k3 k4 v) ∙ v, search (named, unlisted-write))))
 
 pub put-charge-spec : {M : Type 1} → statement M
 put-charge-spec =
     tie.close
-    (tie.spec put-units-charge-requires (λ c. search needs) returns put-rates-charge-requires (λ c. search needs) returns-2 put-figure-requires (λ c. search needs)
-    returns-3)
+    (tie.spec put-units-charge-requires (λ c. search needs) (λ c. search (named, units-octets)) put-rates-charge-requires (λ c. search needs)
+    (λ c. search (named, rates-octets)) put-figure-requires (λ c. search needs) (λ c. search (named, unlisted-write)))

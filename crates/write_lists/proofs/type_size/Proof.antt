@@ -1,17 +1,12 @@
--- `write_lists::type_size` meets its contract.
--- Assumes nothing.
-use mathlib.Core.Path.{ap}
-use native.Mathlib.Omega.{arith}
-use lib.ListN.{length}
-use Rattle.write_lists.proofs.Entry.{type-none, type-size}
+use Rattle.prelude.proofs.Prelude.{arith, eq-eqb, ne-eqb}
+use Rattle.coding.proofs.Small.{small-length}
+use Rattle.write_lists.specs.Octets.{typeOctets}
 use Rattle.write_lists.proofs.type_size.Statement.{statement}
 use Rattle.write_lists.proofs.type_size.Tie as tie
 
-returns : tie.Need-returns
-returns c = omega (arith, ap length (type-none (c .before .before .args .u) (omega arith)))
-
-returns-2 : tie.Need-returns-2
-returns-2 c = omega (arith, type-size (c .before .before .args .u) (λ z. omega arith) (omega arith))
-
 pub type-size-spec : {M : Type 1} → statement M
-type-size-spec = tie.close (tie.spec returns returns-2)
+unfolding typeOctets
+type-size-spec =
+    tie.close
+    (tie.spec (λ c. rw (eq-eqb (c .before .before .args .u .kind) 0 (omega arith)) (omega arith))
+    (λ c. let u = c .before .before .args .u in rw (ne-eqb (u .kind) 0 (λ z. omega arith)) (omega (arith, small-length 0x02 (u .kind) (omega arith)))))

@@ -1,8 +1,5 @@
--- `write_rates::no_step` meets its contract.
--- Assumes nothing.
 use Rattle.coding.proofs.Tests.{tests}
-use Rattle.write_rates.proofs.Prices.{zero-first}
-use Rattle.write_rates.proofs.no_step.Statement.{statement}
+use Rattle.write_rates.proofs.{Prices.zero-first, no_step.Statement.statement}
 use Rattle.write_rates.proofs.no_step.Tie as tie
 
 pub no-step-spec : {M : Type 1} → statement M

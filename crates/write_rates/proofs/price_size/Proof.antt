@@ -1,33 +1,29 @@
--- `write_rates::price_size` meets its contract.
--- Assumes nothing.
-use Prim.Native.Nat.{_+_}
-use native.Mathlib.Omega.{arith}
-use borrow.Author.Needs.{needs}
-use Rattle.coding.proofs.Writing.{lead-length-short}
-use Rattle.write_rates.proofs.Octets.{rate-parts, priced-length, priced-room, price-code-length, price-null-length}
-use Rattle.write_rates.proofs.price_size.Statement.{statement}
+use Rattle.prelude.proofs.Prelude.{refl, arith, eqb, eq-eqb, ne-eqb, lt-leb, needs}
+use Rattle.coding.proofs.{Small.small-length, Small.null-length, Holds.tested}
+use Rattle.write_rates.specs.Prices.{priceOctets}
+use Rattle.write_rates.proofs.{Octets.rate-parts, Octets.price-length, price_size.Statement.statement}
 use Rattle.write_rates.proofs.price_size.Tie as tie
-
--- `write_rates::price_size` meets its contract.
--- Assumes nothing.
 
 returns : tie.Need-returns
 returns c =
-    let r = c .before .before .before .args .r in
     let n = c .priced-size in
-    omega (arith, n .ensures, priced-length r, lead-length-short (0xa0 + r .kind) (n .result) (omega (arith, n .ensures)), priced-room r (omega arith) (n .result) (n .ensures .0))
+    omega (arith, n .ensures, price-length (c .before .before .before .args .r) _ (n .result) (omega arith) refl (n .ensures .0) (omega (arith, n .ensures)))
 
 returns-2 : tie.Need-returns-2
+unfolding priceOctets
 returns-2 c =
     let c3 = c .before .before .before in
-    let s = c3 .before in
-    let v = rate-parts (s .args .r) (s .pre) in
-    omega (arith, price-code-length (s .args .r) (omega arith) (omega (arith, v .detail)))
+    let r = c3 .before .args .r in
+    let v = rate-parts r (c3 .before .pre) in
+    rw (lt-leb (r .kind) 3 (omega arith), eq-eqb (r .kind) 4 (omega arith)) (omega (arith, small-length 0x02 (r .detail) (omega arith)))
 
 returns-3 : tie.Need-returns-3
+unfolding priceOctets
 returns-3 c =
     let c3 = c .before .before .before in
-    omega (arith, price-null-length (c3 .before .args .r) (omega arith))
+    let r = c3 .before .args .r in
+    rw (lt-leb (r .kind) 3 (omega arith), ne-eqb (r .kind) 4 (λ z. omega arith))
+    (tested (eqb (r .kind) 5) (λ q. rw q (omega (arith, null-length 0x84))) (λ q. rw q (omega (arith, null-length 0x85))))
 
 pub price-size-spec : {M : Type 1} → statement M
 price-size-spec = tie.close (tie.spec (λ c κs. search needs) (λ c. search needs) returns returns-2 returns-3)

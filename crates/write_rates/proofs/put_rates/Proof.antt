@@ -1,73 +1,18 @@
--- `write_rates::put_rates` meets its contract.
--- Assumes nothing.
-use Prim.Native.Nat.{_+_, _≤_, _-_}
-use mathlib.Core.Path.{_≡_}
-use native.Mathlib.Omega.{arith}
-use Rattle.coding.specs.Codec.{writeAll}
-use Rattle.coding.specs.Written.{Wrote}
-use Rattle.coding.specs.Rows.{table}
-use Rattle.coding.proofs.Writing.{wrote-none, wrote-next}
-use Rattle.types.specs.Rates.{rate, rateAt, rateList}
-use Rattle.write_figures.specs.Fine.{laid}
-use Rattle.write_rates.proofs.Tables.{all-at, size-more, size-most, wrote-more}
-use Rattle.write_rates.proofs.put_rates.Statement.{statement}
+use Rattle.prelude.proofs.Prelude.{_-_, arith}
+use Rattle.types.specs.Rates.{rate, rateAt}
+use Rattle.write_tests.specs.Fine.{laid}
+use Rattle.write_rates.proofs.{Tables.Putting, Tables.putting-none, Tables.putting-room, Tables.putting-more, Tables.putting-done, Tables.left-valid, put_rates.Statement.statement}
 use Rattle.write_rates.proofs.put_rates.Tie as tie
 
 abbrev Inv-loop : tie.InvT-loop
-Inv-loop buf₀ at numbers octets n p₀ i₀ buf p i = (i ≤ n) × Wrote buf₀ buf at (writeAll (rate .write) (rateList (laid numbers octets) i)) p
+Inv-loop buf₀ at numbers octets n p₀ i₀ buf p i = Putting rate (rateAt (laid numbers octets)) n buf₀ buf at p i
 
 abbrev μ-loop : tie.MeasureT-loop
 μ-loop buf₀ at numbers octets n p₀ i₀ buf p i = n - i
 
-loop-holds : tie.Need-loop-holds Inv-loop μ-loop
-unfolding table
-loop-holds c = (omega arith, wrote-next (omega arith) (wrote-none _ _))
-
-rate-of-requires : tie.Need-rate-of-requires Inv-loop μ-loop
-rate-of-requires c κs = omega arith
-
-put-rate-requires : tie.Need-put-rate-requires Inv-loop μ-loop
-put-rate-requires c κs =
-    let c3 = c .before .before .before in
-    let s = c3 .before .before in
-    let a = s .args in
-    let l = c .before .before .before .loop in
-    let e = c .before .rate-of .ensures in (
-      all-at (rate .valid) (a .n) (rateAt (laid (a .numbers .now) (a .octets .now))) (l .i) e (omega arith) (s .pre .1 .0),
-      omega (
-        arith,
-        l .inv .1 .place,
-        l .inv .1 .kept,
-        size-more (rate .write) (rateAt (laid (a .numbers .now) (a .octets .now))) (l .i) e,
-        size-most (rate .write)
-            (rateAt (laid (a .numbers .now) (a .octets .now))) (l .i + 1) (a .n) (omega arith),
-      ),
-    )
-
-add-i : tie.Need-add-i Inv-loop μ-loop
-add-i c = omega arith
-
-loop-less : tie.Need-loop-less Inv-loop μ-loop
-loop-less c = omega arith
-
-loop-again : tie.Need-loop-again Inv-loop μ-loop
-loop-again c =
-    let c3 = c .before .before .before in let c6 = c3 .before .before .before in
-    let a = c6 .before .before .args in
-    let l = c3 .before .before .before .loop in
-    (omega arith, wrote-more (rate .write) (rateAt (laid (a .numbers .now) (a .octets .now))) (l .i) (c3 .before .rate-of .ensures) (l .inv .1) (c .before .before .put-rate .ensures))
-
-same-length : tie.Need-same-length Inv-loop μ-loop
-same-length c = c .before .loop .inv .1 .kept
-
-returns : tie.Need-returns Inv-loop μ-loop
-returns c =
-    let a = c .before .before .before .args in
-    let l = c .before .loop in
-    let e : l .i ≡ a .n = omega arith in
-    rw (← e) (l .inv .1)
-
 pub put-rates-spec : {M : Type 1} → statement M
 put-rates-spec =
     tie.close
-    (tie.spec Inv-loop μ-loop loop-holds rate-of-requires put-rate-requires add-i loop-less loop-again same-length returns)
+    (tie.spec Inv-loop μ-loop (λ c. putting-none (c .before .pre .1 .0)) (λ c κs. omega arith) (λ c κs. search (left-valid, putting-room)) (λ c. omega arith)
+    (λ c. omega arith) (λ c. search putting-more)
+    (λ c. c .before .loop .inv .wrote .kept) (λ c. putting-done (c .before .loop .inv) (λ z. omega arith)))

@@ -1,20 +1,13 @@
--- `write_rates::step_size` meets its contract.
--- Assumes nothing.
-use mathlib.Core.Path.{ap, sym, _∙_}
-use native.Mathlib.Omega.{arith}
-use lib.ListN.{length}
-use Rattle.write_rates.proofs.Octets.{rate-parts, step-given, step-none}
-use Rattle.write_rates.proofs.step_size.Statement.{statement}
+use Rattle.prelude.proofs.Prelude.{arith, eq-eqb, ne-eqb}
+use Rattle.coding.specs.Codec.{maybe}
+use Rattle.write_rates.specs.Prices.{stepOctets}
+use Rattle.write_rates.proofs.{Octets.rate-parts, step_size.Statement.statement}
 use Rattle.write_rates.proofs.step_size.Tie as tie
 
-scaled-size-requires : tie.Need-scaled-size-requires
-scaled-size-requires c κs = rate-parts (c .before .before .args .r) (c .before .before .pre) .stepscale
-
-returns : tie.Need-returns
-returns c = let e = c .scaled-size .ensures in (e .0 0xa5 ∙ ap length (sym (step-given (c .before .before .before .args .r) (omega arith))), e .1)
-
-returns-2 : tie.Need-returns-2
-returns-2 c = omega (arith, ap length (step-none (c .before .before .args .r) (λ z. omega arith)))
-
 pub step-size-spec : {M : Type 1} → statement M
-step-size-spec = tie.close (tie.spec scaled-size-requires returns returns-2)
+unfolding stepOctets maybe
+step-size-spec =
+    tie.close
+    (tie.spec (λ c κs. rate-parts _ (c .before .before .pre) .stepscale)
+    (λ c. let e = c .scaled-size .ensures in rw (eq-eqb (c .before .before .before .args .r .stepped) 1 (omega arith)) (e .0 0xa5, e .1))
+    (λ c. rw (ne-eqb (c .before .before .args .r .stepped) 1 (λ z. omega arith)) (omega arith)))

@@ -1,49 +1,28 @@
--- `write_rates::terms_size` meets its contract.
--- Assumes nothing.
-use mathlib.Core.Path.{ap}
-use native.Mathlib.Omega.{arith}
-use lib.ListN.{length}
-use borrow.Author.Needs.{needs}
+use Rattle.prelude.proofs.Prelude.{arith, eq-eqb, ne-eqb, needs}
 use Rattle.coding.proofs.Small.{small-length}
-use Rattle.write_rates.proofs.Octets.{rate-parts, terms-none, terms-unit-length, terms-room}
-use Rattle.write_rates.proofs.terms_size.Statement.{statement}
+use Rattle.write_rates.specs.Prices.{termOctets}
+use Rattle.write_rates.proofs.{Octets.rate-parts, Octets.terms-length, terms_size.Statement.statement}
 use Rattle.write_rates.proofs.terms_size.Tie as tie
 
--- `write_rates::terms_size` meets its contract.
--- Assumes nothing.
-
-returns : tie.Need-returns
-returns c = omega (arith, ap length (terms-none (c .before .before .args .r) (omega arith)))
-
 returns-2 : tie.Need-returns-2
+unfolding termOctets
 returns-2 c =
     let c3 = c .before .before .before in
-    let s = c3 .before in
-    let v = rate-parts (s .args .r) (s .pre) in
-    omega (arith, terms-unit-length (s .args .r) (omega arith) (omega (arith, v .detail)))
-
-scaled-size-requires : tie.Need-scaled-size-requires
-scaled-size-requires c κs =
-    let c3 = c .before .before .before in
-    rate-parts (c3 .before .args .r) (c3 .before .pre) .scale
+    let r = c3 .before .args .r in
+    let v = rate-parts r (c3 .before .pre) in
+    rw (ne-eqb (r .kind) 2 (λ z. omega arith), eq-eqb (r .kind) 3 (omega arith)) (omega (arith, small-length 0x83 (r .detail) (omega arith)))
 
 returns-3 : tie.Need-returns-3
 returns-3 c =
     let c3 = c .before .before .before in
     let s = c3 .before .before .before in
-    let r = s .args .r in
-    let v = rate-parts r (s .pre) in
-    omega (
-      arith,
-      c .step-size .ensures,
-      c .before .scaled-size .ensures .0 0xa4,
-      c .before .scaled-size .ensures .1,
-      small-length 0x83 (r .detail)
-          (omega (arith, v .detail)),
-      terms-room r (λ z. omega arith) (λ z. omega arith),
-    )
+    let n = c .before .scaled-size .ensures in
+    omega (arith, c .step-size .ensures, n .0 0xa4, n .1, terms-length (s .args .r) (λ z. omega arith) (λ z. omega arith) (rate-parts (s .args .r) (s .pre) .detail))
 
 pub terms-size-spec : {M : Type 1} → statement M
+unfolding termOctets
 terms-size-spec =
     tie.close
-    (tie.spec returns returns-2 scaled-size-requires (λ c. search needs) (λ c κs. search needs) (λ c. search needs) returns-3)
+    (tie.spec (λ c. rw (eq-eqb (c .before .before .args .r .kind) 2 (omega arith)) (omega arith)) returns-2
+    (λ c κs. let c3 = c .before .before .before in rate-parts _ (c3 .before .pre) .scale) (λ c. search needs) (λ c κs. search needs) (λ c. search needs)
+    returns-3)

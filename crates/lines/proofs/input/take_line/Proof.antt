@@ -1,15 +1,8 @@
--- `lines::input::take_line` meets its contract. The loop's invariant: the characters passed are heard, and none of them ended the line. The measure is what is left.
--- Assumes nothing.
-use native.Mathlib.Omega.{arith}
-use borrow.Author.Needs.{needs}
-use Prim.Native.Nat.{ℕ, _≤_, _-_}
-use mathlib.Core.Path.{_≡_, _∙_}
-use mathlib.Core.List.{List}
-use lib.ListN.{length}
+-- The loop's invariant: the characters passed are heard, and none of them ended the line. The measure is what is left.
+use Rattle.prelude.proofs.Prelude.{arith, needs, ℕ, _≤_, _-_, _≡_, _∙_, List, length}
 use Rattle.coding.specs.Reader.{part}
 use Rattle.lines.specs.Machine.{state, turn, turns}
-use Rattle.lines.proofs.Steps.{turns-none, turns-more, turn-open, heard-on}
-use Rattle.lines.proofs.input.take_line.Statement.{statement}
+use Rattle.lines.proofs.{Steps.turns-none, Steps.turns-more, Steps.turn-open, Steps.heard-on, input.take_line.Statement.statement}
 use Rattle.lines.proofs.input.take_line.Tie as tie
 
 abbrev Inv-loop : tie.InvT-loop
@@ -18,12 +11,6 @@ Inv-loop s from octets₀ at₀ line₀ octets at line =
 
 abbrev μ-loop : tie.MeasureT-loop
 μ-loop s from octets₀ at₀ line₀ octets at line = length s - at
-
-returns : tie.Need-returns Inv-loop μ-loop
-returns c = (c .before .take-ready .ensures .0, c .before .take-ready .ensures .1 (c .if1 .taken))
-
-loop-holds : tie.Need-loop-holds Inv-loop μ-loop
-loop-holds c = (c .before .before .take-ready .ensures .0 .inside, omega arith, λ t. turns-none _ _ _)
 
 -- what was heard, with the line's whole octets first
 heard-by : (c : tie.At-loop Inv-loop μ-loop) → let r = c .before .before .before in let a = r .before .before .before .args in
@@ -48,13 +35,10 @@ loop-again c =
       λ t. turns-more _ _ _ _ (omega arith) (omega arith) (l .loop .inv .2 t) ∙ turn-open _ _ t _ (e .if2 .left) ∙ rw (c .fed .ensures .0, c .fed .ensures .1),
     )
 
-returns-3 : tie.Need-returns-3 Inv-loop μ-loop
-returns-3 c =
-    let h = heard-by (c .before) in
-    (record { onward = h .0; inside = omega arith; heard = h .1 }, omega arith)
-
 pub take-line-spec : {M : Type 1} → statement M
 take-line-spec =
     tie.close
-    (tie.spec Inv-loop μ-loop (λ c κs. search needs) returns loop-holds (λ c. search needs) (λ c. search needs) returns-2 (λ c κs. search needs)
-    (λ c. search needs) loop-again returns-3)
+    (tie.spec Inv-loop μ-loop (λ c κs. search needs) (λ c. (c .before .take-ready .ensures .0, c .before .take-ready .ensures .1 (c .if1 .taken)))
+    (λ c. (c .before .before .take-ready .ensures .0 .inside, omega arith, λ t. turns-none _ _ _)) (λ c. search needs) (λ c. search needs) returns-2
+    (λ c κs. search needs) (λ c. search needs) loop-again
+    (λ c. let h = heard-by (c .before) in (record { onward = h .0; inside = omega arith; heard = h .1 }, omega arith)))

@@ -1,14 +1,7 @@
--- `lines::input::take_octets` meets its contract. The loop's invariant: k octets with their spaces are taken. The measure is what may still come.
--- Assumes nothing.
-use native.Mathlib.Omega.{arith}
-use borrow.Author.Needs.{needs}
-use Prim.Native.Nat.{_≤_, _<_, _+_, _*_, _-_}
-use mathlib.Core.Path.{_≡_, sym}
-use mathlib.Core.Bool.{true, false, true≢false}
-use Rattle.lines.specs.declared.input.Line.{Line}
-use Rattle.lines.specs.Machine.{spacedLine, Heard}
-use Rattle.lines.proofs.Steps.{Taken, Next, taken-none, taken-more, taken-last}
-use Rattle.lines.proofs.input.take_octets.Statement.{statement}
+-- The loop's invariant: k octets with their spaces are taken. The measure is what may still come.
+use Rattle.prelude.proofs.Prelude.{arith, needs, _≤_, _<_, _+_, _*_, _-_, _≡_, sym, true, false, true≢false}
+use Rattle.lines.specs.{declared.input.Line.Line, Machine.spacedLine, Machine.Heard}
+use Rattle.lines.proofs.{Steps.Taken, Steps.Next, Steps.taken-none, Steps.taken-more, Steps.taken-last, input.take_octets.Statement.statement}
 use Rattle.lines.proofs.input.take_octets.Tie as tie
 
 abbrev Inv-loop : tie.InvT-loop
@@ -16,9 +9,6 @@ Inv-loop s from l octets₀ count most k₀ at₀ octets k at = (k ≤ most) × 
 
 abbrev μ-loop : tie.MeasureT-loop
 μ-loop s from l octets₀ count most k₀ at₀ octets k at = most - k
-
-loop-holds : tie.Need-loop-holds Inv-loop μ-loop
-loop-holds c = (omega arith, omega arith, taken-none _ _ _ _)
 
 -- the turn in which a first digit is read
 abbrev turn-of : tie.After-digit Inv-loop μ-loop → tie.At-loop Inv-loop μ-loop
@@ -31,9 +21,6 @@ start c = let m = c .before in m .before .before .before
 left-at : (t : tie.At-loop Inv-loop μ-loop) {m : Line} → let a = start t .args in m ≡ spacedLine (a .l) (t .loop .k)
     → Heard (a .s .now) (a .from) (a .l) (a .octets .now) (record { line = m; at = t .loop .at; ended = false }) (t .loop .octets) × (false ≡ true → a .from < t .loop .at)
 left-at t e = (record { onward = omega arith; inside = omega arith; heard = λ t'. rw e (t .loop .inv .2 t') }, λ z. absurd (true≢false (sym z)))
-
-returns-2 : tie.Need-returns-2 Inv-loop μ-loop
-returns-2 c = let d = c .before .before .before in left-at (turn-of (d .before .before)) (c .spaced2 .ensures)
 
 -- both digits are read
 abbrev first : tie.Else2 Inv-loop μ-loop → tie.Else1 Inv-loop μ-loop
@@ -55,23 +42,20 @@ next-at c =
       taken = turn-of (f .before) .loop .inv .2;
     }
 
-returns-3 : tie.Need-returns-3 Inv-loop μ-loop
-returns-3 c = let d = c .before .before .before in left-at (turn-of (first (d .before) .before)) (c .spaced3 .ensures)
-
 returns-4 : tie.Need-returns-4 Inv-loop μ-loop
 returns-4 c =
     let d = c .before .before .before in
     (record { onward = omega arith; inside = omega arith; heard = taken-last (next-at (d .before)) (c .octet .ensures) (c .before .if4 .left) }, λ e. omega arith)
 
-loop-again : tie.Need-loop-again Inv-loop μ-loop
-loop-again c = (omega arith, omega arith, taken-more (next-at (c .before .before .before)) (c .octet2 .ensures) (c .before .if3 .left))
-
 pub take-octets-spec : {M : Type 1} → statement M
 take-octets-spec =
     tie.close
-    (tie.spec Inv-loop μ-loop (λ c. search needs) (λ c κs. search needs) (λ c. search needs) (λ c κs. search needs) loop-holds (λ c. search needs)
-    (λ c κs. search needs) (λ c κs. search needs) (λ c. left-at (turn-of (c .before .before)) (c .spaced .ensures)) (λ c. search needs) (λ c. search needs)
-    (λ c κs. search needs) (λ c κs. search needs) returns-2 (λ c. search needs) (λ c. search needs) (λ c κs. search needs) returns-3 (λ c κs. search needs)
-    (λ c. search needs) (λ c. search needs) (λ c. search needs) (λ c. search needs) (λ c. search needs) returns-4 (λ c κs. search needs) (λ c. search needs)
-    (λ c. search needs) (λ c. search needs) (λ c. search needs) (λ c. search needs) loop-again (λ c κs. search needs)
+    (tie.spec Inv-loop μ-loop (λ c. search needs) (λ c κs. search needs) (λ c. search needs) (λ c κs. search needs)
+    (λ c. (omega arith, omega arith, taken-none _ _ _ _)) (λ c. search needs) (λ c κs. search needs) (λ c κs. search needs)
+    (λ c. left-at (turn-of (c .before .before)) (c .spaced .ensures)) (λ c. search needs) (λ c. search needs) (λ c κs. search needs) (λ c κs. search needs)
+    (λ c. let d = c .before .before .before in left-at (turn-of (d .before .before)) (c .spaced2 .ensures)) (λ c. search needs) (λ c. search needs)
+    (λ c κs. search needs) (λ c. let d = c .before .before .before in left-at (turn-of (first (d .before) .before)) (c .spaced3 .ensures))
+    (λ c κs. search needs) (λ c. search needs) (λ c. search needs) (λ c. search needs) (λ c. search needs) (λ c. search needs) returns-4
+    (λ c κs. search needs) (λ c. search needs) (λ c. search needs) (λ c. search needs) (λ c. search needs) (λ c. search needs)
+    (λ c. (omega arith, omega arith, taken-more (next-at (c .before .before .before)) (c .octet2 .ensures) (c .before .if3 .left))) (λ c κs. search needs)
     (λ c. left-at (c .before .before) (c .spaced4 .ensures)))

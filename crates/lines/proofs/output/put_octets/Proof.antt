@@ -1,16 +1,8 @@
--- `lines::output::put_octets` meets its contract. The loop's invariant: what is put and the text of the octets left make the whole text. The measure is what is left.
--- Assumes nothing.
-use native.Mathlib.Omega.{arith}
-use borrow.Author.Needs.{needs}
-use Prim.Native.Nat.{ℕ, _≤_, _+_, _*_, _-_}
-use mathlib.Core.Path.{_≡_, refl}
-use mathlib.Core.List.{List, [], _++_}
-use Rattle.coding.specs.Reader.{part}
-use Rattle.coding.specs.Written.{Wrote}
+-- The loop's invariant: what is put and the text of the octets left make the whole text. The measure is what is left.
+use Rattle.prelude.proofs.Prelude.{arith, needs, ℕ, _≤_, _+_, _*_, _-_, _≡_, refl, List, [], _++_}
+use Rattle.coding.{specs.Reader.part, specs.Written.Wrote, proofs.Writing.wrote-none, proofs.Writing.wrote-next, proofs.Writing.wrote-as, proofs.Writing.wrote-both}
 use Rattle.lines.specs.Text.{hexText}
-use Rattle.coding.proofs.Writing.{wrote-none, wrote-next, wrote-as, wrote-both}
-use Rattle.lines.proofs.Texts.{hex-more, hex-last}
-use Rattle.lines.proofs.output.put_octets.Statement.{statement}
+use Rattle.lines.proofs.{Texts.hex-more, Texts.hex-last, output.put_octets.Statement.statement}
 use Rattle.lines.proofs.output.put_octets.Tie as tie
 
 abbrev Inv-loop : tie.InvT-loop
@@ -20,13 +12,6 @@ Inv-loop octets n out₀ from last i₀ at₀ out i at =
 
 abbrev μ-loop : tie.MeasureT-loop
 μ-loop octets n out₀ from last i₀ at₀ out i at = last - i
-
-returns : tie.Need-returns Inv-loop μ-loop
-unfolding hexText
-returns c = (rw (c .if1 .taken) (wrote-next (omega arith) (wrote-none _ _)), omega arith)
-
-loop-holds : tie.Need-loop-holds Inv-loop μ-loop
-loop-holds c = (omega arith, omega arith, [], wrote-next (omega arith) (wrote-none _ _), refl)
 
 loop-again : tie.Need-loop-again Inv-loop μ-loop
 loop-again c =
@@ -50,5 +35,6 @@ returns-2 c =
 pub put-octets-spec : {M : Type 1} → statement M
 put-octets-spec =
     tie.close
-    (tie.spec Inv-loop μ-loop returns (λ c. search needs) loop-holds (λ c. search needs) (λ c κs. search needs) (λ c. search needs) (λ c. search needs)
-    loop-again (λ c. search needs) (λ c κs. search needs) returns-2)
+    (tie.spec Inv-loop μ-loop (λ c. unfold hexText in (rw (c .if1 .taken) (wrote-next (omega arith) (wrote-none _ _)), omega arith)) (λ c. search needs)
+    (λ c. (omega arith, omega arith, [], wrote-next (omega arith) (wrote-none _ _), refl)) (λ c. search needs) (λ c κs. search needs) (λ c. search needs)
+    (λ c. search needs) loop-again (λ c. search needs) (λ c κs. search needs) returns-2)

@@ -1,24 +1,17 @@
--- `lines::output::put_refused` meets its contract.
--- Assumes nothing.
-use native.Mathlib.Omega.{arith}
-use borrow.Author.Needs.{needs}
-use borrow.Author.Tests.{lt-ltb, le-ltb}
+use Rattle.prelude.proofs.Prelude.{arith, needs, lt-ltb, le-ltb}
 use Rattle.coding.proofs.Writing.{wrote-2, wrote-3, wrote-both}
 use Rattle.lines.specs.Text.{refusedText}
 use Rattle.lines.proofs.output.put_refused.Statement.{statement}
 use Rattle.lines.proofs.output.put_refused.Tie as tie
 
-returns : tie.Need-returns
-unfolding refusedText
-returns c = (rw (lt-ltb _ 10 (c .if1 .taken)) (wrote-both (c .before .put-octets .ensures) (wrote-2 _ _ _ _)), omega (arith, c .before .put-octets .ensures .place))
-
-returns-2 : tie.Need-returns-2
-unfolding refusedText
-returns-2 c = (rw (le-ltb _ 10 (c .if1 .left)) (wrote-both (c .before .put-octets .ensures) (wrote-3 _ _ _ _ _)), omega (arith, c .before .put-octets .ensures .place))
-
 pub put-refused-spec : {M : Type 1} → statement M
 put-refused-spec =
     tie.close
     (tie.spec (λ c. search needs) (λ c κs. search needs) (λ c. search needs) (λ c. search needs) (λ c. search needs) (λ c. search needs) (λ c. search needs)
-    (λ c. search needs) returns (λ c. search needs) (λ c. search needs) (λ c. search needs) (λ c. search needs) (λ c. search needs) (λ c. search needs)
-    (λ c. search needs) (λ c. search needs) returns-2)
+    (λ c. search needs)
+    (λ c. unfold refusedText in
+    (rw (lt-ltb _ 10 (c .if1 .taken)) (wrote-both (c .before .put-octets .ensures) (wrote-2 _ _ _ _)), omega (arith, c .before .put-octets .ensures .place)))
+    (λ c. search needs) (λ c. search needs) (λ c. search needs) (λ c. search needs) (λ c. search needs) (λ c. search needs) (λ c. search needs)
+    (λ c. search needs)
+    (λ c. unfold refusedText in
+    (rw (le-ltb _ 10 (c .if1 .left)) (wrote-both (c .before .put-octets .ensures) (wrote-3 _ _ _ _ _)), omega (arith, c .before .put-octets .ensures .place))))

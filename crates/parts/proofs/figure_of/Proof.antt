@@ -1,0 +1,10 @@
+use Rattle.prelude.proofs.Prelude.{needs}
+use Rattle.types.specs.Stored.{figureIn}
+use Rattle.parts.proofs.figure_of.Statement.{statement}
+use Rattle.parts.proofs.figure_of.Tie as tie
+
+pub figure-of-spec : {M : Type 1} → statement M
+unfolding figureIn
+figure-of-spec =
+    tie.close
+    (tie.spec (λ c κs. search needs) (λ c κs. search needs) (search needs) (search needs) (search needs) (search needs) (search needs) (search needs) (λ c. cc))

@@ -1,0 +1,165 @@
+// Operation and error values: which are known in a frame, and how one is read.
+ghost use mathlib.Core.Path.{_≡_};
+ghost use mathlib.Core.List.{[], _∷_};
+ghost use Prim.Native.Nat.{_+_, _≤_, _<_};
+ghost use lib.ListN.{length};
+ghost use Rattle.coding.specs.Reader.{part};
+ghost use Rattle.coding.specs.Codec.{oneOf};
+ghost use Rattle.coding.specs.Leaves.{listing};
+ghost use Rattle.coding.specs.Shown.{shown, verdict};
+ghost use Rattle.types.specs.Frames.{operations, errors, value};
+ghost use Rattle.read_heads.specs.Heads.{knownIn, unknownIn};
+
+fn known_operation(n: u32) -> bool
+    ensures { λ r. ⌜ r ≡ oneOf operations n ⌝ }
+{
+    if n < 30 {
+        return false;
+    }
+    if 36 < n {
+        return false;
+    }
+    true
+}
+
+pub fn known_error(n: u32) -> bool
+    ensures { λ r. ⌜ r ≡ oneOf errors n ⌝ }
+{
+    if n == 0 {
+        return true;
+    }
+    if n == 3 {
+        return true;
+    }
+    if n == 4 {
+        return true;
+    }
+    if n == 7 {
+        return true;
+    }
+    if n == 26 {
+        return true;
+    }
+    false
+}
+
+fn is_charging_request(n: u32) -> bool
+    ensures { λ r. ⌜ r ≡ oneOf (30 ∷ []) n ⌝ }
+{
+    if n == 30 {
+        return true;
+    }
+    false
+}
+
+fn is_known(frame: u8, n: u32) -> bool
+    ensures { λ r. ⌜ r ≡ oneOf (knownIn frame) n ⌝ }
+{
+    if frame == 1 {
+        return known_operation(n);
+    }
+    if frame == 2 {
+        return is_charging_request(n);
+    }
+    known_error(n)
+}
+
+// The fault of a value that is not known.
+fn unknown(frame: u8) -> u8
+    ensures { λ r. ⌜ r ≡ 100 + unknownIn frame ⌝ }
+{
+    if frame == 3 {
+        return 108;
+    }
+    107
+}
+
+// The contents of an operation or error value.
+fn value_in(s: &[u8], start: usize, stop: usize, frame: u8) -> read_elements::Verdict
+    requires { ⌜ (start ≤ stop) × (stop ≤ length (now s)) ⌝ }
+    ensures { λ r. ⌜ (r .fault, r .value) ≡ verdict 0 (listing (unknownIn frame) (knownIn frame) (part (now (s .entry)) start stop)) ⌝ }
+    ensures bounded { λ r. ⌜ r .value < 256 ⌝ }
+{
+    if !read_elements::is_shortest(s, start, stop) {
+        return read_elements::Verdict {
+            fault: 43,
+            value: 0,
+        };
+    }
+    if 4 < stop - start {
+        return read_elements::Verdict {
+            fault: 44,
+            value: 0,
+        };
+    }
+    if read_elements::is_negative(s, start, stop) {
+        let fault = unknown(frame);
+        return read_elements::Verdict { fault, value: 0 };
+    }
+    let n = read_elements::magnitude(s, start, stop);
+    if is_known(frame, n) {
+        return read_elements::Verdict { fault: 0, value: n };
+    }
+    let fault = unknown(frame);
+    read_elements::Verdict { fault, value: 0 }
+}
+
+pub fn value_long(s: &[u8], at: usize, end: usize, frame: u8) -> read_elements::NumberRead
+    requires { ⌜ end ≤ length (now s) ⌝ }
+    ensures { λ r. ⌜ (r .fault, r .place, r .value, r .next) ≡ shown 0 ((value (unknownIn frame) (knownIn frame)) .read (now (s .entry)) at end) ⌝ }
+    ensures bounded { λ r. ⌜ r .value < 256 ⌝ }
+{
+    if read_lengths::is_tag(s, at, end, 0x06) {
+        let fault = unknown(frame);
+        return read_elements::NumberRead {
+            fault,
+            place: at,
+            value: 0,
+            next: 0,
+        };
+    }
+    let e = read_lengths::open_at(s, at, end, 0x02);
+    if e.fault != 0 {
+        return read_elements::NumberRead {
+            fault: e.fault,
+            place: e.place,
+            value: 0,
+            next: 0,
+        };
+    }
+    let v = value_in(s, e.value.start, e.value.stop, frame);
+    if v.fault != 0 {
+        return read_elements::NumberRead {
+            fault: v.fault,
+            place: at,
+            value: 0,
+            next: 0,
+        };
+    }
+    read_elements::NumberRead {
+        fault: 0,
+        place: 0,
+        value: v.value,
+        next: e.next,
+    }
+}
+
+// The same, where the value is a known one of one octet at once.
+pub fn value_at(s: &[u8], at: usize, end: usize, frame: u8) -> read_elements::NumberRead
+    requires { ⌜ end ≤ length (now s) ⌝ }
+    ensures { λ r. ⌜ (r .fault, r .place, r .value, r .next) ≡ shown 0 ((value (unknownIn frame) (knownIn frame)) .read (now (s .entry)) at end) ⌝ }
+    ensures bounded { λ r. ⌜ r .value < 256 ⌝ }
+{
+    let x = read_elements::tiny(s, at, end, 0x02) as u32;
+    if x < 128 {
+        if is_known(frame, x) {
+            return read_elements::NumberRead {
+                fault: 0,
+                place: 0,
+                value: x,
+                next: at + 3,
+            };
+        }
+    }
+    value_long(s, at, end, frame)
+}

@@ -1,0 +1,17 @@
+use Rattle.prelude.proofs.Prelude.{needs, arith, lt-leb, lt-ltb, le-ltb}
+use Rattle.coding.specs.{Reader.numberedAt, Shown.shown}
+use Rattle.read_lengths.proofs.two_more.Statement.{statement}
+use Rattle.read_lengths.proofs.two_more.Tie as tie
+
+pub two-more-spec : {M : Type 1} → statement M
+unfolding numberedAt shown
+two-more-spec =
+    tie.close
+    (tie.spec (search needs) (search needs)
+    (λ c. let p = c .before .before .before .pre in rw (c .halted .ensures) (simp (lt-leb _ _ (p .0), p .2, lt-ltb _ _ (c .before .if1 .taken)), omega arith))
+    (search needs) (search needs) (search needs) (λ c. omega arith) (search needs) (search needs) (search needs) (λ c. omega arith) (search needs) (search needs)
+    (λ c.
+    let w = c .before .before .before in
+    let e = w .before .before in
+    let p = e .before .before .pre in
+    (simp (lt-leb _ _ (p .0), p .2, le-ltb _ _ (e .if1 .left)) (rw (← w .wide .ensures .0, ← c .before .wide2 .ensures .0) (c .within .ensures .0)), c .within .ensures .1)))

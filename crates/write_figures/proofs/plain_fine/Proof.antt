@@ -1,8 +1,0 @@
-use borrow.Author.Needs.{needs}
-use Rattle.write_figures.proofs.Tests.{plain-is}
-use Rattle.coding.proofs.Tests.{tests}
-use Rattle.write_figures.proofs.plain_fine.Statement.{statement}
-use Rattle.write_figures.proofs.plain_fine.Tie as tie
-
-pub plain-fine-spec : {M : Type 1} → statement M
-plain-fine-spec = tie.close (tie.spec (λ c. search (tests, plain-is)) (λ c. search (tests, plain-is)) (λ c. search (tests, plain-is)) (search needs) (λ c. search (tests, plain-is)))

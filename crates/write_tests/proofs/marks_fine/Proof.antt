@@ -1,0 +1,12 @@
+use Rattle.prelude.proofs.Prelude.{needs}
+use Rattle.coding.proofs.Tests.{tests}
+use Rattle.write_tests.specs.Fine.{marksFine}
+use Rattle.write_tests.proofs.{Truth.answered, marks_fine.Statement.statement}
+use Rattle.write_tests.proofs.marks_fine.Tie as tie
+
+pub marks-fine-spec : {M : Type 1} → statement M
+unfolding marksFine
+marks-fine-spec =
+    tie.close
+    (tie.spec (search needs) (λ c. search tests) (search needs) (λ c. search tests) (search needs) (λ c. search tests) (search needs) (λ c. search (tests, answered))
+    (search needs) (λ c. search (tests, answered)))
