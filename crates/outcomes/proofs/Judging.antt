@@ -1,11 +1,11 @@
 -- What the rules of outcomes give whatever is known of the call. None of this looks at code or into the reading of octets.
-use Rattle.prelude.proofs.Prelude.{ℕ, _≡_, refl, sym, _∙_, ap, List, [], _∷_, Bool, true, false, _&&_, _||_, cond, eqb, eqb-true}
-use Rattle.types.specs.{declared.Charge.Charge, Frames.readOf}
+use Rattle.prelude.proofs.Prelude.{ℕ, _≡_, refl, sym, _∙_, ap, List, [], _∷_, Bool, true, false, _&&_, _||_, cond, eqb, eqb-true, ne-eqb}
+use Rattle.types.specs.{declared.Charge.Charge, Frames.readOf, Frames.refusedAt}
 use Rattle.same_final.specs.Same.{sameOf}
 use Rattle.phases.{specs.declared.Event.Event, specs.declared.Outcome.Outcome, specs.Phases.Idle, specs.Phases.Ended, specs.Phases.Setup, specs.Phases.Component, specs.Phases.S}
 use Rattle.phases.{specs.Phases.outcome, specs.Phases.noService, specs.Phases.clashes, specs.Phases.allowed, proofs.Choice.by-test, proofs.Choice.by-number, proofs.Choice.never}
 use Rattle.phases.{proofs.Transitions.from-idle, proofs.Transitions.from-ended}
-use Rattle.outcomes.specs.Outcome.{among, isRefusal, Known, fits, runs, closes, judgeFigure, firstFinal, judgeRecord, judge, chargeIn, was, its, settles}
+use Rattle.outcomes.specs.Outcome.{among, isRefusal, Known, fits, runs, closes, judgeFigure, firstFinal, judgeRecord, judgeAnswer, judge, chargeIn, was, its, settles}
 use Rattle.outcomes.specs.Status.{isGiven}
 use Rattle.outcomes.proofs.Refusals.{apart, decoding-refusal}
 
@@ -27,6 +27,11 @@ unsettled-now s k e o z =
     (λ q. let c : eqb (e .kind) Component ≡ false = ap (λ (x : ℕ). eqb x Component) (eqb-true (e .kind) Setup q) in
     by-test (allowed (e .kind) (k .phase)) (λ a. by-test (clashes e) (λ v. rw (a, c, q, v)) (λ v. rw (a, c, q, v))) (λ a. rw a))
     (λ q. rw (from-idle (e .kind) (k .phase) z q))
+
+-- ---- what is not read is refused by its own number in every phase: 27 comes after decoding
+
+pub refused-unread : (k : Known) (n p : ℕ) → (n ≡ 0 → ⊥) → judgeAnswer k (refusedAt n p) ≡ noService n
+refused-unread k n p h = rw (ne-eqb n 0 h)
 
 -- ---- in Ended every event is refused
 
