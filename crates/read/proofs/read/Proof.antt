@@ -5,4 +5,4 @@ use Rattle.read.proofs.read.{Statement.statement, Tie.close, Tie.spec}
 pub read-spec : {M : Type 1} → statement M
 read-spec =
     close (spec (search needs) (search needs) (search needs)
-    (λ c. let parts = c .before .before in rw (c .figure-of .ensures, parts .front-of .ensures) (parts .before .before .read-into .ensures)))
+    (λ c. let parts = c .before .before in simp (c .figure-of .ensures, parts .front-of .ensures) (parts .before .before .read-into .ensures)))
