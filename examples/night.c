@@ -1,92 +1,109 @@
-/* A small host: takes a night's events of some calls, steps their accounts, and prints what is to be posted to each room and
- * which calls need a clerk.
+/* A small host: takes a night's events of a house's calls, steps their accounts, and prints what is to be posted to each room,
+ * which calls need a clerk and what to do about each, the sums by room and by currency, and how many calls have a price.
+ * With --csv it prints the same as comma-separated values, for an audit system.
  *
  * A line of the input is: time, room, call, event. Events:
  *   setup [S] [D] [E]   the call is set up, with a request for each service named
  *   connect, suspend, resume, clear, released
  *   facility OCTETS     a Facility element of a message from the network, as hex octets
- * An empty line and one that begins with # say nothing. */
+ * An empty line and one that begins with # say nothing. Any other line is told with its number, and is not taken.
+ *
+ * Amounts are as they were received and added up, exactly, in thousandths: rounding to the decimals of a bill is the audit's.
+ *
+ * Status: 0; 1 where a line was not taken; 2 where the input cannot be read, the report cannot be written or memory is short. */
 #include <stdio.h>
 #include <stdlib.h>
 #include <string.h>
 
 #include "aoc_text.h"
 
-enum { MOST_CALLS = 64, MOST_EVENTS = 256, MOST_OCTETS = 16384, WORD = 16, TEXT = 1024 };
+enum { WORD = 16, LINE = 2048, REASONS = AOC_REASON_NOTHING + 1 };
 
 struct call {
     char room[WORD];
-    unsigned number;
+    unsigned long number;
     aoc_account account;
     /* the events, for the question why a call has no price */
-    uint16_t rows[MOST_EVENTS][AOC_ROW_NUMBERS];
-    char times[MOST_EVENTS][WORD];
-    uint8_t octets[MOST_OCTETS];
-    size_t events, length;
-    bool cut;                   /* there were more of them */
+    uint16_t *rows;             /* AOC_ROW_NUMBERS for each */
+    char (*times)[WORD];
+    uint8_t *octets;            /* of all of them, end to end */
+    size_t events, length, rows_room, times_room, octets_room;
+    size_t released;            /* the number of the event that ended it, from 1; 0 for none */
 };
 
-static struct call calls[MOST_CALLS];
-static size_t count;
+static struct call **calls;     /* in the order of their first events */
+static size_t count, calls_room;
 static uint16_t last_identifier;
+static FILE *notes;             /* where what happens on the way is told */
 
-static struct call *call_of(const char *room, unsigned number)
+static void give_up(const char *why)
 {
-    for (size_t i = 0; i < count; i++)
-        if (calls[i].number == number && !strcmp(calls[i].room, room))
-            return &calls[i];
-    if (count == MOST_CALLS)
-        return NULL;
-    struct call *call = &calls[count++];
-    snprintf(call->room, sizeof call->room, "%s", room);
+    fprintf(stderr, "night: %s\n", why);
+    exit(2);
+}
+
+/* Memory with room for so many more behind those that are in use. */
+static void *grown(void *memory, size_t used, size_t more, size_t *room, size_t size)
+{
+    size_t wanted = *room ? *room : 16;
+    if (more <= *room - used)
+        return memory;
+    while (wanted - used < more)
+        wanted *= 2;
+    memory = realloc(memory, wanted * size);
+    if (!memory)
+        give_up("memory is short");
+    *room = wanted;
+    return memory;
+}
+
+static struct call *call_of(const char *room, unsigned long number)
+{
+    for (size_t i = count; i > 0; i--)
+        if (calls[i - 1]->number == number && !strcmp(calls[i - 1]->room, room))
+            return calls[i - 1];
+    struct call *call = calloc(1, sizeof *call);
+    if (!call)
+        give_up("memory is short");
+    memcpy(call->room, room, strlen(room) + 1);
     call->number = number;
     call->account = aoc_fresh();
-    return call;
+    calls = grown(calls, count, 1, &calls_room, sizeof *calls);
+    return calls[count++] = call;
 }
 
 /* ------------------------------------------------------------------ events */
 
-static aoc_service service_of(char c)
+static void note(const char *time, const struct call *call, const char *what, const char *why)
 {
-    return c == 'S' ? AOC_SERVICE_S : c == 'D' ? AOC_SERVICE_D : c == 'E' ? AOC_SERVICE_E : AOC_SERVICE_NONE;
+    fprintf(notes, "%s  room %s  call %lu  %s%s", time, call->room, call->number, what, why);
 }
 
 /* One event: the account takes it, and it is put into the call's list. */
 static aoc_outcome take_event(struct call *call, const char *time, aoc_event event, const uint8_t *octets, size_t n)
 {
-    if (call->events == MOST_EVENTS || n > MOST_OCTETS - call->length) {
-        call->cut = true;
-    } else {
-        aoc_row_of(event, (uint16_t)n, call->rows[call->events]);
-        snprintf(call->times[call->events++], WORD, "%s", time);
+    call->rows = grown(call->rows, AOC_ROW_NUMBERS * call->events, AOC_ROW_NUMBERS, &call->rows_room, sizeof *call->rows);
+    call->times = grown(call->times, call->events, 1, &call->times_room, sizeof *call->times);
+    call->octets = grown(call->octets, call->length, n, &call->octets_room, 1);
+    aoc_row_of(event, (uint16_t)n, call->rows + AOC_ROW_NUMBERS * call->events);
+    memcpy(call->times[call->events], time, strlen(time) + 1);
+    if (n)
         memcpy(call->octets + call->length, octets, n);
-        call->length += n;
-    }
+    call->length += n;
+    call->events++;
     return aoc_step(&call->account, event, octets, n);
 }
 
-static aoc_outcome phase_event(struct call *call, const char *time, aoc_event_kind kind)
+/* An event that has no octets. */
+static void take_phase_event(struct call *call, const char *time, aoc_event event, const char *name)
 {
-    aoc_event event = {(uint8_t)kind, {0, 0, 0}, 0, 0, 0};
-    return take_event(call, time, event, (const uint8_t *)"", 0);
-}
-
-static aoc_outcome set_up(struct call *call, const char *time, const char *services)
-{
-    aoc_services asked = aoc_no_services();
-    aoc_identifiers ids = aoc_three_identifiers(last_identifier);
-    for (; *services; services++)
-        asked = aoc_with_service(asked, service_of(*services));
-    last_identifier = ids.e;
-    aoc_event event = {AOC_EVENT_SETUP, asked, ids.s, ids.d, ids.e};
-    return take_event(call, time, event, (const uint8_t *)"", 0);
-}
-
-static void print_octets(const uint8_t *octets, size_t n)
-{
-    for (size_t i = 0; i < n; i++)
-        printf(" %02X", octets[i]);
-    putchar('\n');
+    aoc_outcome outcome = take_event(call, time, event, NULL, 0);
+    if (aoc_is_refusal(outcome.number)) {
+        note(time, call, name, " refused: ");
+        fprintf(notes, "%s\n", aoc_refusal_text(outcome.number));
+    } else if (event.kind == AOC_EVENT_RELEASED) {
+        call->released = call->events;
+    }
 }
 
 /* One component: the account takes it, and where it is refused the network may be owed a reject. */
@@ -96,14 +113,70 @@ static void take_component(struct call *call, const char *time, const uint8_t *o
     aoc_outcome outcome = take_event(call, time, event, octets, n);
     if (!aoc_is_refusal(outcome.number))
         return;
-    printf("%s  room %s  call %u  a component refused: %s", time, call->room, call->number, aoc_refusal_text(outcome.number));
+    note(time, call, "a component refused: ", aoc_refusal_text(outcome.number));
     uint8_t reject[AOC_LIMIT_REPLY_OCTETS];
     aoc_written reply = {0, 0};
     if (outcome.number != AOC_REFUSED_WRONG_PHASE)
         reply = aoc_reply(octets, n, reject, sizeof reject);
     if (reply.count)
-        printf(", sent back");
-    print_octets(reject, reply.count);
+        fputs(", sent back", notes);
+    for (size_t i = 0; i < reply.count; i++)
+        fprintf(notes, " %02X", reject[i]);
+    fputs("\n", notes);
+}
+
+static void take_element(struct call *call, const char *time, const uint8_t *octets, size_t n)
+{
+    size_t place = AOC_FIRST_PLACE, from = place;
+    aoc_answer answer;
+    for (; aoc_next(octets, n, &place, &answer); from = place)
+        take_component(call, time, octets + from, place - from);
+    if (aoc_is_refusal(answer.refusal))
+        note(time, call, aoc_refusal_text(answer.refusal), "\n");
+}
+
+/* ------------------------------------------------------------------ lines */
+
+static const char blanks[] = " \t\r\n";
+
+/* The next word of a line; false where there is none, or one that is too long to keep. */
+static bool word_of(const char **line, char *word)
+{
+    size_t n = 0;
+    *line += strspn(*line, blanks);
+    for (; **line && !strchr(blanks, **line); (*line)++)
+        if (n < WORD)
+            word[n++] = **line;
+    if (n == 0 || n == WORD)
+        return false;
+    word[n] = 0;
+    return true;
+}
+
+static bool number_of(const char *word, unsigned long *number)
+{
+    size_t digits = strspn(word, "0123456789");
+    if (!digits || word[digits] || digits > 9)
+        return false;
+    for (*number = 0; *word; word++)
+        *number = 10 * *number + (unsigned long)(*word - '0');
+    return true;
+}
+
+static uint8_t service_of(char c)
+{
+    return c == 'S' ? AOC_SERVICE_S : c == 'D' ? AOC_SERVICE_D : c == 'E' ? AOC_SERVICE_E : AOC_SERVICE_NONE;
+}
+
+/* The services of a text that names them and nothing else. */
+static bool services_of(const char *text, aoc_services *asked)
+{
+    for (*asked = aoc_no_services(); *(text += strspn(text, blanks)); text++) {
+        if (service_of(*text) == AOC_SERVICE_NONE)
+            return false;
+        *asked = aoc_with_service(*asked, service_of(*text));
+    }
+    return true;
 }
 
 static int digit(char c)
@@ -111,110 +184,307 @@ static int digit(char c)
     return c >= '0' && c <= '9' ? c - '0' : c >= 'A' && c <= 'F' ? c - 'A' + 10 : c >= 'a' && c <= 'f' ? c - 'a' + 10 : -1;
 }
 
-/* The octets of a text of two hex digits each, with spaces between them; false where it has anything else, or too many. */
-static bool octets_of(const char *text, uint8_t *octets, size_t most, size_t *count)
+/* The octets of a text of two hex digits each, with blanks between them; false where it has anything else, or too many. */
+static bool octets_of(const char *text, uint8_t *octets, size_t most, size_t *n)
 {
-    for (*count = 0;; text += 2) {
-        text += strspn(text, " \t\r\n");
-        if (!*text)
-            return true;
-        if (digit(text[0]) < 0 || digit(text[1]) < 0 || *count == most)
+    for (*n = 0; *(text += strspn(text, blanks)); text += 2) {
+        if (digit(text[0]) < 0 || digit(text[1]) < 0 || *n == most)
             return false;
-        octets[(*count)++] = (uint8_t)(digit(text[0]) << 4 | digit(text[1]));
+        octets[(*n)++] = (uint8_t)(digit(text[0]) << 4 | digit(text[1]));
     }
+    return true;
 }
 
-static void take_element(struct call *call, const char *time, const char *hex)
+static uint8_t phase_event_of(const char *name)
 {
+    static const struct {
+        const char *name;
+        aoc_event_kind kind;
+    } events[] = {{"connect", AOC_EVENT_CONNECT}, {"suspend", AOC_EVENT_SUSPEND}, {"resume", AOC_EVENT_RESUME},
+                  {"clear", AOC_EVENT_CLEAR}, {"released", AOC_EVENT_RELEASED}};
+    for (size_t i = 0; i < sizeof events / sizeof *events; i++)
+        if (!strcmp(name, events[i].name))
+            return (uint8_t)events[i].kind;
+    return 0;
+}
+
+/* Takes a line whole, or not at all: then it says why, and no account has changed. */
+static const char *take_line(const char *line)
+{
+    char time[WORD], room[WORD], digits[WORD], name[WORD];
+    unsigned long number;
+    line += strspn(line, blanks);
+    if (!*line || *line == '#')
+        return NULL;
+    if (!word_of(&line, time) || !word_of(&line, room) || !word_of(&line, digits) || !word_of(&line, name))
+        return "a time, a room, a call and an event are wanted, of 15 characters at most";
+    if (!number_of(digits, &number))
+        return "the call is not a number of 9 digits at most";
+
+    aoc_event event = {phase_event_of(name), {0, 0, 0}, 0, 0, 0};
     uint8_t octets[AOC_LIMIT_ELEMENT_OCTETS];
-    size_t n;
-    if (!octets_of(hex, octets, sizeof octets, &n)) {
-        printf("%s  room %s  call %u  not the octets of an element\n", time, call->room, call->number);
-        return;
+    size_t n = 0;
+    if (!strcmp(name, "setup")) {
+        if (!services_of(line, &event.asked))
+            return "a set-up names services: S, D, E";
+        aoc_identifiers ids = aoc_three_identifiers(last_identifier);
+        last_identifier = ids.e;
+        event.kind = AOC_EVENT_SETUP;
+        event.s = ids.s;
+        event.d = ids.d;
+        event.e = ids.e;
+    } else if (!strcmp(name, "facility")) {
+        if (!octets_of(line, octets, sizeof octets, &n) || !n)
+            return "not the octets of an element in hex, 257 at most";
+        take_element(call_of(room, number), time, octets, n);
+        return NULL;
+    } else if (!event.kind) {
+        return "no such event";
+    } else if (line[strspn(line, blanks)]) {
+        return "something stands behind the event";
     }
-    size_t place = AOC_FIRST_PLACE, from = place;
-    aoc_answer answer;
-    for (; aoc_next(octets, n, &place, &answer); from = place)
-        take_component(call, time, octets + from, place - from);
-    if (aoc_is_refusal(answer.refusal))
-        printf("%s  room %s  call %u  %s\n", time, call->room, call->number, aoc_refusal_text(answer.refusal));
+    take_phase_event(call_of(room, number), time, event, name);
+    return NULL;
 }
 
-static void take_line(const char *line)
+/* The next line of the input without its end; false at the end of the input. A line that is too long, or has a NUL, is not
+ * cut: `why` says so. */
+static bool read_line(char *line, const char **why)
 {
-    char time[WORD], room[WORD], event[WORD];
-    unsigned number;
-    int used = 0;
-    if (sscanf(line, "%15s %15s %u %15s%n", time, room, &number, event, &used) < 4 || *time == '#')
-        return;
-    struct call *call = call_of(room, number);
-    if (!call) {
-        printf("%s  room %s  call %u  no place for this call\n", time, room, number);
-        return;
+    size_t n = 0;
+    int c = getchar();
+    *why = NULL;
+    if (c == EOF)
+        return false;
+    for (; c != EOF && c != '\n'; c = getchar()) {
+        if (c == 0)
+            *why = "a NUL in it";
+        else if (n == LINE - 1)
+            *why = "too long";
+        else
+            line[n++] = (char)c;
     }
-    aoc_outcome outcome = {0, 0};
-    if (!strcmp(event, "setup"))
-        outcome = set_up(call, time, line + used);
-    else if (!strcmp(event, "connect"))
-        outcome = phase_event(call, time, AOC_EVENT_CONNECT);
-    else if (!strcmp(event, "suspend"))
-        outcome = phase_event(call, time, AOC_EVENT_SUSPEND);
-    else if (!strcmp(event, "resume"))
-        outcome = phase_event(call, time, AOC_EVENT_RESUME);
-    else if (!strcmp(event, "clear"))
-        outcome = phase_event(call, time, AOC_EVENT_CLEAR);
-    else if (!strcmp(event, "released"))
-        outcome = phase_event(call, time, AOC_EVENT_RELEASED);
-    else if (!strcmp(event, "facility"))
-        take_element(call, time, line + used);
-    else
-        printf("%s  room %s  call %u  no such event: %s\n", time, room, number, event);
-    if (aoc_is_refusal(outcome.number))
-        printf("%s  room %s  call %u  %s refused: %s\n", time, room, number, event, aoc_refusal_text(outcome.number));
+    line[n] = 0;
+    return true;
 }
 
-/* ------------------------------------------------------------------ figures */
-
-static void print_currency(const aoc_currency *currency)
+/* How many lines were not taken. */
+static unsigned long take_input(void)
 {
-    for (int i = 0; i < currency->count; i++) {
-        uint8_t c = currency->octets[i];
-        putchar(c >= 0x20 && c < 0x7F ? c : '?');
+    static char line[LINE];
+    unsigned long at = 0, left = 0;
+    const char *why;
+    while (read_line(line, &why)) {
+        at++;
+        if (!why)
+            why = take_line(line);
+        if (why) {
+            fprintf(notes, "line %lu is not taken: %s\n", at, why);
+            left++;
+        }
     }
+    return left;
+}
+
+/* ------------------------------------------------------------------ what became of a call */
+
+enum result { PRICED, FREE, NO_PRICE, RESULTS };
+static const char *const result_names[] = {"priced", "free", "without a price"};
+
+/* All that is read off a call, in one place. */
+struct end {
+    aoc_closing closing;
+    aoc_charge running;
+    aoc_marks marks;
+    aoc_pending pending;
+    uint8_t phase;
+    aoc_why_answer why;
+    enum result result;
+};
+
+static struct end end_of(const struct call *call)
+{
+    struct end end;
+    end.closing = aoc_closing_of(&call->account);
+    end.running = aoc_running_of(&call->account);
+    end.marks = aoc_marks_of(&call->account);
+    end.pending = aoc_pending_of(&call->account);
+    end.phase = aoc_phase_of(&call->account);
+    end.why = aoc_why(call->rows, AOC_ROW_NUMBERS * call->events, call->octets, call->length);
+    end.result = end.closing.service == AOC_SERVICE_NONE ? NO_PRICE : end.closing.charge.kind == AOC_CHARGE_FREE ? FREE : PRICED;
+    return end;
+}
+
+/* What a clerk has to know of a call, and what to do; both null where there is no need of one. */
+struct need {
+    const char *what, *to_do;
+};
+
+static struct need need_of(const struct end *end)
+{
+    static const char *const to_do[REASONS] = {
+        [AOC_REASON_OPEN] = "nothing yet: the call goes on",
+        [AOC_REASON_PASSED_OVER] = "ask the network which figure holds, post it by hand",
+        [AOC_REASON_NOT_AVAILABLE] = "ask the network for the charge, post it by hand",
+        [AOC_REASON_RUNNING] = "post the last running figure by hand",
+        [AOC_REASON_REFUSED] = "have an engineer explain the component; ask the network",
+        [AOC_REASON_NOTHING] = "ask the network for the charge, post it by hand"};
+    if (end->result == NO_PRICE) {
+        const char *what = aoc_reason_text(end->why.reason);
+        return (struct need){what, end->why.reason < REASONS ? to_do[end->why.reason] : NULL};
+    }
+    for (size_t i = 0; end->closing.charge.kind == AOC_CHARGE_UNITS && i < end->closing.charge.count; i++)
+        if (!aoc_unit_at(&end->closing.charge, i).known)
+            return (struct need){"units not available in the final", "ask the network for the missing units"};
+    if (aoc_has_service(end->marks.conflict, AOC_SERVICE_D) || aoc_has_service(end->marks.conflict, AOC_SERVICE_E))
+        return (struct need){"posted by the first final, another differs", "ask the network which one holds"};
+    return (struct need){NULL, NULL};
+}
+
+/* ------------------------------------------------------------------ sums */
+
+/* Of a room, or of the house: an amount in one currency, in thousandths, or units of one type. */
+struct sum {
+    const char *room;           /* null for the house */
+    bool units;
+    uint8_t type;               /* of units, 0 for none */
+    aoc_currency currency;
+    uint64_t total;
+    unsigned long calls;
+    const struct call *last;    /* that was added, so that a call counts once */
+};
+
+struct sums {
+    struct sum *at;
+    size_t count, room;
+};
+
+static size_t trimmed(const aoc_currency *currency)
+{
+    size_t n = currency->count;
+    while (n > 0 && currency->octets[n - 1] == ' ')
+        n--;
+    return n;
+}
+
+/* Spaces at the end make no other currency. */
+static bool same_currency(const aoc_currency *a, const aoc_currency *b)
+{
+    return trimmed(a) == trimmed(b) && !memcmp(a->octets, b->octets, trimmed(a));
+}
+
+static void add(struct sums *sums, const struct call *call, struct sum part)
+{
+    struct sum *sum = NULL;
+    part.calls = 0;
+    part.last = NULL;
+    for (size_t i = sums->count; i > 0 && !sum; i--) {
+        struct sum *s = &sums->at[i - 1];
+        if (part.room && strcmp(s->room, part.room))
+            break;              /* the calls are sorted by room */
+        if (s->units == part.units && s->type == part.type && same_currency(&s->currency, &part.currency))
+            sum = s;
+    }
+    if (!sum) {
+        sums->at = grown(sums->at, sums->count, 1, &sums->room, sizeof *sums->at);
+        sum = &sums->at[sums->count++];
+        *sum = part;
+        sum->total = 0;
+    }
+    if (part.total > UINT64_MAX - sum->total)
+        give_up("a sum is too large");
+    sum->total += part.total;
+    sum->calls += sum->last != call;
+    sum->last = call;
+}
+
+/* Adds a closing figure to the sums of a room, or of the house where the room is null. */
+static void add_charge(struct sums *sums, const char *room, const struct call *call, const aoc_charge *charge)
+{
+    struct sum part = {room, false, 0, charge->money.currency, 0, 0, NULL};
+    if (charge->kind == AOC_CHARGE_MONEY) {
+        part.total = aoc_thousandths(charge->money.number, charge->money.multiplier);
+        add(sums, call, part);
+    }
+    for (size_t i = 0; charge->kind == AOC_CHARGE_UNITS && i < charge->count; i++) {
+        aoc_unit_entry unit = aoc_unit_at(charge, i);
+        part.units = true;
+        part.type = unit.type;
+        part.total = unit.number;
+        if (unit.known)
+            add(sums, call, part);
+    }
+}
+
+/* The night in numbers. */
+struct totals {
+    struct sums rooms, house;
+    unsigned long results[RESULTS];
+    unsigned long reasons[REASONS];     /* of the calls without a price */
+};
+
+static struct totals totals_of(void)
+{
+    struct totals totals;
+    memset(&totals, 0, sizeof totals);
+    for (size_t i = 0; i < count; i++) {
+        struct end end = end_of(calls[i]);
+        totals.results[end.result]++;
+        if (end.result == NO_PRICE && end.why.reason < REASONS)
+            totals.reasons[end.why.reason]++;
+        add_charge(&totals.rooms, calls[i]->room, calls[i], &end.closing.charge);
+        add_charge(&totals.house, NULL, calls[i], &end.closing.charge);
+    }
+    return totals;
+}
+
+/* ------------------------------------------------------------------ the morning's report */
+
+enum { NUMBER = 24 };           /* room for a number's text */
+
+static void currency_text(char *text, const aoc_currency *currency)
+{
+    size_t n = trimmed(currency);
+    for (size_t i = 0; i < n; i++)
+        text[i] = currency->octets[i] >= 0x20 && currency->octets[i] < 0x7F ? (char)currency->octets[i] : '?';
+    text[n] = 0;
+}
+
+static void amount_text(char *text, uint64_t thousandths)
+{
+    snprintf(text, NUMBER, "%llu.%03u", (unsigned long long)(thousandths / 1000), (unsigned)(thousandths % 1000));
+}
+
+static int by_room(const void *a, const void *b)
+{
+    const struct call *p = *(struct call *const *)a, *q = *(struct call *const *)b;
+    int order = strcmp(p->room, q->room);
+    return order ? order : p->number < q->number ? -1 : p->number > q->number;
+}
+
+static void print_call(const struct call *call)
+{
+    printf("  room %-5s call %-4lu ", call->room, call->number);
 }
 
 static void print_charge(const aoc_charge *charge)
 {
-    char text[TEXT];
+    char text[AOC_LIMIT_CHARGE_TEXT];
     aoc_print_charge(text, sizeof text, charge);
-    printf("%s", text);
-}
-
-/* ------------------------------------------------------------------ the morning */
-
-static int same_room(const void *a, const void *b)
-{
-    const struct call *p = a, *q = b;
-    int order = strcmp(p->room, q->room);
-    return order ? order : p->number < q->number ? -1 : p->number > q->number;
+    fputs(text, stdout);
 }
 
 static void print_postings(void)
 {
     puts("To post");
     for (size_t i = 0; i < count; i++) {
-        aoc_closing closing = aoc_closing_of(&calls[i].account);
-        if (closing.service == AOC_SERVICE_NONE)
+        struct end end = end_of(calls[i]);
+        if (end.result == NO_PRICE)
             continue;
-        printf("  room %s  call %u  ", calls[i].room, calls[i].number);
-        aoc_priced price = aoc_price(closing);
-        if (price.refusal == AOC_ACCEPTED && !price.is_free) {
-            print_currency(&price.currency);
-            printf(" %.3f", price.quotient);
-        } else {
-            print_charge(&closing.charge);
-        }
-        putchar('\n');
+        print_call(calls[i]);
+        printf("%s to %s  ", calls[i]->times[0], calls[i]->times[calls[i]->released - 1]);
+        print_charge(&end.closing.charge);
+        puts("");
     }
 }
 
@@ -227,62 +497,206 @@ static void print_services(const char *text, aoc_services set)
             printf("%s %c", any++ ? "," : text, names[service]);
 }
 
-/* Why a call has no price, and the event behind it. */
-static void print_why(const struct call *call)
+/* What the account and the list know beside the reason. */
+static void print_details(const struct call *call, const struct end *end)
 {
-    aoc_why_answer why = aoc_why(call->rows[0], AOC_ROW_NUMBERS * call->events, call->octets, call->length);
-    if (call->cut)
-        printf("too many events to say why");
-    else
-        printf("%s", aoc_reason_text(why.reason));
-    if (!call->cut && why.event)
-        printf(" (event %u at %s)", (unsigned)why.event, call->times[why.event - 1]);
-}
-
-/* Why a clerk has to look at a call, as far as its account knows; nothing where there is no need. */
-static void print_reasons(const struct call *call)
-{
-    aoc_closing closing = aoc_closing_of(&call->account);
-    aoc_charge running = aoc_running_of(&call->account);
-    aoc_marks marks = aoc_marks_of(&call->account);
-    uint8_t phase = aoc_phase_of(&call->account);
-    int conflict = aoc_has_service(marks.conflict, AOC_SERVICE_D) || aoc_has_service(marks.conflict, AOC_SERVICE_E);
-    int incomplete = 0;
-    for (size_t i = 0; closing.charge.kind == AOC_CHARGE_UNITS && i < closing.charge.count; i++)
-        incomplete |= !aoc_unit_at(&closing.charge, i).known;
-    if (closing.service != AOC_SERVICE_NONE && !conflict && !incomplete)
-        return;
-
-    printf("  room %s  call %u  ", call->room, call->number);
-    if (closing.service == AOC_SERVICE_NONE)
-        print_why(call);
-    else if (incomplete)
-        printf("units not available in the final");
-    else
-        printf("posted by the first final");
-    print_services(", another one differs:", marks.conflict);
-    if (closing.service == AOC_SERVICE_NONE) {
-        if (phase != AOC_PHASE_ENDED)
-            printf(", %s", aoc_phase_text(phase));
-        print_services(", not available:", marks.absent);
-        print_services(", request not answered:", aoc_pending_of(&call->account).asked);
-        if (running.kind != AOC_CHARGE_NONE) {
+    printf("%*s", 23, "");
+    printf("%s", aoc_phase_text(end->phase));
+    print_services(", finals that differ:", end->marks.conflict);
+    if (end->result == NO_PRICE) {
+        if (end->why.event)
+            printf(", event %lu at %s", (unsigned long)end->why.event, call->times[end->why.event - 1]);
+        print_services(", not available:", end->marks.absent);
+        print_services(", request not answered:", end->pending.asked);
+        if (end->running.kind != AOC_CHARGE_NONE) {
             printf(", last running figure ");
-            print_charge(&running);
+            print_charge(&end->running);
         }
     }
-    putchar('\n');
+    puts("");
 }
 
-int main(void)
+static void print_needs(void)
 {
-    static char line[2048];
-    while (fgets(line, sizeof line, stdin))
-        take_line(line);
-    qsort(calls, count, sizeof *calls, same_room);
-    print_postings();
     puts("For the clerk");
+    for (size_t i = 0; i < count; i++) {
+        struct end end = end_of(calls[i]);
+        struct need need = need_of(&end);
+        if (!need.what)
+            continue;
+        print_call(calls[i]);
+        printf("%-43s %s\n", need.what, need.to_do ? need.to_do : "");
+        print_details(calls[i], &end);
+    }
+}
+
+static void print_sums(const char *head, const struct sums *sums)
+{
+    puts(head);
+    for (size_t i = 0; i < sums->count; i++) {
+        const struct sum *sum = &sums->at[i];
+        char currency[AOC_LIMIT_CURRENCY_OCTETS + 1], amount[NUMBER];
+        fputs("  ", stdout);
+        if (sum->room)
+            printf("room %-5s ", sum->room);
+        currency_text(currency, &sum->currency);
+        amount_text(amount, sum->total);
+        if (!sum->units)
+            printf("%s %s", currency, amount);
+        else
+            printf("%llu unit%s", (unsigned long long)sum->total, sum->total == 1 ? "" : "s");
+        if (sum->type)
+            printf(" of type %u", sum->type);
+        printf(" in %lu call%s\n", sum->calls, sum->calls == 1 ? "" : "s");
+    }
+}
+
+static void print_counts(const struct totals *totals)
+{
+    printf("Calls: %lu\n", (unsigned long)count);
+    for (int result = PRICED; result < RESULTS; result++)
+        printf("  %lu %s\n", totals->results[result], result_names[result]);
+    for (uint32_t reason = 0; reason < REASONS; reason++)
+        if (totals->reasons[reason])
+            printf("    %lu %s\n", totals->reasons[reason], aoc_reason_text(reason));
+}
+
+static void print_report(const struct totals *totals)
+{
+    print_postings();
+    print_needs();
+    print_sums("By room", &totals->rooms);
+    print_sums("By currency", &totals->house);
+    print_counts(totals);
+}
+
+/* ------------------------------------------------------------------ the same for an audit system */
+
+/* A row is a call, an entry of its list of units, a sum of a room, a sum of the house, or how many calls had a result. */
+enum { ROW, ROOM, CALL, BEGUN, ENDED, RESULT, CHARGE, CURRENCY, AMOUNT, UNITS, TYPE, CALLS, REASON, EVENT, AT, TO_DO, COLUMNS };
+static const char *const heads[COLUMNS] = {"row", "room", "call", "begun", "ended", "result", "charge", "currency", "amount",
+                                           "units", "unit type", "calls", "reason", "event", "at", "to do"};
+
+static void csv(const char *const *cells)
+{
+    for (int i = 0; i < COLUMNS; i++) {
+        const char *cell = cells[i] ? cells[i] : "";
+        bool quoted = cell[strcspn(cell, "\",")] != 0;
+        fputs(i ? "," : "", stdout);
+        fputs(quoted ? "\"" : "", stdout);
+        for (; *cell; cell++) {
+            if (*cell == '"')
+                putchar('"');
+            putchar(*cell);
+        }
+        fputs(quoted ? "\"" : "", stdout);
+    }
+    puts("");
+}
+
+static void csv_units(const struct call *call, const char *number, const aoc_charge *charge)
+{
+    for (size_t i = 0; charge->kind == AOC_CHARGE_UNITS && i < charge->count; i++) {
+        char units[NUMBER], type[NUMBER];
+        aoc_unit_entry unit = aoc_unit_at(charge, i);
+        const char *cells[COLUMNS] = {[ROW] = "unit", [ROOM] = call->room, [CALL] = number, [TYPE] = type};
+        snprintf(units, sizeof units, "%lu", (unsigned long)unit.number);
+        snprintf(type, sizeof type, "%u", unit.type);
+        cells[UNITS] = unit.known ? units : "not available";
+        csv(cells);
+    }
+}
+
+static void csv_call(const struct call *call)
+{
+    struct end end = end_of(call);
+    struct need need = need_of(&end);
+    const aoc_charge *charge = &end.closing.charge;
+    char number[NUMBER], event[NUMBER], text[AOC_LIMIT_CHARGE_TEXT], currency[AOC_LIMIT_CURRENCY_OCTETS + 1], amount[NUMBER];
+    const char *cells[COLUMNS] = {[ROW] = "call", [ROOM] = call->room, [CALL] = number, [REASON] = need.what, [TO_DO] = need.to_do};
+    snprintf(number, sizeof number, "%lu", call->number);
+    cells[RESULT] = result_names[end.result];
+    if (call->events)
+        cells[BEGUN] = call->times[0];
+    if (call->released)
+        cells[ENDED] = call->times[call->released - 1];
+    if (end.result != NO_PRICE) {
+        aoc_print_charge(text, sizeof text, charge);
+        cells[CHARGE] = text;
+    } else if (end.why.event) {
+        snprintf(event, sizeof event, "%lu", (unsigned long)end.why.event);
+        cells[EVENT] = event;
+        cells[AT] = call->times[end.why.event - 1];
+    }
+    if (charge->kind == AOC_CHARGE_MONEY) {
+        currency_text(currency, &charge->money.currency);
+        amount_text(amount, aoc_thousandths(charge->money.number, charge->money.multiplier));
+        cells[CURRENCY] = currency;
+        cells[AMOUNT] = amount;
+    }
+    csv(cells);
+    csv_units(call, number, charge);
+}
+
+static void csv_sums(const char *row, const struct sums *sums)
+{
+    for (size_t i = 0; i < sums->count; i++) {
+        const struct sum *sum = &sums->at[i];
+        char currency[AOC_LIMIT_CURRENCY_OCTETS + 1], amount[NUMBER], type[NUMBER], number[NUMBER];
+        const char *cells[COLUMNS] = {[ROW] = row, [ROOM] = sum->room, [CALLS] = number};
+        currency_text(currency, &sum->currency);
+        amount_text(amount, sum->total);
+        snprintf(type, sizeof type, "%u", sum->type);
+        snprintf(number, sizeof number, "%lu", sum->calls);
+        if (sum->units)
+            snprintf(amount, sizeof amount, "%llu", (unsigned long long)sum->total);
+        cells[sum->units ? UNITS : AMOUNT] = amount;
+        cells[sum->units ? TYPE : CURRENCY] = sum->units ? type : currency;
+        csv(cells);
+    }
+}
+
+static void csv_count(const char *result, const char *reason, unsigned long calls_of_it)
+{
+    char number[NUMBER];
+    const char *cells[COLUMNS] = {[ROW] = "count", [RESULT] = result, [CALLS] = number, [REASON] = reason};
+    snprintf(number, sizeof number, "%lu", calls_of_it);
+    csv(cells);
+}
+
+static void csv_report(const struct totals *totals)
+{
+    csv(heads);
     for (size_t i = 0; i < count; i++)
-        print_reasons(&calls[i]);
-    return 0;
+        csv_call(calls[i]);
+    csv_sums("room", &totals->rooms);
+    csv_sums("house", &totals->house);
+    for (int result = PRICED; result < RESULTS; result++)
+        csv_count(result_names[result], NULL, totals->results[result]);
+    for (uint32_t reason = 0; reason < REASONS; reason++)
+        if (totals->reasons[reason])
+            csv_count(result_names[NO_PRICE], aoc_reason_text(reason), totals->reasons[reason]);
+}
+
+int main(int arguments, char **argument)
+{
+    bool as_csv = arguments == 2 && !strcmp(argument[1], "--csv");
+    if (arguments > 1 && !as_csv)
+        give_up("usage: night [--csv] < EVENTS");
+    notes = as_csv ? stderr : stdout;
+    unsigned long left = take_input();
+    if (ferror(stdin))
+        give_up("the events cannot be read");
+    if (count)
+        qsort(calls, count, sizeof *calls, by_room);
+    struct totals totals = totals_of();
+    if (as_csv)
+        csv_report(&totals);
+    else
+        print_report(&totals);
+    if (left)
+        fprintf(notes, "%lu line%s not taken: the report lacks what they tell\n", left, left == 1 ? " was" : "s were");
+    if (fflush(stdout) || ferror(stdout))
+        give_up("the report cannot be written");
+    return left ? 1 : 0;
 }

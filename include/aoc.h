@@ -275,6 +275,7 @@ enum {
     AOC_LIMIT_RATES = 10,
     AOC_LIMIT_CURRENCY_OCTETS = 10,
     AOC_LIMIT_DIGITS = 20,
+    AOC_LIMIT_CHARGE_TEXT = 1200,       /* room for the whole text of any charge: see aoc_print_charge */
     AOC_LIMIT_NUMBER = 16777215         /* of an amount, units, a time */
 };
 

@@ -76,8 +76,9 @@ static inline const char *aoc_plan_text(uint32_t plan)
     }
 }
 
-/* Writes a charge into the buffer as a person reads it, with a null at its end, and never past the room: where the room is too
- * short, as much as fits. It returns the length of the whole text without the null, so room must be more. Examples:
+/* Writes a charge into the buffer as a person reads it, with a null at its end, and never past the room. Where the room is too
+ * short, as much as fits, with ".." as its last two characters: a figure that is cut is never taken for a whole one. It returns
+ * the length of the whole text without the null, so room must be more: AOC_LIMIT_CHARGE_TEXT is, for any charge. Examples:
  *   EUR 1.500, total, normal billing
  *   30 units of type 1, units not available of type 2
  *   free, of call 7
@@ -289,6 +290,8 @@ static inline size_t aoc_print_charge(char *buffer, size_t room, const aoc_charg
     aoc_put_association(&text, &charge->association);
     if (room)
         buffer[text.length < room ? text.length : room - 1] = 0;
+    for (size_t i = 2; text.length >= room && i <= 3 && i <= room; i++)
+        buffer[room - i] = '.';
     return text.length;
 }
 

@@ -1,4 +1,71 @@
 #!/bin/sh
-# The example host prints what examples/night.out has.
+# The example host prints what examples/night.out and night.csv have; it names every line that it does not take, tells failed input
+# and output with a status, and holds a night of any length.
 cd "$(dirname "$0")/.." || exit 2
-sh examples/run.sh | cmp - examples/night.out
+work=$(mktemp -d) || exit 2
+trap 'rm -rf "$work"' EXIT
+night() { sh tools/exec target/examples/night "$@"; }
+wrong() { echo "example: $*"; exit 1; }
+
+sh examples/run.sh | cmp - examples/night.out || exit 1
+night --csv <examples/night.txt 2>"$work/err" | cmp - examples/night.csv || exit 1
+grep -q 'a component refused' "$work/err" || wrong 'a note among the values'
+
+# refused LINE: the line is told with its number and not taken, and its call is in no report
+refused() {
+    { echo '# one line is wrong'; printf '%b\n' "$1"; } | night >"$work/out" && wrong "status 0 for: $1"
+    grep -q '^line 2 is not taken: ' "$work/out" && grep -q '^Calls: 0$' "$work/out" || wrong "taken: $1"
+}
+refused '21:40 214 one setup'
+refused '21:40 214 setup E'
+refused '21:40 214 1'
+refused '21:40 214 -1 setup'
+refused '21:40 214 4294967297 setup'
+refused '21:40 PENTHOUSE-SUITE123 1 setup'
+refused '21:40 PENTHOUSE-SUITE-NORTH 1 setup'
+refused '21:40 214 1 setup e'
+refused '21:40 214 1 setup X'
+refused '21:40 214 1 connected'
+refused '21:40 214 1 connect now'
+refused '21:40 214 1 facility'
+refused '21:40 214 1 facility 1C 0D 91 A1 0A 02 01 32 02 01 23 30 02 8l 00'
+refused '21:40 214 1 facility 1C 0D 9'
+refused '21:40 214 1 setup\0000 E'
+refused "21:40 214 1 facility $(awk 'BEGIN { for (i = 0; i < 258; i++) printf "00 " }')"
+refused "21:40 214 1 setup $(awk 'BEGIN { for (i = 0; i < 4000; i++) printf " " }')X"
+printf '21:40 214 1 setup\r\n' | night | grep -q '^Calls: 1$' || wrong 'a line that ends in CR LF'
+
+# out of order, malformed: the event is told, and the report goes on
+printf '%s\n' '1 9 1 connect' '2 9 1 setup D' '3 9 1 facility 1C 05 91' | night >"$work/out" || wrong 'a status for a refused event'
+grep -q '^1  room 9  call 1  connect refused: an event that is not allowed in this phase$' "$work/out" || wrong 'an event out of order'
+grep -q '^3  room 9  call 1  a malformed Facility element$' "$work/out" || wrong 'a malformed element'
+
+# what cannot be read or written
+night </ >"$work/out" 2>"$work/err"
+[ $? = 2 ] && grep -q 'cannot be read' "$work/err" || wrong 'a folder as input'
+night <&- >"$work/out" 2>"$work/err"
+[ $? = 2 ] || wrong 'no input'
+if [ -w /dev/full ]; then
+    night <examples/night.txt >/dev/full 2>"$work/err"
+    [ $? = 2 ] && grep -q 'cannot be written' "$work/err" || wrong 'a full disk'
+fi
+
+# 3,000 calls, and one of 3,000 events; the final of the last has a list of 32
+awk 'BEGIN {
+    for (i = 1; i <= 3000; i++) {
+        printf "1 %d %d setup\n2 %d %d connect\n3 %d %d clear\n", i % 100, i, i % 100, i, i % 100, i
+        printf "4 %d %d facility 1C 1D 91 A1 1A 02 01 0B 02 01 23 30 12 30 10 A1 0E 81 03 45 55 52 A2 07 81 02 00 96 82 01 01\n5 %d %d released\n", i % 100, i, i % 100, i
+    }
+    print "1 long 1 setup\n1 long 1 connect"
+    for (i = 1; i <= 3000; i++) print "2 long 1 facility 1C 1D 91 A1 1A 02 01 0A 02 01 21 30 12 A1 0D 81 03 45 55 52 A2 06 81 01 2D 82 01 01 82 01 00"
+    print "3 long 1 clear\n3 long 1 released"
+    printf "1 many 1 setup\n1 many 1 connect\n1 many 1 clear\n1 many 1 facility 1C B3 91 A1 81 AF"
+    printf " 02 01 04 02 01 24 30 81 A6 30 81 A3 A1 81 A0"
+    for (i = 0; i < 32; i++) printf " 30 03 02 01 64"
+    print "\n1 many 1 released"
+}' >"$work/long"
+night <"$work/long" >"$work/out" || wrong 'a long night'
+grep -q '^  EUR 4500.000 in 3000 calls$' "$work/out" && grep -q '^  3001 priced$' "$work/out" || wrong 'the sum of a long night'
+grep -q 'only running figures' "$work/out" && grep -q 'event 3 at 2, last running figure EUR 0.450' "$work/out" || wrong 'a long call'
+[ "$(grep -o '100 units' "$work/out" | wc -l)" = 32 ] && grep -q '^  3200 units in 1 call$' "$work/out" || wrong 'a long list'
+echo "example: the night's report and its values are as they were; what is not taken is told; 3,002 calls are held"

@@ -16,13 +16,15 @@ static aoc_charge charge_of(const char *name)
     return read_octets(NULL, 0).record.charge;
 }
 
-/* In every room: as much of the text as fits, a null at its end, nothing past the room, and the whole length as the answer. */
+/* In every room: as much of the text as fits, with two points where it is cut, a null at its end, nothing past the room, and the
+ * whole length as the answer. */
 static void check_room(const aoc_charge *charge, const char *text, size_t length, size_t room, const char *of)
 {
     char *buffer = (char *)make_room(room);
-    size_t fits = room > length ? length : room ? room - 1 : 0;
+    size_t fits = room > length ? length : room ? room - 1 : 0, points = fits == length ? 0 : fits < 2 ? fits : 2;
     CHECK(aoc_print_charge(buffer, room, charge) == length, of);
-    CHECK(all(buffer - GUARD, GUARD, MARK) && !memcmp(buffer, text, fits), of);
+    CHECK(all(buffer - GUARD, GUARD, MARK) && !memcmp(buffer, text, fits - points), of);
+    CHECK(all(buffer + fits - points, points, '.'), of);
     CHECK(!room || (!buffer[fits] && all(buffer + fits + 1, room - fits - 1, MARK)), of);
 }
 
@@ -85,6 +87,35 @@ static void test_charges(void)
     }
 }
 
+/* The longest texts that there are fit in the room that the header names: lists at their limits, numbers of ten digits. */
+static void test_longest(void)
+{
+    static char text[1 << 16];
+    aoc_charge charge;
+    size_t longest = 0;
+    for (unsigned turn = 0; turn < 4 * 256; turn++) {
+        uint8_t small = (uint8_t)(turn / 4);
+        memset(&charge, 0xFF, sizeof charge);
+        charge.kind = turn & 1 ? AOC_CHARGE_UNITS : AOC_CHARGE_RATES;
+        charge.billing = AOC_BILLING_FORWARDING_UNCONDITIONAL;
+        charge.association.kind = AOC_ASSOCIATION_PLANNED_NUMBER;
+        charge.association.plan = AOC_PLAN_NETWORK_SPECIFIC;
+        for (size_t i = 0; turn & 1 && i < AOC_LIMIT_UNITS; i++)
+            charge.units[i].known = (uint8_t)(turn & 2);
+        for (size_t i = 0; !(turn & 1) && i < AOC_LIMIT_RATES; i++) {
+            charge.rates[i].item = AOC_ITEM_USER_TO_USER;
+            charge.rates[i].kind = AOC_RATE_DURATION;
+            charge.rates[i].detail = AOC_DURATION_STEPS;
+            charge.rates[i].scale = charge.rates[i].step_scale = small % 8;
+            charge.rates[i].multiplier = small / 8 % 8;
+        }
+        size_t length = aoc_print_charge(text, sizeof text, &charge);
+        CHECK(length < AOC_LIMIT_CHARGE_TEXT, "the longest text");
+        longest = length > longest ? length : longest;
+    }
+    CHECK(longest > 1000, "a long text");
+}
+
 /* A charge of any octets, at the end of what may be read: it is printed within the room, and the lists are not left. */
 static void test_nonsense(void)
 {
@@ -97,7 +128,7 @@ static void test_nonsense(void)
         memcpy(charge, octets, sizeof octets);
         charge->kind = (uint8_t)(turn % 8);
         size_t length = aoc_print_charge(text, sizeof text, charge);
-        CHECK(length < sizeof text && strlen(text) == length, "a charge of any octets");
+        CHECK(length < AOC_LIMIT_CHARGE_TEXT && strlen(text) == length, "a charge of any octets");
         check_room(charge, text, length, chance() % (length + 2), "a charge of any octets");
         for (size_t i = 0; i < 300; i++) {
             aoc_unit_entry unit = aoc_unit_at(charge, i);
@@ -156,6 +187,7 @@ int main(void)
 {
     make_edges();
     test_charges();
+    test_longest();
     test_nonsense();
     test_words();
     return report("words");

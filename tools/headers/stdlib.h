@@ -5,6 +5,9 @@
 extern "C" {
 #endif
 void exit(int) __attribute__((noreturn));
+void *calloc(size_t, size_t);
+void *realloc(void *, size_t);
+void free(void *);
 unsigned long strtoul(const char *, char **, int);
 void qsort(void *, size_t, size_t, int (*)(const void *, const void *));
 #ifdef __cplusplus

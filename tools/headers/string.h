@@ -7,6 +7,7 @@ extern "C" {
 size_t strlen(const char *);
 char *strchr(const char *, int);
 size_t strspn(const char *, const char *);
+size_t strcspn(const char *, const char *);
 int strcmp(const char *, const char *);
 int memcmp(const void *, const void *, size_t);
 void *memcpy(void *, const void *, size_t);
