@@ -19,8 +19,8 @@
 #include <stdint.h>
 #include <string.h>
 
-#define AOC_VERSION 10000       /* 1.0.0: ten thousand times the first number, a hundred times the second, the third */
-#define AOC_VERSION_TEXT "1.0.0"
+#define AOC_VERSION 20000       /* 2.0.0: ten thousand times the first number, a hundred times the second, the third */
+#define AOC_VERSION_TEXT "2.0.0"
 
 #ifdef __cplusplus
 extern "C" {
@@ -439,6 +439,11 @@ typedef struct {
     uint16_t d;
     uint16_t e;
 } aoc_pending;
+
+/* ------------------------------------------------------------------ the version */
+
+/* Proved. The AOC_VERSION of the archive that is linked. A host compares it with the header's at its start. */
+uint32_t aoc_version(void);
 
 /* ------------------------------------------------------------------ components */
 

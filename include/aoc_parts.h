@@ -7,6 +7,27 @@
 #error "include aoc.h"
 #endif
 
+/* A conversion of a value, and of a pointer, as each of the two languages writes it. */
+#ifdef __cplusplus
+#define AOC_TO(type, value) static_cast<type>(value)
+#define AOC_POINT_TO(type, pointer) reinterpret_cast<type>(pointer)
+#else
+#define AOC_TO(type, value) ((type)(value))
+#define AOC_POINT_TO(type, pointer) ((type)(pointer))
+#endif
+
+/* ------------------------------------------------------------------ the layout's number */
+
+/* Proved: the answer is the number in its name. An archive with another layout has another name here, and is not linked with
+ * what mentions this one: the functions below that every host calls. */
+uint32_t aoc_layout_2(void);
+
+static inline void aoc_mention_layout(void)
+{
+    uint32_t (*volatile layout)(void) = aoc_layout_2;
+    (void)layout;
+}
+
 /* ------------------------------------------------------------------ a record in parts */
 
 /* A record lies in four parts: its front, the first 8 octets; its figure, the charge's first 48; and the charge's two arrays,
@@ -49,18 +70,20 @@ aoc_written aoc_write_from(aoc_front front, aoc_outline outline, uint32_t number
 
 static inline aoc_refusal aoc_read(const uint8_t *octets, size_t length, aoc_answer *answer)
 {
+    aoc_mention_layout();
     aoc_charge *charge = &answer->record.charge;
-    aoc_refusal_at a = aoc_read_into(octets, length, (uint8_t(*)[8])&answer->record, (uint8_t(*)[48])charge,
-                                     &charge->numbers, &charge->octets);
+    aoc_refusal_at a = aoc_read_into(octets, length, AOC_POINT_TO(uint8_t(*)[8], &answer->record),
+                                     AOC_POINT_TO(uint8_t(*)[48], charge), &charge->numbers, &charge->octets);
     memcpy(answer, &a, sizeof a);
-    return (aoc_refusal)a.refusal;
+    return AOC_TO(aoc_refusal, a.refusal);
 }
 
 static inline bool aoc_next(const uint8_t *octets, size_t length, size_t *place, aoc_answer *answer)
 {
+    aoc_mention_layout();
     aoc_charge *charge = &answer->record.charge;
-    aoc_next_answer next = aoc_next_into(octets, length, *place, (uint8_t(*)[8])&answer->record, (uint8_t(*)[48])charge,
-                                         &charge->numbers, &charge->octets);
+    aoc_next_answer next = aoc_next_into(octets, length, *place, AOC_POINT_TO(uint8_t(*)[8], &answer->record),
+                                         AOC_POINT_TO(uint8_t(*)[48], charge), &charge->numbers, &charge->octets);
     memcpy(answer, &next.answer, sizeof next.answer);
     if (next.after == 0)
         return false;
@@ -80,11 +103,12 @@ static inline aoc_written aoc_write(const aoc_record *record, uint8_t *buffer, s
         uint64_t words[2];
         aoc_outline outline;
     } o;
+    aoc_mention_layout();
     memcpy(&front, record, sizeof front);
-    o.words[0] = (uint64_t)a->id | (uint64_t)a->count << 16 | (uint64_t)m->currency.count << 32 |
-                 (uint64_t)m->multiplier << 40 | (uint64_t)a->kind << 48 | (uint64_t)a->plan << 56;
-    o.words[1] = (uint64_t)c->kind | (uint64_t)c->total << 8 | (uint64_t)c->billed << 16 | (uint64_t)c->billing << 24 |
-                 (uint64_t)c->arrangement << 32 | (uint64_t)c->count << 40;
+    o.words[0] = a->id | AOC_TO(uint64_t, a->count) << 16 | AOC_TO(uint64_t, m->currency.count) << 32 |
+                 AOC_TO(uint64_t, m->multiplier) << 40 | AOC_TO(uint64_t, a->kind) << 48 | AOC_TO(uint64_t, a->plan) << 56;
+    o.words[1] = c->kind | AOC_TO(uint64_t, c->total) << 8 | AOC_TO(uint64_t, c->billed) << 16 |
+                 AOC_TO(uint64_t, c->billing) << 24 | AOC_TO(uint64_t, c->arrangement) << 32 | AOC_TO(uint64_t, c->count) << 40;
     return aoc_write_from(front, o.outline, m->number, &m->currency.octets, &a->digits, &c->numbers, &c->octets, buffer, room);
 }
 
@@ -92,6 +116,7 @@ static inline aoc_written aoc_write(const aoc_record *record, uint8_t *buffer, s
 
 static inline bool aoc_is_refusal(uint32_t number)
 {
+    aoc_mention_layout();
     switch (number) {
         AOC_REFUSALS(AOC_ROW_CASE)
         return true;
@@ -138,7 +163,7 @@ static inline aoc_rate_entry aoc_rate_at(const aoc_charge *charge, size_t index)
 static inline void aoc_row_of(aoc_event event, uint16_t count, uint16_t *row)
 {
     row[0] = event.kind;
-    row[1] = (uint16_t)((event.asked.s ? 1 : 0) | (event.asked.d ? 2 : 0) | (event.asked.e ? 4 : 0));
+    row[1] = AOC_TO(uint16_t, (event.asked.s ? 1 : 0) | (event.asked.d ? 2 : 0) | (event.asked.e ? 4 : 0));
     row[2] = event.s;
     row[3] = event.d;
     row[4] = event.e;

@@ -113,7 +113,7 @@ static inline void aoc_put_words(aoc_text *text, const char *words)
 static inline void aoc_put_octets(aoc_text *text, const uint8_t *octets, size_t count, size_t most)
 {
     for (size_t i = 0; i < count && i < most; i++)
-        aoc_put_character(text, octets[i] >= 0x20 && octets[i] < 0x7F ? (char)octets[i] : '?');
+        aoc_put_character(text, octets[i] >= 0x20 && octets[i] < 0x7F ? AOC_TO(char, octets[i]) : '?');
 }
 
 /* The last `places` digits stand after a point. */
@@ -122,7 +122,7 @@ static inline void aoc_put_number(aoc_text *text, uint64_t number, unsigned plac
     char digits[24];
     unsigned count = 0;
     do {
-        digits[count++] = (char)('0' + (char)(number % 10));
+        digits[count++] = AOC_TO(char, '0' + AOC_TO(char, number % 10));
         number /= 10;
     } while (number || count <= places);
     while (count > 0) {
@@ -136,7 +136,7 @@ static inline void aoc_put_signed(aoc_text *text, uint16_t id)
 {
     if (id >= 0x8000) {
         aoc_put_character(text, '-');
-        aoc_put_number(text, (uint64_t)0x10000 - id, 0);
+        aoc_put_number(text, AOC_TO(uint64_t, 0x10000 - id), 0);
     } else {
         aoc_put_number(text, id, 0);
     }
@@ -173,7 +173,7 @@ static inline void aoc_put_time(aoc_text *text, uint32_t time, uint8_t scale)
     switch (scale) {
     case AOC_SCALE_HUNDREDTH_SECOND: aoc_put_number(text, time, 2); break;
     case AOC_SCALE_TENTH_SECOND: aoc_put_number(text, time, 1); break;
-    case AOC_SCALE_TEN_SECONDS: aoc_put_number(text, (uint64_t)time * 10, 0); break;
+    case AOC_SCALE_TEN_SECONDS: aoc_put_number(text, AOC_TO(uint64_t, time) * 10, 0); break;
     default: aoc_put_number(text, time, 0); break;
     }
     switch (scale) {

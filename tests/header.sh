@@ -1,28 +1,28 @@
 #!/bin/sh
-# The headers say nothing to a strict compiler, as C11, C17 and C++17: for CC and CXX, and for gcc and clang where they are there.
+# The headers say nothing to a strict compiler, as C11, C17, C++11 to C++20: for CC and CXX, and for gcc and clang where they are there.
 cd "$(dirname "$0")/.." || exit 2
 work=$(mktemp -d) || exit 2
 trap 'rm -rf "$work"' EXIT
 flags="-Wall -Wextra -Wpedantic -Wconversion -Wshadow -Werror -Iinclude -fsyntax-only"
 echo '#include "aoc_text.h"' >"$work/unit.c"
 
-# strict COMPILER LANGUAGE STANDARD..: with and without what the optimizer finds
+# strict COMPILER LANGUAGE FLAG STANDARD..: with and without what the optimizer finds
 strict() {
-    compiler=$1 language=$2
-    shift 2
+    compiler=$1 language=$2 flag=$3
+    shift 3
     command -v "$compiler" >/dev/null || return 0
     for standard; do
         for level in -O0 -O2; do
             # shellcheck disable=SC2086
-            "$compiler" $flags -x "$language" "-std=$standard" "$level" "$work/unit.c" || { echo "header: $compiler $standard"; exit 1; }
+            "$compiler" $flags $flag -x "$language" "-std=$standard" "$level" "$work/unit.c" || { echo "header: $compiler $standard"; exit 1; }
         done
         echo "header: clean for $compiler as $standard"
     done
 }
-for compiler in $(printf '%s\n' "${CC:-cc}" gcc clang | sort -u); do strict "$compiler" c c11 c17; done
-for compiler in $(printf '%s\n' "${CXX:-c++}" g++ clang++ | sort -u); do strict "$compiler" c++ c++17; done
+for compiler in $(printf '%s\n' "${CC:-cc}" gcc clang | sort -u); do strict "$compiler" c "" c11 c17; done
+for compiler in $(printf '%s\n' "${CXX:-c++}" g++ clang++ | sort -u); do strict "$compiler" c++ -Wold-style-cast c++11 c++14 c++17 c++20; done
 # each header by itself
 for header in aoc aoc_text; do
     echo "#include \"$header.h\"" >"$work/unit.c"
-    strict "${CC:-cc}" c c11
+    strict "${CC:-cc}" c "" c11
 done

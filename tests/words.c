@@ -180,7 +180,21 @@ static void test_words(void)
     CHECK(!differ(aoc_outcome_text(AOC_OUTCOME_FINAL), "the first final of its service"), "words");
     CHECK(!differ(aoc_outcome_text(AOC_REFUSED_WRONG_PHASE), aoc_refusal_text(AOC_REFUSED_WRONG_PHASE)), "words");
     CHECK(!differ(aoc_phase_text(AOC_PHASE_CLEARING), "clearing"), "words");
-    CHECK(AOC_VERSION_TEXT[0] - '0' == AOC_VERSION / 10000, "version");
+}
+
+/* The archive is that of the header, and the text of the version has its numbers. */
+static void test_version(void)
+{
+    unsigned long numbers[3] = {0, 0, 0};
+    const char *text = AOC_VERSION_TEXT;
+    for (int i = 0; *text; text++) {
+        if (*text == '.')
+            i++;
+        else
+            numbers[i] = 10 * numbers[i] + (unsigned long)(*text - '0');
+    }
+    CHECK(AOC_VERSION == 10000 * numbers[0] + 100 * numbers[1] + numbers[2], "the version's text");
+    CHECK(aoc_version() == AOC_VERSION && aoc_layout_2() == 2, "the archive's version");
 }
 
 int main(void)
@@ -190,5 +204,6 @@ int main(void)
     test_longest();
     test_nonsense();
     test_words();
+    test_version();
     return report("words");
 }

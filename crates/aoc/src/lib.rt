@@ -28,6 +28,24 @@ ghost use Rattle.aoc.specs.Events.{plainEvent, setupEvent, Took};
 ghost use Rattle.aoc.specs.Reading.{ReadsOff};
 ghost use Rattle.price.specs.Price.{priceOf};
 
+// ---- the version
+
+// What the header says as AOC_VERSION, of the archive that a host is linked with.
+#[no_mangle]
+pub extern "C" fn aoc_version() -> u32
+    ensures { λ r. ⌜ r ≡ 20000 ⌝ }
+{
+    20000
+}
+
+// The number in its name is the layout's. The header's inline functions mention it, so that an archive with another layout is not linked.
+#[no_mangle]
+pub extern "C" fn aoc_layout_2() -> u32
+    ensures { λ r. ⌜ r ≡ 2 ⌝ }
+{
+    2
+}
+
 // ---- components
 
 // A record that is read goes to four parts that are lent, and one that is written comes from its numbers by value and its arrays lent: none is copied.
