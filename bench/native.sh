@@ -30,6 +30,7 @@ exec "$clang" "\$@"
 END_OF_CLANG
     chmod +x "$work/bin/clang"
     set -- --extern "std=$on/rlib/std.rlib" -L dependency=target/rlib -L "dependency=$on/rlib"
+    # shellcheck disable=SC2013
     for crate in $(sed -n "s/^$name: *//p" crates.txt); do
         if [ -d "crates/$crate" ]; then folder=target/rlib; else folder=$on/rlib; fi
         set -- "$@" --extern "$crate=$folder/$crate.rlib"

@@ -35,7 +35,7 @@ for side in $sides; do
     said=$("$work/$side" check) || { echo "bench: $side: only $said are read and written again as they were"; exit 1; }
 done
 for n in 1 2; do "$work/ours" lines $((n * count / 8)) >"$work/count$n" && "$work/ours" lines $((n * items)) >"$work/time$n" || exit 1; done
-"$lines" <"$work/count1" >"$work/echoed" && cmp -s "$work/echoed" "$work/count1" || { echo "bench: the line program does not echo the row"; exit 1; }
+{ "$lines" <"$work/count1" >"$work/echoed" && cmp -s "$work/echoed" "$work/count1"; } || { echo "bench: the line program does not echo the row"; exit 1; }
 
 # ---- instructions: $work/SIDE.instructions has lines JOB CHOICE NUMBER
 

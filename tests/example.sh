@@ -6,15 +6,18 @@ work=$(mktemp -d) || exit 2
 trap 'rm -rf "$work"' EXIT
 night() { sh tools/exec target/examples/night "$@"; }
 wrong() { echo "example: $*"; exit 1; }
+# has FILE PATTERN OF: a line of the file is as the pattern says
+has() { grep -q "$2" "$work/$1" || wrong "$3"; }
 
 sh examples/run.sh | cmp - examples/night.out || exit 1
 night --csv <examples/night.txt 2>"$work/err" | cmp - examples/night.csv || exit 1
-grep -q 'a component refused' "$work/err" || wrong 'a note among the values'
+has err 'a component refused' 'a note among the values'
 
 # refused LINE: the line is told with its number and not taken, and its call is in no report
 refused() {
     { echo '# one line is wrong'; printf '%b\n' "$1"; } | night >"$work/out" && wrong "status 0 for: $1"
-    grep -q '^line 2 is not taken: ' "$work/out" && grep -q '^Calls: 0$' "$work/out" || wrong "taken: $1"
+    has out '^line 2 is not taken: ' "taken: $1"
+    has out '^Calls: 0$' "taken: $1"
 }
 refused '21:40 214 one setup'
 refused '21:40 214 setup E'
@@ -33,21 +36,24 @@ refused '21:40 214 1 facility 1C 0D 9'
 refused '21:40 214 1 setup\0000 E'
 refused "21:40 214 1 facility $(awk 'BEGIN { for (i = 0; i < 258; i++) printf "00 " }')"
 refused "21:40 214 1 setup $(awk 'BEGIN { for (i = 0; i < 4000; i++) printf " " }')X"
-printf '21:40 214 1 setup\r\n' | night | grep -q '^Calls: 1$' || wrong 'a line that ends in CR LF'
+printf '21:40 214 1 setup\r\n' | night >"$work/out"
+has out '^Calls: 1$' 'a line that ends in CR LF'
 
 # out of order, malformed: the event is told, and the report goes on
 printf '%s\n' '1 9 1 connect' '2 9 1 setup D' '3 9 1 facility 1C 05 91' | night >"$work/out" || wrong 'a status for a refused event'
-grep -q '^1  room 9  call 1  connect refused: an event that is not allowed in this phase$' "$work/out" || wrong 'an event out of order'
-grep -q '^3  room 9  call 1  a malformed Facility element$' "$work/out" || wrong 'a malformed element'
+has out '^1  room 9  call 1  connect refused: an event that is not allowed in this phase$' 'an event out of order'
+has out '^3  room 9  call 1  a malformed Facility element$' 'a malformed element'
 
 # what cannot be read or written
 night </ >"$work/out" 2>"$work/err"
-[ $? = 2 ] && grep -q 'cannot be read' "$work/err" || wrong 'a folder as input'
+[ $? = 2 ] || wrong 'a folder as input'
+has err 'cannot be read' 'a folder as input'
 night <&- >"$work/out" 2>"$work/err"
 [ $? = 2 ] || wrong 'no input'
 if [ -w /dev/full ]; then
     night <examples/night.txt >/dev/full 2>"$work/err"
-    [ $? = 2 ] && grep -q 'cannot be written' "$work/err" || wrong 'a full disk'
+    [ $? = 2 ] || wrong 'a full disk'
+    has err 'cannot be written' 'a full disk'
 fi
 
 # 3,000 calls, and one of 3,000 events; the final of the last has a list of 32
@@ -65,7 +71,10 @@ awk 'BEGIN {
     print "\n1 many 1 released"
 }' >"$work/long"
 night <"$work/long" >"$work/out" || wrong 'a long night'
-grep -q '^  EUR 4500.000 in 3000 calls$' "$work/out" && grep -q '^  3001 priced$' "$work/out" || wrong 'the sum of a long night'
-grep -q 'only running figures' "$work/out" && grep -q 'event 3 at 2, last running figure EUR 0.450' "$work/out" || wrong 'a long call'
-[ "$(grep -o '100 units' "$work/out" | wc -l)" = 32 ] && grep -q '^  3200 units in 1 call$' "$work/out" || wrong 'a long list'
+has out '^  EUR 4500.000 in 3000 calls$' 'the sum of a long night'
+has out '^  3001 priced$' 'the calls of a long night'
+has out 'only running figures' 'a long call'
+has out 'event 3 at 2, last running figure EUR 0.450$' 'a long call'
+has out '^  3200 units in 1 call$' 'a long list'
+[ "$(grep -o '100 units' "$work/out" | wc -l)" = 32 ] || wrong 'a long list'
 echo "example: the night's report and its values are as they were; what is not taken is told; 3,002 calls are held"

@@ -1,4 +1,107 @@
 #!/bin/sh
-# ./run explain prints what examples/explain.out has.
+# ./run explain prints what examples/explain.out has; it takes one component in every spelling alike, and nothing that is not there.
 cd "$(dirname "$0")/.." || exit 2
-./run explain <examples/explain.txt | cmp - examples/explain.out
+work=$(mktemp -d) || exit 2
+trap 'rm -rf "$work"' EXIT
+explain() { sh tools/exec target/examples/explain "$@"; }
+wrong() { echo "explain: $*"; exit 1; }
+# has FILE PATTERN OF: a line of the file is as the pattern says
+has() { grep -q "$2" "$work/$1" || wrong "$3: $(cat "$work/$1")"; }
+
+./run explain <examples/explain.txt | cmp - examples/explain.out || exit 1
+
+octets='A1 1A 02 01 0B 02 01 23 30 12 30 10 A1 0E 81 03 45 55 52 A2 07 81 02 00 96 82 01 01'
+answer='invoke 11 aOCECurrency EUR 1.500'
+# alike LINE ANSWER FILE: the file is explained by one line, as of its line
+alike() {
+    explain --one-line <"$3" >"$work/out" || wrong "$(cat "$3" "$work/out")"
+    [ "$(cat "$work/out")" = "$1: $2" ] || wrong "$(cat "$3" "$work/out")"
+}
+# means OCTETS ANSWER: so is a line of octets
+means() {
+    echo "$1" >"$work/in"
+    alike 1 "$2" "$work/in"
+}
+for edit in 's/x/x/' 's/ //g' 's/.*/\L&/' 's/ / 0x/g; s/^/0x/' 's/ /, 0x/g; s/^/{0x/; s/$/};/' 's/ /:/g' 's/ /-/g' 's/ /\t/g' 's/ /  /g' \
+    's/^/  /; s/$/  /' 's/$/\r/' 's/$/ # the last charge/' 's/ /\\x/g; s/^/"\\x/; s/$/"/' 's/^/22:03 /' 's/^/2026-11-16 22:03:11.482 room 214: /' \
+    's/^/\xEF\xBB\xBF/' 's/\(....................\) /\1, /'; do
+    echo "$octets" | sed "$edit" >"$work/in"
+    alike 1 "$answer" "$work/in"
+done
+printf '%s' "$octets" >"$work/in"
+alike 1 "$answer" "$work/in"
+printf '# a comment\n\n  # another\n%s\n\n' "$octets" >"$work/in"
+alike 4 "$answer" "$work/in"
+means "1C 1D 91 $octets" "$answer"
+means "08 01 81 45 08 02 80 90 1C 1D 91 $octets" "DISCONNECT: $answer"
+means "08 00 62 A0 1C 1D 91 $octets 28 01 41" "FACILITY: $answer"
+means "02 01 6A 02 08 01 81 45 08 02 80 90 1C 1D 91 $octets" "DISCONNECT: $answer"
+means "00 FF 03 08 01 01 4D 1C 1D 91 $octets" "RELEASE: $answer"
+# a Facility element under a shift is another codeset's; one behind a shift for one element is not
+means "08 01 81 45 96 1C 1D 91 $octets" 'DISCONNECT: no Facility element in the message'
+means "08 01 81 45 9E 1C 01 00 1C 1D 91 $octets" "DISCONNECT: $answer"
+means "08 01 81 45 1C 1E 91 $octets" 'refused: not a message to its exact end'
+means "$octets $octets" 'refused 5: octets after the component'
+means '1C 01 91' 'refused 15: a malformed Facility element'
+
+# dumps, as printed by tshark -x, hexdump -C, xxd, od -Ax -tx1
+cat >"$work/tshark" <<'END'
+0000  a1 1a 02 01 0b 02 01 23 30 12 30 10 a1 0e 81 03   .......#0.0.....
+0010  45 55 52 a2 07 81 02 00 96 82 01 01               EUR.........
+END
+cat >"$work/hexdump" <<'END'
+00000000  a1 1a 02 01 0b 02 01 23  30 12 30 10 a1 0e 81 03  |.......#0.0.....|
+00000010  45 55 52 a2 07 81 02 00  96 82 01 01              |EUR.........|
+0000001c
+END
+cat >"$work/xxd" <<'END'
+00000000: a11a 0201 0b02 0123 3012 3010 a10e 8103  .......#0.0.....
+00000010: 4555 52a2 0781 0200 9682 0101            EUR.........
+END
+cat >"$work/od" <<'END'
+000000 a1 1a 02 01 0b 02 01 23 30 12 30 10 a1 0e 81 03
+000010 45 55 52 a2 07 81 02 00 96 82 01 01
+00001c
+END
+for dump in tshark hexdump xxd od; do
+    alike 1 "$answer" "$work/$dump"
+    sed 's/$/\r/; s/^/  /' "$work/$dump" >"$work/in"
+    alike 1 "$answer" "$work/in"
+    { cat "$work/$dump" && echo && cat "$work/$dump"; } | explain --one-line >"$work/out"
+    [ "$(grep -c "$answer" "$work/out")" = 2 ] || wrong "two dumps of $dump"
+    for edit in '2s/a2/a/' '2s/a2/z2/' 2d 1d; do
+        sed "$edit" "$work/$dump" | explain --one-line >"$work/out"
+        ! grep -q "$answer" "$work/out" || wrong "a damaged dump of $dump: $edit"
+    done
+done
+sed '2s/45 55/45  55/' "$work/tshark" | explain --one-line >"$work/out"
+has out '^2: not taken: not two hex digits' 'a gap in a dump'
+sed '2s/^/*\n/' "$work/hexdump" | explain --one-line >"$work/out"
+has out '^2: not taken: the dump leaves octets out' 'a dump that leaves octets out'
+
+# left LINE INPUT: nothing is explained, and the line is named
+left() {
+    printf '%b' "$2" | explain >"$work/out" && wrong "status 0 for $2"
+    [ "$(wc -l <"$work/out")" -eq 1 ] || wrong "taken: $2"
+    has out "^line $1 is not taken: " "$2"
+}
+left 1 "$octets\\0000garbage\n"
+left 1 "$octets 0\n"
+left 1 "$octets zz\n"
+left 1 "A1 1A 02 O1 0B\n"
+left 1 'A11A0\n'
+left 2 '\nno octets here\n'
+left 1 '30 12 30 10\n'
+left 1 "$(awk 'BEGIN { for (i = 0; i < 70000; i++) printf "A1 " }')$octets\n"
+explain </dev/null 2>"$work/err" && wrong 'status 0 for an empty input'
+has err 'no octets came' 'an empty input'
+
+explain </ >"$work/out" 2>"$work/err"
+[ $? = 2 ] || wrong 'a folder as input'
+has err 'cannot be read' 'a folder as input'
+if [ -w /dev/full ]; then
+    explain <examples/explain.txt >/dev/full 2>"$work/err"
+    [ $? = 2 ] || wrong 'a full disk'
+    has err 'cannot be written' 'a full disk'
+fi
+echo "explain: every spelling is taken alike, and what is not taken is named"
