@@ -6,6 +6,7 @@ exec python3 - <<'PYTHON'
 import glob
 import os
 import re
+import subprocess
 import sys
 
 wrong = []
@@ -77,6 +78,18 @@ for names, numbers in re.findall(r"^\| (`aoc_\w+`(?:, `aoc_\w+`)*) \| ([\d, ]+) 
     for name, number in zip(re.findall(r"aoc_\w+", names), numbers.split(", ")):
         if sizes.get(name) != int(number.replace(",", "")):
             tell("docs/HOST.md", f"{name} has {sizes.get(name)} octets")
+
+# ---- the stack that is enough for any function, and the kit that the project is proved with
+enough = int(re.search(r"^(\d+) KB are enough for any function", text("docs/HOST.md"), re.M)[1])
+for name, octets in re.findall(r"^\| `(aoc_\w+)` \| ([\d,]+) \|$", text("docs/HOST.md").split("## Stack")[1].split("\n## ")[0], re.M):
+    if int(octets.replace(",", "")) > 1024 * enough:
+        tell("docs/HOST.md", f"{name} takes more than {enough} KB of stack")
+try:
+    kit = subprocess.run(["rt", "version"], capture_output=True, text=True).stdout.strip()
+    if kit not in text("README.md"):
+        tell("README.md", f"the kit is {kit}")
+except FileNotFoundError:
+    pass
 
 # ---- the must-fail edits
 edits = {"/".join((path.split("/")[1], path.split("/")[3][: -len(".edit")])) for path in glob.glob("crates/*/must-fail/*.edit")}
