@@ -9,7 +9,7 @@ wrong() { echo "example: $*"; exit 1; }
 # has FILE PATTERN OF: a line of the file is as the pattern says
 has() { grep -q "$2" "$work/$1" || wrong "$3"; }
 
-sh examples/run.sh | cmp - examples/night.out || exit 1
+./run night <examples/night.txt | cmp - examples/night.out || exit 1
 night --csv <examples/night.txt 2>"$work/err" | cmp - examples/night.csv || exit 1
 has err 'a component refused' 'a note among the values'
 

@@ -11,12 +11,12 @@ SECTION = re.compile(r"^  (?:abbrev|unfoldable) (?:pub )?([^\s:(){}]+) :(?: |$)"
 
 
 def believed():
-    with open("docs/TRUST.md") as page:
+    with open("docs/TRUST.md", encoding="utf-8") as page:
         return [os.path.join("crates", found.group(1)) for found in map(ROW.match, page) if found]
 
 
 def names(path):
-    with open(path) as text:
+    with open(path, encoding="utf-8") as text:
         for line in text:
             found = MARGIN.match(line) or SECTION.match(line)
             if found:
