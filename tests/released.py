@@ -87,7 +87,7 @@ def main(arguments):
     elif (first, second, third) < before:
         wrong.append(f"{version} is before {released[0]}")
     if any(line.split()[0] in LAYOUT for line in gone) and not (layout_before < int(layout) == first):
-        wrong.append(f"the layout is another one: aoc_layout_{layout} becomes aoc_layout_{first}, in the library and in aoc_parts.h")
+        wrong.append(f"the layout is another one: aoc_layout_{layout} becomes aoc_layout_{max(first, before[0] + 1)}, in the library and in aoc_parts.h")
     print("\n".join(wrong), end="\n" if wrong else "")
     print(f"released: {len(now)} facts, {len(gone)} gone and {len(new)} new since {released[0]}; now {version}, layout {layout}")
     return 1 if wrong or len(now) < 200 else 0
