@@ -19,8 +19,8 @@
 #include <stdint.h>
 #include <string.h>
 
-#define AOC_VERSION 20000       /* 2.0.0: ten thousand times the first number, a hundred times the second, the third */
-#define AOC_VERSION_TEXT "2.0.0"
+#define AOC_VERSION 20100       /* 2.1.0: ten thousand times the first number, a hundred times the second, the third */
+#define AOC_VERSION_TEXT "2.1.0"
 
 #ifdef __cplusplus
 extern "C" {
@@ -53,6 +53,9 @@ extern "C" {
     ROW(AOC_REFUSED_WRONG_PHASE, 14, "an event that is not allowed in this phase")                     \
     ROW(AOC_REFUSED_BAD_ELEMENT, 15, "a malformed Facility element")                                   \
     ROW(AOC_REFUSED_BAD_PLACE, 16, "a place where no component begins")                                \
+    ROW(AOC_REFUSED_IN_USE, 35, "a Setup for a call reference that is held")                           \
+    ROW(AOC_REFUSED_FULL, 36, "64 calls are held")                                                     \
+    ROW(AOC_REFUSED_NOT_HELD, 37, "a call reference that is not held")                                 \
     ROW(AOC_REFUSED_UNIT_LIST, 38, "a closing figure in units")                                        \
     ROW(AOC_REFUSED_NO_CLOSING, 39, "no closing figure")                                               \
     ROW(AOC_REFUSED_LENGTHS, 48, "lengths that do not add up")                                         \
@@ -598,6 +601,45 @@ typedef struct {
  * AOC_REFUSED_BAD_RECORD where the service is not D's or E's, or the charge is none or could not be written under that service,
  * then AOC_REFUSED_UNIT_LIST. */
 aoc_priced aoc_price(aoc_closing closing);
+
+/* ------------------------------------------------------------------ a switchboard */
+
+/* A table of up to 64 calls, each kept by its call reference, a number of 16 bits. A reference is held from its accepted Setup
+ * until what the call closed with has been collected. The host owns the table (95,488 octets: static or from the heap rather
+ * than on a stack) and lends it; a new one is all zeros. No answer shows in which place of the table a call is kept, and what
+ * other calls do changes no answer but AOC_REFUSED_FULL. Any octets are a table, and each call has its one answer on them. */
+enum { AOC_LIMIT_CALLS = 64 };
+
+typedef struct {
+    uint32_t keys[AOC_LIMIT_CALLS];     /* 0 where the place is free, else one more than the reference */
+    aoc_account calls[AOC_LIMIT_CALLS]; /* zeros where the place is free */
+} aoc_board;
+
+/* Inline. A table with no call: all zeros, as `static aoc_board board;` and calloc give it too. */
+static inline void aoc_board_clear(aoc_board *board);
+
+/* Proved. An event of a reference; `octets` are those of a component, none with another event. A Setup is AOC_REFUSED_IN_USE,
+ * then AOC_REFUSED_FULL, then as on a fresh account: accepted, or AOC_REFUSED_BAD_SETUP. Any other event is
+ * AOC_REFUSED_NOT_HELD, or what aoc_step answers on the call's own account. Refused, the table is as it was; else no other
+ * call's octets are touched. */
+aoc_outcome aoc_board_event(aoc_board *board, uint16_t reference, aoc_event event, const uint8_t *octets, size_t length);
+
+typedef struct {
+    uint32_t refusal;    /* AOC_ACCEPTED, AOC_REFUSED_NOT_HELD or AOC_REFUSED_WRONG_PHASE */
+    aoc_closing closing; /* as aoc_closing_of gives it; AOC_SERVICE_NONE and zeros where there is none, and on refusal */
+} aoc_collected;
+
+/* Proved. The closing figure of a call that has ended, or its lack; the reference is then free for another call. Before the end
+ * AOC_REFUSED_WRONG_PHASE, and the table is as it was. */
+aoc_collected aoc_board_collect(aoc_board *board, uint16_t reference);
+
+typedef struct {
+    uint32_t refusal;    /* AOC_ACCEPTED or AOC_REFUSED_NOT_HELD */
+    aoc_account account; /* a copy of the call's account, from which aoc_rate_of and its like read; zeros on refusal */
+} aoc_viewed;
+
+/* Proved. What a reference holds. Nothing is changed. */
+aoc_viewed aoc_board_view(const aoc_board *board, uint16_t reference);
 
 #include "aoc_parts.h"
 

@@ -170,6 +170,13 @@ static inline void aoc_row_of(aoc_event event, uint16_t count, uint16_t *row)
     row[5] = count;
 }
 
+/* ------------------------------------------------------------------ a switchboard */
+
+static inline void aoc_board_clear(aoc_board *board)
+{
+    memset(board, 0, sizeof *board);
+}
+
 /* ------------------------------------------------------------------ the layout that the library has */
 
 #ifdef __cplusplus
@@ -210,6 +217,9 @@ AOC_LAYOUT(sizeof(aoc_pending) == 10 && offsetof(aoc_pending, s) == 4);
 AOC_LAYOUT(sizeof(aoc_why_answer) == 16 && offsetof(aoc_why_answer, event) == 8);
 AOC_LAYOUT(sizeof(aoc_priced) == 32 && offsetof(aoc_priced, is_free) == 4 && offsetof(aoc_priced, currency) == 5);
 AOC_LAYOUT(offsetof(aoc_priced, thousandths) == 16 && offsetof(aoc_priced, quotient) == 24);
+AOC_LAYOUT(sizeof(aoc_board) == 95488 && offsetof(aoc_board, calls) == 256);
+AOC_LAYOUT(sizeof(aoc_collected) == 376 && offsetof(aoc_collected, closing) == 4);
+AOC_LAYOUT(sizeof(aoc_viewed) == 1492 && offsetof(aoc_viewed, account) == 4);
 #undef AOC_LAYOUT
 
 /* Numbers lie low octet first, in what reading stores and in the outline's words. */

@@ -14,8 +14,11 @@ Z <account> <event> <hex> an account of any 1,488 octets, and one event: its ten
                          leaves, then what is read off that, marks and pending as their octets:
                          outcome,service,first 16 octets,rate,running,final of D,final of E,phase,rate,running,closing,its service,marks,pending
 Y <rows> <hex>           why no price     <number> <reason> <event>
+B <reference> <event>;.. switchboard      of each operation: number,service of an event; number,service,figure of a collection;
+                         number,figure of a reading, the figure being the account
 
-Events: S <id>,<id>,<id> Setup, C Connect, X Clear, L Released, P Suspend, U Resume, M<hex> Component.
+Events: S <id>,<id>,<id> Setup, C Connect, X Clear, L Released, P Suspend, U Resume, M<hex> Component. On a switchboard also
+K a collection, V a reading, O<number> an event of a kind that is none's.
 
 A row's six numbers are four hex digits each. Hex is small and without spaces. An empty last field leaves the space before it.
 A figure is - where all of it is zero, else a checksum of its octets; after `python3 answer.py octets` it is the octets themselves.
@@ -26,6 +29,7 @@ import sys
 import zlib
 
 import aoc
+import board
 import price
 import why
 
@@ -134,9 +138,36 @@ def answer_why(rest):
     return "{} {} {}".format(*why.why(numbers, bytes.fromhex(octets)))
 
 
+KINDS = {"C": 2, "X": 3, "L": 4, "P": 6, "U": 7}
+
+
+def operate(table, operation):
+    reference, _, text = operation.partition(" ")
+    reference, what, rest = int(reference), text[0], text[1:]
+    if what == "K":
+        number, service, charge = table.collect(reference)
+        return f"{number},{service},{figure(charge)}"
+    if what == "V":
+        number, octets = table.view(reference)
+        return f"{number},{shown(octets) if any(octets) else '-'}"
+    none = (None, None, None)
+    if what == "S":
+        event = (1, tuple(None if i == "-" else int(i) for i in rest[1:].split(",")), b"")
+    elif what == "M":
+        event = (5, none, bytes.fromhex(rest))
+    else:
+        event = (int(rest) if what == "O" else KINDS[what], none, b"")
+    return "{},{}".format(*table.event(reference, *event))
+
+
+def answer_board(rest):
+    table = board.Board()
+    return ";".join(operate(table, operation) for operation in rest.split(";"))
+
+
 ANSWERS = {"R": answer_read, "W": answer_write, "E": answer_element, "J": answer_reply,
            "T": answer_thousandths, "N": answer_next, "A": answer_account, "D": answer_account, "Y": answer_why,
-           "P": answer_price, "Z": answer_held}
+           "P": answer_price, "Z": answer_held, "B": answer_board}
 
 
 def answer(line):

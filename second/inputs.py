@@ -1025,6 +1025,35 @@ def why_input(rng, length):
     return "Y " + "".join(f"{n:04x}" for n in rows) + " " + octets.hex()
 
 
+def call_after_call(rng):
+    """Operations of one reference: calls one after the other, most of them ended and collected, with some that are refused among them."""
+    operations = []
+    for _ in range(rng.choice((1, 1, 2, 3))):
+        operations += account_input(rng, rng.randint(1, 8))[2:].split(";")
+        operations += rng.choice(([], ["K"], ["X", "L", "K"], ["X", "L", "V", "K", "K"], ["X", "V", "K", "L", "S -,-,-", "K"]))
+    for _ in range(rng.choice((0, 0, 1, 3))):
+        operations.insert(rng.randint(0, len(operations)), rng.choice(("V", "K", "S -,-,-", "S 5,5,-", "O0", "O8", "O255")))
+    return operations
+
+
+def board_input(rng):
+    """A switchboard's operations: a few references among each other, and at times so many more that the table is full."""
+    calls = {r: call_after_call(rng) for r in rng.sample((0, 1, 7, 255, 256, 32767, 32768, 65534, 65535), rng.randint(1, 4))}
+    begun = []
+    if rng.random() < 0.3:
+        others = [1000 + 3 * i for i in range(rng.choice((59, 62, 63, 64, 66)))]
+        begun = [f"{r} S -,-,-" for r in others]
+        for r in rng.sample(others, rng.randint(1, 4)):
+            calls[r] = rng.choice((["X", "L", "K"], ["X", "L", "K", "S -,5,-", "V"], ["C", "V", "X", "L", "K", "K"]))
+    done = begun
+    while calls:
+        r = rng.choice(list(calls))
+        done.append(f"{r} {calls[r].pop(0)}")
+        if not calls[r]:
+            del calls[r]
+    return "B " + ";".join(done)
+
+
 def next_input(rng):
     """An element, and most often a place of it: a component's start or the end, at times one inside or past it."""
     octets = facility(rng)
@@ -1172,7 +1201,7 @@ def lines(seed, count):
     records, charges = record_sweep(rng), record_sweep(rng)
     turn = counting()
     for _ in range(count):
-        kind = rng.choices("RWENJTADZYP", (38, 24, 4, 5, 8, 1, 22, 5, 14, 12, 3))[0]
+        kind = rng.choices("RWENJTADZYPB", (38, 24, 4, 5, 8, 1, 22, 5, 14, 12, 3, 5))[0]
         if kind == "R":
             yield "R " + next(octets).hex()
         elif kind == "W":
@@ -1190,6 +1219,8 @@ def lines(seed, count):
             yield f"T {number(rng)} {rng.choice((0, 1, 2, 3, 4, 5, 6, 6, 7, 8, 255))}"
         elif kind == "Y":
             yield why_input(rng, rng.randint(0, 12))
+        elif kind == "B":
+            yield board_input(rng)
         elif kind == "D":
             yield dropped_input(rng, rng.randint(4, 16))
         elif kind == "Z":

@@ -10,6 +10,7 @@ import sys
 import answer
 import aoc
 import inputs
+import board
 import price
 import why
 from aoc import D, E, S
@@ -389,6 +390,53 @@ def reasons():
         check("a number more", why.why(given[0] + [0], given[1]), (48, 0, 0))
 
 
+# Operations on a switchboard (document 02, request 13), each after its reference; `1..64` stands for one for each. The answers: a number
+# for each, and for a collection that is accepted what the call closed with.
+BOARDS = (
+    ("7 connect; 7 collect; 7 bad", "37 37 37"),
+    ("7 setup; 7 setup; 7 setup 1 1 -; 8 setup", "0 35 35 0"),
+    ("7 setup 1 1 -; 7 connect; 7 setup", "13 37 0"),
+    ("7 setup; 7 collect; 7 clear; 7 collect; 7 released; 7 collect; 7 collect", "0 14 0 14 0 none 37"),
+    ("7 setup; 7 clear; 7 E units 12; 7 released; 7 E units 12; 7 setup; 7 collect; 7 setup", "0 0 22 0 14 35 E12 0"),
+    ("7 setup; 8 setup; 7 clear; 8 connect; 8 sub 5; 7 tot 9; 8 clear; 7 released; 8 released; 8 collect; 7 collect",
+     "0 0 0 0 21 22 0 0 0 none D9"),
+    ("0 setup; 65535 setup; 0 clear; 65535 clear; 0 released; 0 collect; 65535 released; 65535 collect", "0 0 0 0 0 none 0 none"),
+    ("1..64 setup; 65 setup; 1 setup; 65 setup 1 1 -; 65 clear", "0*64 36 35 36 37"),
+    ("1..64 setup; 5 clear; 5 released; 65 setup; 5 collect; 65 setup; 66 setup; 5 connect", "0*66 36 none 0 36 37"),
+    ("1..64 setup; 5 clear; 5 released; 5 collect; 65 setup 1 1 -; 66 setup; 67 setup", "0*66 none 13 0 36"),
+    ("7 setup - 5 -; 7 connect; 7 sub 5; 7 suspend; 7 sub 5; 7 resume; 7 yes 5; 7 sub 5", "0 0 26 0 27 0 24 21"),
+    ("7 setup; 7 clear; 7 tot 5; 7 released; 7 collect; 7 setup; 7 clear; 7 tot 6; 7 released; 7 collect", "0 0 22 0 D5 0 0 22 0 D6"),
+    ("7 setup; 7 bad; 7 cut; 7 released; 7 clear; 8 bad", "0 41 1 14 0 37"),
+)
+
+
+def operated(table, reference, what):
+    if what == "collect":
+        number, service, charge = table.collect(reference)
+        if number:
+            return str(number)
+        if not service:
+            return "none"
+        value = charge.list.numbers[0] if charge.figure.kind == aoc.UNITS else charge.figure.money.number
+        return "DE"[service - 2] + str(value)
+    (kind, asked, *ids, _), octets = row_of(what)
+    number, _ = table.event(reference, kind, [i if asked >> bit & 1 else None for bit, i in enumerate(ids)], octets)
+    check("refused, nothing is held or lost", number in (35, 36, 37) and (reference in table.calls) != (number == 35), False)
+    return str(number)
+
+
+def boards():
+    for text, wanted in BOARDS:
+        table, answers = board.Board(), []
+        for operation in text.split("; "):
+            references, _, what = operation.partition(" ")
+            first, _, last = references.partition("..")
+            for reference in range(int(first), int(last or first) + 1):
+                answers.append(operated(table, reference, what))
+        expected = " ".join(" ".join([word.partition("*")[0]] * int(word.partition("*")[2] or 1)) for word in wanted.split(" "))
+        check(text, " ".join(answers), expected)
+
+
 # A call parked and taken up again (document 02, request 5): events, outcomes with their service, and what stands at the end.
 PARKED_OCTETS = {
     "D-sub": C1, "D-sub2": octets("A1 1A 02 01 01 02 01 21 30 12 A1 0D 81 03 45 55 52 A2 06 81 01 51 82 01 01 82 01 00"),
@@ -657,6 +705,7 @@ def main():
     lists()
     padded()
     reasons()
+    boards()
     parked()
     dropped()
     held()

@@ -308,6 +308,73 @@ static void answer_why(const char *rest)
     printf("%u %u %llu", (unsigned)why.refusal, (unsigned)why.reason, (unsigned long long)why.event);
 }
 
+/* The event of a switchboard's operation, and its octets. */
+static aoc_event board_event(const char *text, size_t *n)
+{
+    static const char kinds[] = ".SCXLMPU";
+    aoc_event event;
+    memset(&event, 0, sizeof event);
+    *n = 0;
+    event.kind = text[0] == 'O' ? (uint8_t)atoi(text + 1) : (uint8_t)(strchr(kinds, text[0]) - kinds);
+    if (event.kind == AOC_EVENT_COMPONENT && text[0] == 'M')
+        *n = unhex(text + 1, octets);
+    if (text[0] == 'S') {
+        uint8_t *asked[] = {&event.asked.s, &event.asked.d, &event.asked.e};
+        uint16_t *ids[] = {&event.s, &event.d, &event.e};
+        text += 2;
+        for (int i = 0; i < 3; i++) {
+            if (*text != '-') {
+                *asked[i] = 1;
+                *ids[i] = (uint16_t)atoi(text);
+            }
+            text += strcspn(text, ",;");
+            text += *text == ',';
+        }
+    }
+    return event;
+}
+
+static void answer_board(const char *rest)
+{
+    static struct {
+        uint8_t before[GUARD];
+        aoc_board board;
+        uint8_t after[GUARD];
+    } lent;
+    memset(&lent, MARK, sizeof lent);
+    aoc_board_clear(&lent.board);
+    while (*rest) {
+        uint16_t reference = (uint16_t)atoi(rest);
+        rest = strchr(rest, ' ') + 1;
+        if (*rest == 'K') {
+            aoc_collected c = aoc_board_collect(&lent.board, reference);
+            printf("%u,%u", (unsigned)c.refusal, (unsigned)c.closing.service);
+            put_figure(&c.closing.charge);
+        } else if (*rest == 'V') {
+            aoc_viewed v = aoc_board_view(&lent.board, reference);
+            printf("%u,", (unsigned)v.refusal);
+            if (all(&v.account, sizeof v.account, 0))
+                putchar('-');
+            else if (whole_figures)
+                put_hex(&v.account, sizeof v.account);
+            else
+                printf("%08x", (unsigned)crc(&v.account, sizeof v.account));
+        } else {
+            size_t n;
+            aoc_event event = board_event(rest, &n);
+            aoc_outcome outcome = aoc_board_event(&lent.board, reference, event, octets, n);
+            printf("%u,%u", outcome.number, outcome.service);
+        }
+        rest = strchr(rest, ';');
+        if (!rest)
+            break;
+        rest++;
+        putchar(';');
+    }
+    if (!all(lent.before, GUARD, MARK) || !all(lent.after, GUARD, MARK))
+        fputs(" touched", stdout);
+}
+
 int main(int count, char **arguments)
 {
     whole_figures = count > 1 && !strcmp(arguments[1], "octets");
@@ -349,6 +416,9 @@ int main(int count, char **arguments)
             break;
         case 'P':
             answer_price(line + 2);
+            break;
+        case 'B':
+            answer_board(line + 2);
             break;
         default:
             fputs("not a line", stdout);

@@ -3,3 +3,4 @@ pub mod Walk
 pub mod Passed
 pub mod Moves
 pub mod Readers
+pub mod Boards

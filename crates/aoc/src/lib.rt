@@ -27,15 +27,16 @@ ghost use Rattle.phases.specs.Parts.{movingOf};
 ghost use Rattle.aoc.specs.Events.{plainEvent, setupEvent, Took};
 ghost use Rattle.aoc.specs.Reading.{ReadsOff};
 ghost use Rattle.price.specs.Price.{priceOf};
+ghost use Rattle.slots.specs.Board.{boarded, eventOn, emptied, collectOn, viewOn};
 
 // ---- the version
 
 // What the header says as AOC_VERSION, of the archive that a host is linked with.
 #[no_mangle]
 pub extern "C" fn aoc_version() -> u32
-    ensures { λ r. ⌜ r ≡ 20000 ⌝ }
+    ensures { λ r. ⌜ r ≡ 20100 ⌝ }
 {
-    20000
+    20100
 }
 
 // The number in its name is the layout's. The header's inline functions mention it, so that an archive with another layout is not linked.
@@ -344,4 +345,32 @@ pub extern "C" fn aoc_price(c: account::Closing) -> price::Priced
 {
     let charge = c.value;
     price::price(c.service, charge)
+}
+
+// ---- the switchboard
+
+#[no_mangle]
+pub extern "C" fn aoc_board_event(
+    t: &mut slots::Board,
+    reference: u16,
+    e: phases::Event,
+    octets: &[u8],
+) -> phases::Outcome
+    ensures { λ r. ⌜ boarded r (now (t .exit)) ≡ eventOn (now (t .entry)) reference e (now (octets .entry)) ⌝ }
+{
+    board::event_in(t, reference, e, octets)
+}
+
+#[no_mangle]
+pub extern "C" fn aoc_board_collect(t: &mut slots::Board, reference: u16) -> slots::Collected
+    ensures { λ r. ⌜ emptied r (now (t .exit)) ≡ collectOn (now (t .entry)) reference ⌝ }
+{
+    board::collect_in(t, reference)
+}
+
+#[no_mangle]
+pub extern "C" fn aoc_board_view(t: &slots::Board, reference: u16) -> slots::Viewed
+    ensures { λ r. ⌜ r ≡ viewOn (now (t .entry)) reference ⌝ }
+{
+    board::view_in(t, reference)
 }

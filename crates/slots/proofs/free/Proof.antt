@@ -1,0 +1,22 @@
+use Rattle.prelude.proofs.Prelude.{needs, refl, ap, sym, _∙_, eq-eqb, ne-eqb}
+use Rattle.slots.specs.Parts.{freed, freeOf}
+use Rattle.account.specs.{declared.Closing.Closing, Step.closingOf}
+use Rattle.slots.proofs.Parts.{freed-now}
+use Rattle.slots.proofs.free.Statement.{statement}
+use Rattle.slots.proofs.free.Tie as tie
+
+pub free-spec : {M : Type 1} → statement M
+unfolding freeOf
+free-spec =
+    tie.close
+    (tie.spec
+    (search needs)
+    (λ c. rw (eq-eqb _ 64 (c .before .if1 .taken), c .uncollected .ensures) refl)
+    (search needs)
+    (λ c. rw (ne-eqb _ 64 (c .before .before .before .if1 .left), ne-eqb _ 4 (c .before .if2 .taken), c .uncollected2 .ensures) refl)
+    (search needs)
+    (search needs)
+    (λ c. let f = c .before in
+    ap (λ (x : Closing). freed (record { number = 0; closing = x }) 0 (c .fresh .result)) (f .closing-of .ensures .0)
+    ∙ ap (freed (record { number = 0; closing = closingOf (f .before .before .before .before .args .a) }) 0) (c .fresh .ensures)
+    ∙ sym (freed-now _ _ _ (f .before .before .before .if1 .left) (f .before .if2 .left))))
