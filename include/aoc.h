@@ -19,8 +19,8 @@
 #include <stdint.h>
 #include <string.h>
 
-#define AOC_VERSION 20100       /* 2.1.0: ten thousand times the first number, a hundred times the second, the third */
-#define AOC_VERSION_TEXT "2.1.0"
+#define AOC_VERSION 20200       /* 2.2.0: ten thousand times the first number, a hundred times the second, the third */
+#define AOC_VERSION_TEXT "2.2.0"
 
 #ifdef __cplusplus
 extern "C" {
@@ -53,6 +53,7 @@ extern "C" {
     ROW(AOC_REFUSED_WRONG_PHASE, 14, "an event that is not allowed in this phase")                     \
     ROW(AOC_REFUSED_BAD_ELEMENT, 15, "a malformed Facility element")                                   \
     ROW(AOC_REFUSED_BAD_PLACE, 16, "a place where no component begins")                                \
+    ROW(AOC_REFUSED_IN_LIST, 34, "an event of the list is refused")                                    \
     ROW(AOC_REFUSED_IN_USE, 35, "a Setup for a call reference that is held")                           \
     ROW(AOC_REFUSED_FULL, 36, "64 calls are held")                                                     \
     ROW(AOC_REFUSED_NOT_HELD, 37, "a call reference that is not held")                                 \
@@ -640,6 +641,30 @@ typedef struct {
 
 /* Proved. What a reference holds. Nothing is changed. */
 aoc_viewed aoc_board_view(const aoc_board *board, uint16_t reference);
+
+/* ------------------------------------------------------------------ whether the exchange kept the rules */
+
+/* The rules that an exchange has to keep. 1 to 3 are of the charges during the call (D's), 1 and 3 of those that were not
+ * counted too; counted is outcome AOC_OUTCOME_NEW_RUNNING or AOC_OUTCOME_FINAL. */
+#define AOC_RULES(ROW)                                                                                 \
+    ROW(AOC_RULE_KEPT, 0, "all rules kept")                                                            \
+    ROW(AOC_RULE_PLACE, 1, "an amount out of place: subtotals while connected, totals while clearing") \
+    ROW(AOC_RULE_FALL, 2, "an amount below the last one in the same currency")                         \
+    ROW(AOC_RULE_FREE, 3, "an amount after the call was told free of charge")                          \
+    ROW(AOC_RULE_FINAL, 4, "a final that differs from the first")
+
+typedef enum { AOC_RULES(AOC_ROW_NAME) } aoc_rule;
+
+typedef struct {
+    uint32_t refusal;           /* AOC_REFUSED_LENGTHS for slices that are no event list, and then the rest is 0;
+                                 * AOC_REFUSED_IN_LIST with the first event that the account refuses, and no rule */
+    uint32_t rule;              /* aoc_rule: the first, in the order above, that the event breaks */
+    uint64_t event;             /* the first event that breaks a rule, from 1; 0 for none */
+} aoc_fault_answer;
+
+/* Proved. Of a call that starts with no event and goes through the list: whether the exchange kept the rules. A list with a
+ * refused event is not judged. At most quadratic in the list: linear while its amounts are in one currency. */
+aoc_fault_answer aoc_fault(const uint16_t *rows, size_t numbers, const uint8_t *octets, size_t length);
 
 #include "aoc_parts.h"
 

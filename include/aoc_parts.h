@@ -215,6 +215,7 @@ AOC_LAYOUT(sizeof(aoc_closing) == 372 && offsetof(aoc_closing, charge) == 4);
 AOC_LAYOUT(sizeof(aoc_marks) == 6 && offsetof(aoc_marks, conflict) == 3);
 AOC_LAYOUT(sizeof(aoc_pending) == 10 && offsetof(aoc_pending, s) == 4);
 AOC_LAYOUT(sizeof(aoc_why_answer) == 16 && offsetof(aoc_why_answer, event) == 8);
+AOC_LAYOUT(sizeof(aoc_fault_answer) == 16 && offsetof(aoc_fault_answer, rule) == 4 && offsetof(aoc_fault_answer, event) == 8);
 AOC_LAYOUT(sizeof(aoc_priced) == 32 && offsetof(aoc_priced, is_free) == 4 && offsetof(aoc_priced, currency) == 5);
 AOC_LAYOUT(offsetof(aoc_priced, thousandths) == 16 && offsetof(aoc_priced, quotient) == 24);
 AOC_LAYOUT(sizeof(aoc_board) == 95488 && offsetof(aoc_board, calls) == 256);

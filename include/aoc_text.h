@@ -44,6 +44,14 @@ static inline const char *aoc_reason_text(uint32_t reason)
     }
 }
 
+static inline const char *aoc_rule_text(uint32_t rule)
+{
+    switch (rule) {
+        AOC_RULES(AOC_ROW_WORDS)
+    default: return "no rule of this library";
+    }
+}
+
 static inline const char *aoc_billing_text(uint32_t billing)
 {
     switch (billing) {

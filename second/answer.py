@@ -16,6 +16,7 @@ Z <account> <event> <hex> an account of any 1,488 octets, and one event: its ten
 Y <rows> <hex>           why no price     <number> <reason> <event>
 B <reference> <event>;.. switchboard      of each operation: number,service of an event; number,service,figure of a collection;
                          number,figure of a reading, the figure being the account
+F <rows> <hex>           exchange         <number> <rule> <event>
 
 Events: S <id>,<id>,<id> Setup, C Connect, X Clear, L Released, P Suspend, U Resume, M<hex> Component. On a switchboard also
 K a collection, V a reading, O<number> an event of a kind that is none's.
@@ -30,6 +31,7 @@ import zlib
 
 import aoc
 import board
+import fault
 import price
 import why
 
@@ -132,10 +134,17 @@ def answer_held(rest):
         bytes(account.unavailable_marks + account.conflict_marks).hex(), struct.pack("<3B x 3H", *asked, *ids).hex()))
 
 
-def answer_why(rest):
+def event_list(rest):
     rows, octets = rest.split(" ")
-    numbers = [int(rows[i:i + 4], 16) for i in range(0, len(rows), 4)]
-    return "{} {} {}".format(*why.why(numbers, bytes.fromhex(octets)))
+    return [int(rows[i:i + 4], 16) for i in range(0, len(rows), 4)], bytes.fromhex(octets)
+
+
+def answer_why(rest):
+    return "{} {} {}".format(*why.why(*event_list(rest)))
+
+
+def answer_fault(rest):
+    return "{} {} {}".format(*fault.fault(*event_list(rest)))
 
 
 KINDS = {"C": 2, "X": 3, "L": 4, "P": 6, "U": 7}
@@ -167,7 +176,7 @@ def answer_board(rest):
 
 ANSWERS = {"R": answer_read, "W": answer_write, "E": answer_element, "J": answer_reply,
            "T": answer_thousandths, "N": answer_next, "A": answer_account, "D": answer_account, "Y": answer_why,
-           "P": answer_price, "Z": answer_held, "B": answer_board}
+           "F": answer_fault, "P": answer_price, "Z": answer_held, "B": answer_board}
 
 
 def answer(line):

@@ -1002,15 +1002,52 @@ def row_of(rng, event):
 
 
 def why_input(rng, length):
-    """An event list in slices, most often one that ends, at times one that does not add up."""
+    """An event list, most often one that ends."""
     text = account_input(rng, length)[2:]
     events = text.split(";") if text else []
     if rng.random() < 0.8:
         events += ["C"] * (rng.random() < 0.2) + ["X", "L"] + ["M" + spoil(rng).hex()] * rng.randrange(2)
+    return "Y " + in_slices(rng, events)
+
+
+def fault_input(rng, length):
+    """An event list that is seldom refused: amounts of D in few currencies and about one value, units, free marks, finals of E."""
+    if rng.random() < 0.1:
+        return "F" + why_input(rng, length)[1:]
+    kinds = rng.choice(("m", "m", "mmmu", "mmmmf", "mmufn", "muf"))
+
+    def some(most, kinds, total):
+        return ["M" + charged(rng, rng.choice(kinds), total).hex() for _ in range(rng.randint(0, most))]
+
+    parked = ["P"] + some(1, kinds, 0) + ["U"] if rng.random() < 0.1 else []
+    events = ["S " + rng.choice(("-,-,-", "-,-,-", "-,5,-"))] + (some(1, "f", 0) if "f" in kinds else []) + ["C"]
+    events += some(length, kinds, 0) + parked + some(length // 2, kinds, 0) + ["X"] + some(3, kinds + "e", 1) + ["L"] * rng.randrange(2)
+    return "F " + in_slices(rng, events, 0.002)
+
+
+def charged(rng, kind, total):
+    """A component of D (now and then of the other type than its phase asks for) or of E, as octets."""
+    operation, charge = 33, aoc.Charge()
+    total = total if rng.random() < 0.98 else 1 - total
+    if kind == "u":
+        operation = 34
+        charge = units(*[(rng.choice((None, 0, 0, 0, 1)), rng.randrange(3)) for _ in range(rng.randint(1, 3))])
+    elif kind in "fn":
+        charge.figure.kind, total = aoc.FREE if kind == "f" else aoc.NOTHING, 0
+    else:
+        currency = rng.choice((b"EUR", b"EUR", b"EUR ", b"DM", b"DM  ", b" EUR"))
+        charge = amount(currency, rng.choice((0, 500, 500, 501, rng.randrange(1000))), rng.choice((0, 1, 1, 2)))
+        operation, total = (35, 0) if kind == "e" else (33, total)
+    charge.figure.total = total
+    return aoc.write(aoc.Record(frame=1, id=rng.randint(1, 9), operation=operation, charge=charge), 254)[1]
+
+
+def in_slices(rng, events, strange=0.03):
+    """The rows and octets of events, at times with a kind of no event, at times such that they do not add up."""
     rows, octets = [], b""
     for event in events:
         row, part = row_of(rng, event)
-        if rng.random() < 0.03:
+        if rng.random() < strange:
             row[0] = rng.choice((0, 8, 9, 255, 256, 257, 261, 65535))
         rows += [*row, len(part)]
         octets += part
@@ -1022,7 +1059,7 @@ def why_input(rng, length):
     elif damage < 0.06 and rows:
         at = 6 * rng.randrange(len(rows) // 6) + 5
         rows[at] = rng.choice((rows[at] + 1, max(0, rows[at] - 1), 65535))
-    return "Y " + "".join(f"{n:04x}" for n in rows) + " " + octets.hex()
+    return "".join(f"{n:04x}" for n in rows) + " " + octets.hex()
 
 
 def call_after_call(rng):
@@ -1201,7 +1238,7 @@ def lines(seed, count):
     records, charges = record_sweep(rng), record_sweep(rng)
     turn = counting()
     for _ in range(count):
-        kind = rng.choices("RWENJTADZYPB", (38, 24, 4, 5, 8, 1, 22, 5, 14, 12, 3, 5))[0]
+        kind = rng.choices("RWENJTADZYFPB", (38, 24, 4, 5, 8, 1, 22, 5, 14, 12, 8, 3, 5))[0]
         if kind == "R":
             yield "R " + next(octets).hex()
         elif kind == "W":
@@ -1221,6 +1258,8 @@ def lines(seed, count):
             yield why_input(rng, rng.randint(0, 12))
         elif kind == "B":
             yield board_input(rng)
+        elif kind == "F":
+            yield fault_input(rng, rng.randint(0, 12))
         elif kind == "D":
             yield dropped_input(rng, rng.randint(4, 16))
         elif kind == "Z":

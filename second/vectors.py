@@ -9,6 +9,7 @@ import sys
 
 import answer
 import aoc
+import fault
 import inputs
 import board
 import price
@@ -365,10 +366,15 @@ def said(event):
     """The octets of a component that is named."""
     if event in OCTETS:
         return OCTETS[event]
-    word, value = event.split(" ")
-    charge = inputs.amount(b"EUR", int(value), 0)
+    word, *currency, value = event.split(" ")
+    currency = currency[0] if currency else "EUR"
+    if currency == "units":
+        charge = inputs.units(*((None if n == "na" else int(n), 0) for n in value.split(",")))
+    else:
+        charge = inputs.amount(currency.replace("_", " ").encode(), int(value), 0)
     charge.figure.total = int(word == "tot")
-    return aoc.write(aoc.Record(frame=1, id=1, operation=35 if word == "E" else 33, charge=charge), 254)[1]
+    operation = (35 if word == "E" else 33) + (currency == "units")
+    return aoc.write(aoc.Record(frame=1, id=1, operation=operation, charge=charge), 254)[1]
 
 
 def row_of(event):
@@ -381,10 +387,14 @@ def row_of(event):
     return [5, 0, 0, 0, 0, len(said(event))], said(event)
 
 
+def list_of(text):
+    rows = [row_of(event) for event in text.split("; ") if event]
+    return [n for row, _ in rows for n in row], b"".join(part for _, part in rows)
+
+
 def reasons():
     for text, wanted in REASONS:
-        rows = [row_of(event) for event in text.split("; ") if event]
-        given = [n for row, _ in rows for n in row], b"".join(part for _, part in rows)
+        given = list_of(text)
         check(text, why.why(*given), (0, *wanted))
         check("an octet more", why.why(given[0], given[1] + b"\0"), (48, 0, 0))
         check("a number more", why.why(given[0] + [0], given[1]), (48, 0, 0))
@@ -435,6 +445,43 @@ def boards():
                 answers.append(operated(table, reference, what))
         expected = " ".join(" ".join([word.partition("*")[0]] * int(word.partition("*")[2] or 1)) for word in wanted.split(" "))
         check(text, " ".join(answers), expected)
+
+
+# Whether the exchange kept the rules (document 02, request 11): the rule and the event, or 34 and the event. An amount of D has its
+# type, then its currency (_ a space) and number, or units (na: an entry not available); the number in thousandths.
+FAULTS = (
+    ("", (0, 0, 0)),
+    ("setup; connect; sub EUR 500; sub EUR_ 500; clear; tot EUR 700; tot EUR_ 700; E EUR 700; released", (0, 0, 0)),
+    ("setup; connect; tot EUR 500; bad; clear", (34, 0, 4)),
+    ("setup; connect; sub EUR 500; setup", (34, 0, 4)),
+    ("setup 1 1 -", (34, 0, 1)),
+    ("setup; sub EUR 0; connect", (0, 1, 2)),
+    ("setup; connect; sub EUR 500; suspend; sub EUR 600; resume; clear; released", (0, 1, 5)),
+    ("setup - 5 -; connect; sub EUR 500; tot EUR 500; yes 5", (0, 1, 4)),
+    ("setup; connect; clear; sub units na", (0, 1, 4)),
+    ("setup; D free; E EUR 5; D na; connect; clear; released", (0, 0, 0)),
+    ("setup; connect; sub EUR 5; sub DM 3; sub EUR_ 4", (0, 2, 5)),
+    ("setup; connect; sub EUR 5; sub DM 3; sub EUR 5; sub DM 4; clear; tot DM 3", (0, 2, 8)),
+    ("setup; connect; sub units 12; sub units 5; clear; tot units 1; released", (0, 0, 0)),
+    ("setup; connect; sub EUR 500; clear; tot EUR 600; tot EUR 400", (0, 4, 6)),
+    ("setup; connect; sub EUR 500; D free; sub EUR 300", (0, 2, 5)),
+    ("setup; D free; connect; sub EUR 0; sub units 0,na; sub units na; sub units 0,1", (0, 3, 7)),
+    ("setup - 5 -; connect; D free; sub EUR 500; clear; tot EUR 500; released", (0, 0, 0)),
+    ("setup; connect; clear; D free; tot EUR 500", (0, 3, 5)),
+    ("setup; connect; clear; D free; tot EUR 0", (0, 4, 5)),
+    ("setup; D free; connect; tot EUR 500", (0, 1, 4)),
+    ("setup; connect; clear; E EUR 500; E EUR_ 500; E free; released", (0, 4, 6)),
+    ("setup; connect; sub EUR 500; clear; tot EUR_ 499; released", (0, 2, 5)),
+    ("setup - 5 -; connect; sub EUR 500; yes 5; sub EUR 300; sub EUR 299", (0, 2, 6)),
+    ("setup; D free; connect; sub EUR 0; clear; D free; tot EUR 0; released", (0, 4, 7)),
+)
+
+
+def faults():
+    for text, wanted in FAULTS:
+        given = list_of(text)
+        check(text, fault.fault(*given), wanted)
+        check("an octet more", fault.fault(given[0], given[1] + b"\0"), (48, 0, 0))
 
 
 # A call parked and taken up again (document 02, request 5): events, outcomes with their service, and what stands at the end.
@@ -706,6 +753,7 @@ def main():
     padded()
     reasons()
     boards()
+    faults()
     parked()
     dropped()
     held()

@@ -298,13 +298,29 @@ static void answer_held(const char *rest)
         fputs(" changed by reading", stdout);
 }
 
-static void answer_why(const char *rest)
+static uint16_t rows[WIDEST / 4];
+
+/* An event list: how many numbers its rows have, and how many octets. */
+static size_t list_in(const char *rest, size_t *length)
 {
-    static uint16_t rows[WIDEST / 4];
     size_t n = unhex(rest, octets);
     for (size_t i = 0; i < n / 2; i++)
         rows[i] = (uint16_t)(octets[2 * i] << 8 | octets[2 * i + 1]);
-    aoc_why_answer why = aoc_why(rows, n / 2, octets, unhex(strchr(rest, ' ') + 1, octets));
+    *length = unhex(strchr(rest, ' ') + 1, octets);
+    return n / 2;
+}
+
+static void answer_fault(const char *rest)
+{
+    size_t length, numbers = list_in(rest, &length);
+    aoc_fault_answer fault = aoc_fault(rows, numbers, octets, length);
+    printf("%u %u %llu", (unsigned)fault.refusal, (unsigned)fault.rule, (unsigned long long)fault.event);
+}
+
+static void answer_why(const char *rest)
+{
+    size_t length, numbers = list_in(rest, &length);
+    aoc_why_answer why = aoc_why(rows, numbers, octets, length);
     printf("%u %u %llu", (unsigned)why.refusal, (unsigned)why.reason, (unsigned long long)why.event);
 }
 
@@ -413,6 +429,9 @@ int main(int count, char **arguments)
             break;
         case 'Y':
             answer_why(line + 2);
+            break;
+        case 'F':
+            answer_fault(line + 2);
             break;
         case 'P':
             answer_price(line + 2);

@@ -1,5 +1,5 @@
 /* Why a call has no price: lists of events with the reason and the event, and slices that are no event list. */
-#include "check.h"
+#include "events.h"
 #include "aoc_text.h"
 
 /* Components, by what they say. */
@@ -19,18 +19,6 @@
 #define NO_1 "A3 06 02 01 01 02 01 1A"
 #define BAD "A1 08 02 01 03 02 01 23 81 00"
 #define CUT ""
-
-enum { SETUP = 1, CONNECT = 2, CLEAR = 3, RELEASED = 4, COMPONENT = 5, SUSPEND = 6, RESUME = 7, MOST = 12 };
-
-struct event {
-    uint16_t row[5];
-    const char *hex;
-};
-
-/* A Setup's services are added up, 1 S, 2 D, 4 E. */
-#define ASKS(asked, s, d, e) {{SETUP, asked, s, d, e}, ""}
-#define PLAIN(kind) {{kind, 0, 0, 0, 0}, ""}
-#define SAYS(hex) {{COMPONENT, 0, 0, 0, 0}, hex}
 
 static const struct {
     const char *name;
@@ -59,28 +47,10 @@ static const struct {
     {"6.q", 2, 6, {ASKS(0, 0, 0, 0), PLAIN(CONNECT), PLAIN(SUSPEND), SAYS(SUB), PLAIN(CLEAR), SAYS(E_FREE), PLAIN(RELEASED)}},
 };
 
-static uint16_t rows[MOST][AOC_ROW_NUMBERS];
-static uint8_t octets[1024];
-static size_t events, length;
-
-/* The list in slices. A row of kind 0 is past its end. */
-static void lay(const struct event *list)
-{
-    events = length = 0;
-    for (; events < MOST && list->row[0]; events++, list++) {
-        size_t n = unhex(list->hex, octets + length);
-        memcpy(rows[events], list->row, sizeof list->row);
-        rows[events][5] = (uint16_t)n;
-        length += n;
-    }
-}
-
 static aoc_why_answer ask(size_t numbers, size_t n)
 {
     const void *lent = lend(octets, n);
-    uint8_t *to = edges[1] - sizeof rows[0][0] * numbers;
-    memcpy(to, rows, sizeof rows[0][0] * numbers);
-    return aoc_why((const uint16_t *)to, numbers, lent, n);
+    return aoc_why(lend_rows(numbers), numbers, lent, n);
 }
 
 static int is(aoc_why_answer a, uint32_t refusal, uint32_t reason, uint64_t event)
@@ -104,13 +74,7 @@ static void test_cases(void)
             CHECK(is(ask(6 * events + 6, length), 0, cases[i].reason, cases[i].event + (cases[i].event > at)), cases[i].name);
             memcpy(rows, kept, sizeof rows);
         }
-        /* more bits than three of the services, and what a kind does not use, are not looked at */
-        for (size_t at = 0; at < events; at++) {
-            if (rows[at][0] == SETUP)
-                rows[at][1] |= 0xFFF8;
-            else
-                rows[at][1] = rows[at][2] = rows[at][3] = rows[at][4] = 0xFFFF;
-        }
+        fill_unused();
         CHECK(is(ask(6 * events, length), 0, cases[i].reason, cases[i].event), cases[i].name);
     }
 }

@@ -19,6 +19,7 @@ ghost use Rattle.values.specs.Amounts.{powers};
 ghost use Rattle.values.specs.Identifiers.{nextOf, oneUp};
 ghost use Rattle.values.specs.Sets.{emptySet, isService, has, with};
 ghost use Rattle.why.specs.Reasons.{whyOf};
+ghost use Rattle.fault.specs.Rules.{faultAt};
 ghost use Rattle.phases.specs.Phases.{Given, event, Connect, Clear, Released, Component, Suspend, Resume};
 ghost use Rattle.account.specs.History.{judged, accountBy, currentRate, running, closing, marks, phase, requests, stepped, steppedBy, fresh, pendingOf};
 ghost use Rattle.outcomes.specs.Status.{requestsOf};
@@ -34,9 +35,9 @@ ghost use Rattle.slots.specs.Board.{boarded, eventOn, emptied, collectOn, viewO
 // What the header says as AOC_VERSION, of the archive that a host is linked with.
 #[no_mangle]
 pub extern "C" fn aoc_version() -> u32
-    ensures { λ r. ⌜ r ≡ 20100 ⌝ }
+    ensures { λ r. ⌜ r ≡ 20200 ⌝ }
 {
-    20100
+    20200
 }
 
 // The number in its name is the layout's. The header's inline functions mention it, so that an archive with another layout is not linked.
@@ -373,4 +374,13 @@ pub extern "C" fn aoc_board_view(t: &slots::Board, reference: u16) -> slots::Vie
     ensures { λ r. ⌜ r ≡ viewOn (now (t .entry)) reference ⌝ }
 {
     board::view_in(t, reference)
+}
+
+// ---- whether the exchange kept the rules
+
+#[no_mangle]
+pub extern "C" fn aoc_fault(rows: &[u16], octets: &[u8]) -> fault_rules::Verdict
+    ensures { λ r. ⌜ r ≡ faultAt (now (rows .entry)) (now (octets .entry)) ⌝ }
+{
+    fault::fault(rows, octets)
 }

@@ -5,6 +5,7 @@ ghost use Prim.Native.Nat.{ℕ, _<_, _/_, _%_};
 ghost use mathlib.Core.Path.{_≡_};
 ghost use lib.ListN.{length};
 ghost use Rattle.events.specs.Events.{kindOf, setOf, rowAt, countAt, addsUp, rowsFit};
+ghost use Rattle.events.specs.Earliest.{within, orElse};
 
 fn wide(n: u16) -> usize
     ensures { λ r. ⌜ r ≡ n ⌝ }
@@ -78,4 +79,25 @@ pub fn count_at(rows: &[u16], i: usize) -> usize
     ensures { λ r. ⌜ r ≡ countAt (now (rows .entry)) i ⌝ }
 {
     wide(rows[i * 6 + 5])
+}
+
+// ---- the earliest event of a sort
+
+pub fn within(low: u8, n: u8, high: u8) -> bool
+    ensures { λ r. ⌜ r ≡ within low n high ⌝ }
+{
+    if n < low {
+        return false;
+    }
+    n <= high
+}
+
+// The event that was found before, else this one if it passes.
+pub fn or_else(found: u64, passes: bool, number: u64) -> u64
+    ensures { λ r. ⌜ r ≡ orElse found passes number ⌝ }
+{
+    if found != 0 {
+        return found;
+    }
+    if passes { number } else { 0 }
 }

@@ -4,8 +4,8 @@ use Rattle.types.specs.{declared.Charge.Charge, Arguments.noCharge}
 use Rattle.phases.{specs.Phases.Ended, specs.Phases.D, specs.Phases.E, specs.Phases.Given, proofs.Choice.by-test, proofs.Choice.by-number, proofs.Choice.never}
 use Rattle.outcomes.{specs.Outcome.firstFinal, specs.Outcome.judge, specs.Outcome.chargeIn, specs.Outcome.its, proofs.Judging.only-final}
 use Rattle.account.specs.History.{Judged, any, known, judged, phase, hasFinal, final, closing}
-use Rattle.why.specs.{declared.Reason.Reason, Reasons.orElse, Reasons.earliest, Reasons.ifFound, Reasons.seenBy, Reasons.explained, Reasons.reasonOf}
-use Rattle.why.proofs.Theorems.{at-most}
+use Rattle.events.{specs.Earliest.orElse, specs.Earliest.earliest, proofs.Earliest.at-most}
+use Rattle.why.specs.{declared.Reason.Reason, Reasons.ifFound, Reasons.seenBy, Reasons.explained, Reasons.reasonOf}
 
 -- the charge of event n
 abbrev pub chargeAt : ℕ → List Judged → Charge

@@ -3,13 +3,9 @@ use Rattle.prelude.proofs.Prelude.{ℕ, _+_, _≤_, _<_, _≡_, refl, Bool, tru
 use Rattle.phases.{proofs.Choice.by-test, proofs.Choice.by-number, specs.Phases.Ended, specs.Phases.D, specs.Phases.E, specs.Phases.Given}
 use Rattle.outcomes.specs.Outcome.{was, its}
 use Rattle.account.specs.History.{Judged, judged, phase}
+use Rattle.events.proofs.Earliest.{Passes, found, none-found, first}
 use Rattle.why.specs.declared.Reason.{Reason}
-use Rattle.why.specs.Reasons.{passedOver, toldAbsent, unread, earliest, because, ifFound, explained, reasonOf}
-
--- event n of a history passes a test
-pub data Passes (t : Judged → Bool) : List Judged → ℕ → Type 0 where
-  latest : {j : Judged} {h : List Judged} {n : ℕ} → n ≡ length h + 1 → t j ≡ true → Passes t (j ∷ h) n
-  before : {j : Judged} {h : List Judged} {n : ℕ} → Passes t h n → Passes t (j ∷ h) n
+use Rattle.why.specs.Reasons.{passedOver, toldAbsent, unread, because, ifFound, explained, reasonOf}
 
 -- a reason holds with an event (0: with none)
 pub data Holds (h : List Judged) : ℕ → ℕ → Type 0 where
@@ -21,33 +17,6 @@ pub data Holds (h : List Judged) : ℕ → ℕ → Type 0 where
   onlyRunning : {n : ℕ} → Passes (λ j. was 21 (j .outcome)) h n → Holds h 5 n
   componentRefused : {n : ℕ} → Passes (λ j. unread (j .outcome)) h n → Holds h 6 n
   nothingUsable : Holds h 7 0
-
--- ---- the earliest event that passes
-
-module _ (t : Judged → Bool) where
-  found : (h : List Judged) → (earliest t h ≡ 0 → ⊥) → Passes t h (earliest t h)
-  found [] z = absurd (z refl)
-  found (j ∷ h) z =
-      by-number (earliest t h) 0
-      (λ e. by-test (t j) (λ q. rw (e, q) (latest refl q)) (λ q. absurd (z (rw (e, q) refl))))
-      (λ e. rw e (before (found h (eqb-false (earliest t h) 0 e))))
-
-  none-found : (h : List Judged) → ((n : ℕ) → Passes t h n → ⊥) → earliest t h ≡ 0
-  none-found h none = by-number (earliest t h) 0 (λ e. e) (λ e. absurd (none (earliest t h) (found h (eqb-false (earliest t h) 0 e))))
-
-  pub at-most : (h : List Judged) → earliest t h ≤ length h
-  at-most [] = omega arith
-  at-most (j ∷ h) =
-      by-number (earliest t h) 0
-      (λ e. by-test (t j) (λ q. rw (e, q) (omega arith)) (λ q. rw (e, q) (omega arith)))
-      (λ e. rw e (omega (arith, at-most h)))
-
-  first : {h : List Judged} {n : ℕ} → Passes t h n → (earliest t h ≡ 0 → ⊥) × (earliest t h ≤ n)
-  first (latest {j} {h} {n} e q) =
-      by-number (earliest t h) 0
-      (λ z. rw (z, q) ((λ y. omega arith), omega arith))
-      (λ z. rw z (eqb-false (earliest t h) 0 z, omega (arith, at-most h)))
-  first (before {j} {h} {n} p) = rw (ne-eqb (earliest t h) 0 (first p .0)) (first p)
 
 -- ---- the reason given holds with its event
 

@@ -1,9 +1,9 @@
 -- Why a call has no price: one reason, and the number of an event, from the call's event list.
-use Prim.Native.Nat.{ℕ, _+_}
-use mathlib.Core.List.{List, [], _∷_, reverse}
+use Prim.Native.Nat.{ℕ}
+use mathlib.Core.List.{List, reverse}
 use mathlib.Core.Bool.{Bool, _&&_, _||_, cond}
 use lib.ListN.{length}
-use lib.Dec.{eqb, leb}
+use lib.Dec.{eqb}
 use Rattle.types.specs.declared.Record.{Record}
 use Rattle.types.specs.Frames.{readOf}
 use Rattle.phases.specs.declared.Outcome.{Outcome}
@@ -11,13 +11,11 @@ use Rattle.phases.specs.Phases.{Ended, D, E, Given}
 use Rattle.outcomes.specs.Outcome.{was, its}
 use Rattle.account.specs.History.{Judged, judged, phase}
 use Rattle.events.specs.Events.{addsUp, eventsOf}
+use Rattle.events.specs.Earliest.{within, earliest}
 use Rattle.why.specs.declared.Reason.{Reason}
 use Rattle.why.specs.declared.Seen.{Seen}
 
 -- ---- which events count
-
-abbrev pub within : ℕ → ℕ → ℕ → Bool
-within low n high = leb low n && leb n high
 
 -- a figure of D or E: an invoke 33 to 36 with free (kind 1), money (2) or units (3)
 abbrev pub isFigure : Record → Bool
@@ -35,17 +33,6 @@ toldAbsent r = its D 23 r || its E 23 r
 abbrev pub unread : Outcome → Bool
 unread r = within 1 (r .number) 9 || within 40 (r .number) 45
 
--- ---- an event's number
-
--- the one that was found before, else this one if it passes
-abbrev pub orElse : ℕ → Bool → ℕ → ℕ
-orElse found passes number = cond (eqb found 0) (cond passes number 0) found
-
--- the number of the earliest event that passes a test, counted from 1, or 0 (a history has the latest event first)
-abbrev pub earliest : (Judged → Bool) → List Judged → ℕ
-earliest t [] = 0
-earliest t (j ∷ h) = orElse (earliest t h) (t j) (length h + 1)
-
 -- ---- the reason
 
 abbrev pub because : ℕ → ℕ → Reason
@@ -55,7 +42,7 @@ because n event = record { number = 0; reason = n; event = event }
 abbrev pub ifFound : ℕ → ℕ → Reason → Reason
 ifFound n event rest = cond (eqb event 0) rest (because n event)
 
--- the earliest event of each sort
+-- the number of the earliest event of each sort, or 0
 abbrev pub seenBy : List Judged → Seen
 seenBy h = record {
   efinal = earliest (λ j. its E 22 (j .outcome)) h;

@@ -7,10 +7,11 @@ use Rattle.phases.specs.Phases.{D, E, Given}
 use Rattle.outcomes.specs.Outcome.{was, its}
 use Rattle.account.specs.History.{Judged, accountBy, fresh}
 use Rattle.account.specs.Step.{steppedOf}
+use Rattle.events.specs.Earliest.{orElse}
 use Rattle.why.specs.declared.Reason.{Reason}
 use Rattle.why.specs.declared.Seen.{Seen}
 use Rattle.why.specs.declared.State.{State}
-use Rattle.why.specs.Reasons.{passedOver, toldAbsent, unread, orElse, seenBy, concluded}
+use Rattle.why.specs.Reasons.{passedOver, toldAbsent, unread, seenBy, concluded}
 
 abbrev pub noneSeen : Seen
 noneSeen = record { efinal = 0; dfinal = 0; figure = 0; absent = 0; running = 0; refused = 0 }

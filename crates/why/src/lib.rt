@@ -10,7 +10,7 @@ ghost use lib.ListN.{length};
 ghost use Rattle.types.specs.Frames.{readOf};
 ghost use Rattle.outcomes.specs.Outcome.{its};
 ghost use Rattle.events.specs.Events.{addsUp, eventsOf};
-ghost use Rattle.why.specs.Reasons.{within, isFigure, passedOver, toldAbsent, unread, orElse, because, ifFound, concluded, reasonOf, whyOf};
+ghost use Rattle.why.specs.Reasons.{isFigure, passedOver, toldAbsent, unread, because, ifFound, concluded, reasonOf, whyOf};
 ghost use Rattle.why.specs.Seeing.{seenNext, turnOf};
 
 // number: 48 for slices that are no event list, and then the rest is 0. reason: 1 to 7. event: its number, from 1; 0 for none.
@@ -40,15 +40,6 @@ struct State {
 
 // ---- which events count
 
-fn within(low: u8, n: u8, high: u8) -> bool
-    ensures { λ r. ⌜ r ≡ within low n high ⌝ }
-{
-    if n < low {
-        return false;
-    }
-    n <= high
-}
-
 fn is_figure(octets: &[u8]) -> bool
     ensures { λ r. ⌜ r ≡ isFigure (readOf (now (octets .entry)) .value) ⌝ }
 {
@@ -56,10 +47,10 @@ fn is_figure(octets: &[u8]) -> bool
     if a.value.front.frame != 1 {
         return false;
     }
-    if !within(33, a.value.front.operation, 36) {
+    if !events::within(33, a.value.front.operation, 36) {
         return false;
     }
-    within(1, a.value.charge.figure.kind, 3)
+    events::within(1, a.value.charge.figure.kind, 3)
 }
 
 fn passed_over(o: Outcome, octets: &[u8]) -> bool
@@ -95,32 +86,23 @@ fn told_absent(o: Outcome) -> bool
 fn is_unread(o: Outcome) -> bool
     ensures { λ r. ⌜ r ≡ unread o ⌝ }
 {
-    if within(1, o.number, 9) {
+    if events::within(1, o.number, 9) {
         return true;
     }
-    within(40, o.number, 45)
+    events::within(40, o.number, 45)
 }
 
 // ---- one event
 
-fn or_else(found: u64, passes: bool, number: u64) -> u64
-    ensures { λ r. ⌜ r ≡ orElse found passes number ⌝ }
-{
-    if found != 0 {
-        return found;
-    }
-    if passes { number } else { 0 }
-}
-
 fn seen_next(s: Seen, o: Outcome, octets: &[u8], n: u64) -> Seen
     ensures { λ r. ⌜ r ≡ seenNext s o (now (octets .entry)) n ⌝ }
 {
-    let efinal = or_else(s.efinal, is_its(o, 3, 22), n);
-    let dfinal = or_else(s.dfinal, is_its(o, 2, 22), n);
-    let figure = or_else(s.figure, passed_over(o, octets), n);
-    let absent = or_else(s.absent, told_absent(o), n);
-    let running = or_else(s.running, o.number == 21, n);
-    let refused = or_else(s.refused, is_unread(o), n);
+    let efinal = events::or_else(s.efinal, is_its(o, 3, 22), n);
+    let dfinal = events::or_else(s.dfinal, is_its(o, 2, 22), n);
+    let figure = events::or_else(s.figure, passed_over(o, octets), n);
+    let absent = events::or_else(s.absent, told_absent(o), n);
+    let running = events::or_else(s.running, o.number == 21, n);
+    let refused = events::or_else(s.refused, is_unread(o), n);
     Seen {
         efinal,
         dfinal,

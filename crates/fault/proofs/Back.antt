@@ -1,0 +1,100 @@
+-- Going back over the list finds what the rules over the list say, and so does the short way.
+use Rattle.prelude.proofs.Prelude.{ℕ, _+_, _-_, _≡_, refl, sym, _∙_, ap, ap₂, List, [], _∷_, Bool, true, false, _&&_, cond, eqb, ltb, arith, take, drop}
+use Rattle.phases.{specs.declared.Event.Event, specs.declared.Outcome.Outcome, specs.Phases.Given, proofs.Choice.by-test, proofs.Choice.never}
+use Rattle.types.specs.{declared.Currency.Currency, declared.Record.Record, Frames.readOf}
+use Rattle.same_final.specs.{Currency.equalCurrency, Same.thousandths}
+use Rattle.account.{specs.History.Judged, specs.History.any, specs.History.last, specs.History.judged, specs.declared.Stepped.Stepped, proofs.Demand.step-stands}
+use Rattle.events.{specs.Events.rowAt, specs.Events.countAt, specs.Prefix.placeAt, specs.Prefix.octetsAt, specs.Prefix.givenAt, specs.Prefix.before, proofs.Prefix.before-start, proofs.Prefix.before-next, proofs.Prefix.part-at}
+use Rattle.fault_rules.specs.{Figures.invokesD, Breaking.moneyBy}
+use Rattle.fault.specs.{declared.State.State, declared.Last.Last, Rules.chargeBy, Rules.isCountedMoney, Rules.belowLast}
+use Rattle.fault.specs.Going.{noLast, lastNext, lastBy, judging, turnOf, stateBy, latestNext, latestBy, shortBy}
+
+yes : {A : Type 0} (t : Bool) (x y : A) → t ≡ true → cond t x y ≡ x
+yes t x y q = rw q refl
+
+no : {A : Type 0} (t : Bool) (x y : A) → t ≡ false → cond t x y ≡ y
+no t x y q = rw q refl
+
+-- ---- the rule by what is found
+
+pub below-found : (c : Currency) (t : ℕ) (h : List Judged) → belowLast c t h ≡ (eqb (lastBy c h .found) 1 && ltb t (lastBy c h .amount))
+below-found c t [] = refl
+below-found c t (j ∷ h) =
+    by-test (isCountedMoney j && equalCurrency (chargeBy j .figure .money .currency) c) (λ q. rw q refl) (λ q. rw q (below-found c t h))
+
+-- ---- the short way
+
+latest-decides : (c : Currency) (h : List Judged) → any isCountedMoney h ≡ true → equalCurrency (last isCountedMoney h .figure .money .currency) c ≡ true
+    → lastBy c h ≡ record { found = 1; amount = thousandths (last isCountedMoney h .figure .money) }
+latest-decides c [] q e = never q
+latest-decides c (j ∷ h) q e =
+    by-test (isCountedMoney j)
+    (λ t. let d : equalCurrency (chargeBy j .figure .money .currency) c ≡ true = rw t at e in rw (t, d) refl)
+    (λ t. rw t (latest-decides c h (rw t at q) (rw t at e)))
+
+latest-none : (c : Currency) (h : List Judged) → any isCountedMoney h ≡ false → lastBy c h ≡ noLast
+latest-none c [] q = refl
+latest-none c (j ∷ h) q =
+    by-test (isCountedMoney j)
+    (λ t. let z : true ≡ false = rw t at q in never (sym z))
+    (λ t. rw t (latest-none c h (rw t at q)))
+
+pub short-way : (c : Currency) (h : List Judged) → shortBy (latestBy h) c h ≡ lastBy c h
+short-way c h =
+    by-test (any isCountedMoney h)
+    (λ t. by-test (equalCurrency (last isCountedMoney h .figure .money .currency) c)
+    (λ e. rw (t, e) (sym (latest-decides c h t e)))
+    (λ e. rw (t, e) refl))
+    (λ t. rw t (sym (latest-none c h t)))
+
+pub latest-stands : (j : Judged) (h : List Judged)
+    → latestNext (latestBy h) (invokesD (j .event .kind) (readOf (j .octets) .value .front)) (chargeBy j .figure .kind) (chargeBy j .figure .money) (j .outcome)
+    ≡ latestBy (j ∷ h)
+latest-stands j h = by-test (isCountedMoney j) (λ t. rw t refl) (λ t. rw t refl)
+
+-- ---- the loop: a state that stands for a history goes on to one that stands for the history with the event
+
+turn-stands : (c : Currency) (h : List Given) (g : Given) → turnOf (stateBy c (judged h)) c (g .event) (g .octets) ≡ stateBy c (judged (g ∷ h))
+unfolding turnOf
+turn-stands c h g =
+    ap (λ (w : Stepped). record { account = w .account; last = lastNext (lastBy c (judged h)) c (judging (g .event) (g .octets) (w .outcome)) }) (step-stands h g)
+
+module _ (rows octets : List ℕ) (c : Currency) where
+  pub back-begins : stateBy c [] ≡ stateBy c (judged (before rows octets 0))
+  back-begins = ap (λ (l : List Given). stateBy c (judged l)) (sym (before-start rows octets))
+
+  pub back-next : (i at n : ℕ) (e : Event) (t r : State) → at ≡ placeAt rows i → t ≡ stateBy c (judged (before rows octets i)) → n ≡ countAt rows i → e ≡ rowAt rows i
+      → r ≡ turnOf t c e (take (at + n - at) (drop at octets)) → r ≡ stateBy c (judged (before rows octets (i + 1)))
+  back-next i at n e t r p s q z w =
+      w
+      ∙ ap (λ (o : List ℕ). turnOf t c e o) (part-at rows octets i at n p q)
+      ∙ ap₂ (λ (x : State) (y : Event). turnOf x c y (octetsAt rows octets i)) s z
+      ∙ turn-stands c (before rows octets i) (givenAt rows octets i)
+      ∙ ap (λ (l : List Given). stateBy c (judged l)) (sym (before-next rows octets i))
+
+-- ---- what an event leaves as the last amount, way by way (the code has its record v, and d: whether it is D's)
+
+module _ (l : Last) (c : Currency) (e : Event) (o : List ℕ) (r : Outcome) (v : Record) (p : v ≡ readOf o .value) (d : Bool) (w : d ≡ invokesD (e .kind) (v .front)) where
+  abbrev j : Judged
+  j = judging e o r
+
+  counts : (t : Bool) → moneyBy d (v .charge .figure .kind) r ≡ t → isCountedMoney j ≡ t
+  counts t q =
+      ap (λ (x : Record). moneyBy (invokesD (e .kind) (x .front)) (x .charge .figure .kind) r) (sym p)
+      ∙ ap (λ (b : Bool). moneyBy b (v .charge .figure .kind) r) (sym w) ∙ q
+
+  equals : (t : Bool) → equalCurrency (v .charge .figure .money .currency) c ≡ t → equalCurrency (chargeBy j .figure .money .currency) c ≡ t
+  equals t q = ap (λ (x : Record). equalCurrency (x .charge .figure .money .currency) c) (sym p) ∙ q
+
+  pub last-other : moneyBy d (v .charge .figure .kind) r ≡ false → l ≡ lastNext l c j
+  last-other q = sym (no _ _ _ (ap (λ (t : Bool). t && equalCurrency (chargeBy j .figure .money .currency) c) (counts false q)))
+
+  module _ (q : moneyBy d (v .charge .figure .kind) r ≡ true) where
+    pub last-elsewhere : equalCurrency (v .charge .figure .money .currency) c ≡ false → l ≡ lastNext l c j
+    last-elsewhere n = sym (no _ _ _ (ap₂ (λ (t u : Bool). t && u) (counts true q) (equals false n)))
+
+    pub last-here : (n : ℕ) → n ≡ thousandths (v .charge .figure .money) → equalCurrency (v .charge .figure .money .currency) c ≡ true
+        → record { found = 1; amount = n } ≡ lastNext l c j
+    last-here n z y =
+        ap (λ (x : ℕ). record { found = 1; amount = x }) (z ∙ ap (λ (x : Record). thousandths (x .charge .figure .money)) p)
+        ∙ sym (yes _ _ _ (ap₂ (λ (t u : Bool). t && u) (counts true q) (equals true y)))

@@ -1,0 +1,4 @@
+pub mod Theorems
+pub mod Back
+pub mod Running
+pub mod Examples

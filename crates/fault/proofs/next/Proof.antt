@@ -1,0 +1,29 @@
+use Rattle.prelude.proofs.Prelude.{needs, refl}
+use Rattle.fault.specs.Running.{nextOf}
+use Rattle.fault.proofs.next.Statement.{statement}
+use Rattle.fault.proofs.next.Tie as tie
+
+returns : tie.Need-returns
+unfolding nextOf
+returns c =
+    let seen = c .before in
+    let ruled = seen .before in
+    let fell = ruled .before .before in
+    let asked = fell .before .before in
+    let found = asked .before .before .before in
+    let read = found .before in
+    let stepped = read .before .before .before in
+    rw (
+      c .latest-next .ensures,
+      seen .seen-next .ensures,
+      ruled .breaks-of .ensures,
+      fell .falls .ensures,
+      asked .invokes-d .ensures,
+      read .read .ensures,
+      stepped .step-whole .ensures .0,
+    )
+    refl
+
+pub next-spec : {M : Type 1} → statement M
+unfolding nextOf
+next-spec = tie.close (tie.spec (search needs) (search needs) (search needs) (λ c κs. search needs) (search needs) (search needs) (search needs) returns)

@@ -1,0 +1,247 @@
+// Whether the exchange kept the rules of charging, from a call's event list.
+//
+// The list is gone over once, with an account beside what was seen. Only an amount in another currency than the latest counted one has the list gone over up to it again.
+use account::Account;
+use fault_rules::Seen;
+use fault_rules::Verdict;
+use phases::Event;
+use phases::Outcome;
+use types::Charge;
+use types::Currency;
+use types::Money;
+ghost use Prim.Native.Nat.{_≤_, _/_};
+ghost use mathlib.Core.Path.{_≡_};
+ghost use mathlib.Core.Bool.{true};
+ghost use lib.ListN.{length};
+ghost use Rattle.account.specs.History.{judged};
+ghost use Rattle.events.specs.Events.{addsUp, eventsOf};
+ghost use Rattle.events.specs.Prefix.{before};
+ghost use Rattle.fault.specs.Rules.{faultOf, faultAt};
+ghost use Rattle.fault.specs.Going.{lastNext, lastBy, judging, turnOf, latestNext, shortBy};
+ghost use Rattle.fault.specs.Running.{fallsBy, nextOf};
+
+// The last counted amount of D in a currency, in thousandths; found: 0 for none.
+struct Last {
+    pub found: u64,
+    pub amount: u64,
+}
+
+struct State {
+    pub account: Account,
+    pub last: Last,
+}
+
+// The latest counted amount of D in any currency; found: 0 for none yet.
+struct Latest {
+    pub found: u64,
+    pub money: Money,
+}
+
+struct Progress {
+    pub account: Account,
+    pub seen: Seen,
+    pub latest: Latest,
+}
+
+// ---- the last counted amount before an event
+
+fn last_next(l: Last, c: Currency, e: Event, o: Outcome, octets: &[u8]) -> Last
+    ensures { λ r. ⌜ r ≡ lastNext l c (judging e (now (octets .entry)) o) ⌝ }
+{
+    let a = read::read(octets);
+    let front = a.value.front;
+    let money = a.value.charge.figure.money;
+    let currency = money.currency;
+    let d = fault_rules::invokes_d(e.kind, front);
+    if !fault_rules::counted_money(d, a.value.charge.figure.kind, o) {
+        return l;
+    }
+    if !same_final::same_currency(currency, c) {
+        return l;
+    }
+    Last {
+        found: 1,
+        amount: values::thousandths(money.number, money.multiplier),
+    }
+}
+
+fn turn(t: State, c: Currency, e: Event, octets: &[u8]) -> State
+    ensures { λ r. ⌜ r ≡ turnOf t c e (now (octets .entry)) ⌝ }
+{
+    let before = t.account;
+    let w = step::step_whole(before, e, octets);
+    let outcome = w.outcome;
+    let account = w.account;
+    let l = t.last;
+    let last = last_next(l, c, e, outcome, octets);
+    State { account, last }
+}
+
+// Going back: the first k events once more, with an account of their own.
+fn last_in(rows: &[u16], octets: &[u8], k: usize, c: Currency) -> Last
+    requires { ⌜ (addsUp (now rows) (length (now octets)) ≡ true) × (k ≤ length (now rows) / 6) ⌝ }
+    ensures { λ r. ⌜ r ≡ lastBy c (judged (before (now (rows .entry)) (now (octets .entry)) k)) ⌝ }
+{
+    let account = account::fresh();
+    let last = Last {
+        found: 0,
+        amount: 0,
+    };
+    let mut state = State { account, last };
+    let mut at: usize = 0;
+    let mut i: usize = 0;
+    while i < k {
+        let end = at + events::count_at(rows, i);
+        let e = events::row_at(rows, i);
+        let next = turn(state, c, e, &octets[at..end]);
+        state = next;
+        at = end;
+        i += 1;
+    }
+    state.last
+}
+
+// The latest of all where its currency is equal; going back where it is not.
+fn last_of(rows: &[u16], octets: &[u8], k: usize, l: Latest, c: Currency) -> Last
+    requires { ⌜ (addsUp (now rows) (length (now octets)) ≡ true) × (k ≤ length (now rows) / 6) ⌝ }
+    ensures { λ r. ⌜ r ≡ shortBy l c (judged (before (now (rows .entry)) (now (octets .entry)) k)) ⌝ }
+{
+    if l.found != 1 {
+        return Last {
+            found: 0,
+            amount: 0,
+        };
+    }
+    let money = l.money;
+    let currency = money.currency;
+    if same_final::same_currency(currency, c) {
+        return Last {
+            found: 1,
+            amount: values::thousandths(money.number, money.multiplier),
+        };
+    }
+    last_in(rows, octets, k, c)
+}
+
+// ---- one event
+
+// Whether the event after the first k is counted D money below the last one before it in an equal currency.
+fn falls(rows: &[u16], octets: &[u8], k: usize, l: Latest, d: bool, c: Charge, o: Outcome) -> bool
+    requires { ⌜ (addsUp (now rows) (length (now octets)) ≡ true) × (k ≤ length (now rows) / 6) ⌝ }
+    ensures { λ r. ⌜ r ≡ fallsBy d c o (shortBy l (c .figure .money .currency) (judged (before (now (rows .entry)) (now (octets .entry)) k))) ⌝ }
+{
+    if !fault_rules::counted_money(d, c.figure.kind, o) {
+        return false;
+    }
+    let money = c.figure.money;
+    let currency = money.currency;
+    let found = last_of(rows, octets, k, l, currency);
+    if found.found != 1 {
+        return false;
+    }
+    values::thousandths(money.number, money.multiplier) < found.amount
+}
+
+fn latest_next(l: Latest, d: bool, kind: u8, m: Money, o: Outcome) -> Latest
+    ensures { λ r. ⌜ r ≡ latestNext l d kind m o ⌝ }
+{
+    if fault_rules::counted_money(d, kind, o) {
+        return Latest { found: 1, money: m };
+    }
+    l
+}
+
+// The event after the first k, with its number n and its part of the octets.
+fn next(
+    t: Progress,
+    rows: &[u16],
+    octets: &[u8],
+    k: usize,
+    n: u64,
+    e: Event,
+    part: &[u8],
+) -> Progress
+    requires { ⌜ (addsUp (now rows) (length (now octets)) ≡ true) × (k ≤ length (now rows) / 6) ⌝ }
+    ensures { λ r. ⌜ r ≡ nextOf t (judged (before (now (rows .entry)) (now (octets .entry)) k)) e (now (part .entry)) n ⌝ }
+{
+    let before = t.account;
+    let phase = before.status.phase;
+    let w = step::step_whole(before, e, part);
+    let outcome = w.outcome;
+    let account = w.account;
+    let a = read::read(part);
+    let front = a.value.front;
+    let charge = a.value.charge;
+    let kind = charge.figure.kind;
+    let money = charge.figure.money;
+    let d = fault_rules::invokes_d(e.kind, front);
+    let l = t.latest;
+    let below = falls(rows, octets, k, l, d, charge, outcome);
+    let s = t.seen;
+    let rule = fault_rules::breaks_of(d, phase, charge, outcome, s.free, below);
+    let seen = fault_rules::seen_next(s, d, kind, outcome, rule, n);
+    let latest = latest_next(l, d, kind, money, outcome);
+    Progress {
+        account,
+        seen,
+        latest,
+    }
+}
+
+// ---- the list
+
+fn judged_all(rows: &[u16], octets: &[u8]) -> Verdict
+    requires { ⌜ addsUp (now rows) (length (now octets)) ≡ true ⌝ }
+    ensures { λ r. ⌜ r ≡ faultOf (eventsOf (now (rows .entry)) (now (octets .entry))) ⌝ }
+{
+    let n = rows.len() / 6;
+    let account = account::fresh();
+    let seen = Seen {
+        free: 0,
+        refused: 0,
+        event: 0,
+        rule: 0,
+    };
+    let currency = Currency {
+        count: 0,
+        octets: [0; 10],
+    };
+    let money = Money {
+        currency,
+        number: 0,
+        multiplier: 0,
+    };
+    let latest = Latest { found: 0, money };
+    let mut state = Progress {
+        account,
+        seen,
+        latest,
+    };
+    let mut at: usize = 0;
+    let mut i: usize = 0;
+    while i < n {
+        let end = at + events::count_at(rows, i);
+        let e = events::row_at(rows, i);
+        let k = i;
+        i += 1;
+        let after = next(state, rows, octets, k, i as u64, e, &octets[at..end]);
+        state = after;
+        at = end;
+    }
+    let last = state.seen;
+    fault_rules::concluded(last)
+}
+
+// Whether the exchange kept the rules, from an event list in slices.
+pub fn fault(rows: &[u16], octets: &[u8]) -> Verdict
+    ensures { λ r. ⌜ r ≡ faultAt (now (rows .entry)) (now (octets .entry)) ⌝ }
+{
+    if !events::adds_up(rows, octets.len()) {
+        return Verdict {
+            number: 48,
+            rule: 0,
+            event: 0,
+        };
+    }
+    judged_all(rows, octets)
+}

@@ -1,0 +1,243 @@
+// Whether an event breaks a rule that the exchange has to keep, by value, and what is kept of the events seen.
+use phases::Outcome;
+use types::Charge;
+use types::Entries;
+use types::Front;
+ghost use Prim.Native.Nat.{_≤_};
+ghost use mathlib.Core.Path.{_≡_};
+ghost use lib.Dec.{eqb};
+ghost use Rattle.outcomes.specs.Outcome.{isRefusal};
+ghost use Rattle.same_final.specs.Same.{upTo};
+ghost use Rattle.fault_rules.specs.Figures.{invokesD, amountKind, isCounted, nothingBy, zeroUnits, isZero};
+ghost use Rattle.fault_rules.specs.Breaking.{placedBy, misplacedBy, moneyBy, chargesBy, breaksBy, freeNext, seenNext, concluded};
+
+// number: 0; 34 for a list with a refused event; 48 for slices that are no event list. rule: 1 to 4, or 0 for none broken. event: its number, from 1; 0 for none.
+#[repr(C)]
+pub struct Verdict {
+    pub number: u32,
+    pub rule: u32,
+    pub event: u64,
+}
+
+// free: 1 after a counted free mark of D. refused: the first refused event, or 0. event, rule: the first event that breaks a rule, and the rule, or 0.
+pub struct Seen {
+    pub free: u64,
+    pub refused: u64,
+    pub event: u64,
+    pub rule: u32,
+}
+
+// ---- what an event is
+
+fn is_counted(o: Outcome) -> bool
+    ensures { λ r. ⌜ r ≡ isCounted o ⌝ }
+{
+    if o.number == 21 {
+        return true;
+    }
+    o.number == 22
+}
+
+fn is_refused(n: u8) -> bool
+    ensures { λ r. ⌜ r ≡ isRefusal n ⌝ }
+{
+    if events::within(1, n, 8) {
+        return true;
+    }
+    if events::within(40, n, 45) {
+        return true;
+    }
+    events::within(13, n, 14)
+}
+
+// Whether an event of a kind, with a component's front, is an invoke of D.
+pub fn invokes_d(kind: u8, f: Front) -> bool
+    ensures { λ r. ⌜ r ≡ invokesD kind f ⌝ }
+{
+    if kind != 5 {
+        return false;
+    }
+    if f.frame != 1 {
+        return false;
+    }
+    events::within(33, f.operation, 34)
+}
+
+fn is_amount(kind: u8) -> bool
+    ensures { λ r. ⌜ r ≡ amountKind kind ⌝ }
+{
+    if kind == 2 {
+        return true;
+    }
+    kind == 3
+}
+
+fn places(count: u8) -> usize
+    ensures { λ r. ⌜ (r ≡ upTo 32 count) × (r ≤ 32) ⌝ }
+{
+    let n = count as usize;
+    if n <= 32 { n } else { 32 }
+}
+
+// Whether an entry has no number but zero.
+fn is_nothing(known: u8, number: u32) -> bool
+    ensures { λ r. ⌜ r ≡ nothingBy known number ⌝ }
+{
+    if known != 1 {
+        return true;
+    }
+    number == 0
+}
+
+// Whether every number of a list of units is zero.
+fn zero_units(e: Entries, count: u8) -> bool
+    ensures { λ r. ⌜ r ≡ zeroUnits e count ⌝ }
+{
+    let n = places(count);
+    let mut i: usize = 0;
+    while i < n {
+        let at = 2 * i;
+        if !is_nothing(e.octets[at], e.numbers[i]) {
+            return false;
+        }
+        i += 1;
+    }
+    true
+}
+
+fn is_zero(c: Charge) -> bool
+    ensures { λ r. ⌜ r ≡ isZero c ⌝ }
+{
+    if c.figure.kind == 2 {
+        return c.figure.money.number == 0;
+    }
+    let e = c.entries;
+    zero_units(e, c.figure.count)
+}
+
+// ---- the rules
+
+fn is_placed(phase: u8, total: u8) -> bool
+    ensures { λ r. ⌜ r ≡ placedBy phase total ⌝ }
+{
+    if total == 0 {
+        return phase == 2;
+    }
+    if total == 1 {
+        return phase == 3;
+    }
+    false
+}
+
+fn misplaced(d: bool, phase: u8, kind: u8, total: u8) -> bool
+    ensures { λ r. ⌜ r ≡ misplacedBy d phase kind total ⌝ }
+{
+    if !d {
+        return false;
+    }
+    if !is_amount(kind) {
+        return false;
+    }
+    !is_placed(phase, total)
+}
+
+// Whether an event is D's money and was counted.
+pub fn counted_money(d: bool, kind: u8, o: Outcome) -> bool
+    ensures { λ r. ⌜ r ≡ moneyBy d kind o ⌝ }
+{
+    if !d {
+        return false;
+    }
+    if kind != 2 {
+        return false;
+    }
+    is_counted(o)
+}
+
+fn charges(d: bool, c: Charge, free: u64) -> bool
+    ensures { λ r. ⌜ r ≡ chargesBy d c (eqb free 1) ⌝ }
+{
+    if !d {
+        return false;
+    }
+    if !is_amount(c.figure.kind) {
+        return false;
+    }
+    if is_zero(c) {
+        return false;
+    }
+    free == 1
+}
+
+// The first rule that an event breaks, or 0. falls: whether it breaks the second.
+pub fn breaks_of(d: bool, phase: u8, c: Charge, o: Outcome, free: u64, falls: bool) -> u32
+    ensures { λ r. ⌜ r ≡ breaksBy d phase c o (eqb free 1) falls ⌝ }
+{
+    if misplaced(d, phase, c.figure.kind, c.figure.total) {
+        return 1;
+    }
+    if falls {
+        return 2;
+    }
+    if charges(d, c, free) {
+        return 3;
+    }
+    if o.number == 29 {
+        return 4;
+    }
+    0
+}
+
+// ---- what is kept
+
+fn free_next(free: u64, d: bool, kind: u8, o: Outcome) -> u64
+    ensures { λ r. ⌜ r ≡ freeNext free d kind o ⌝ }
+{
+    if !d {
+        return free;
+    }
+    if kind != 1 {
+        return free;
+    }
+    if is_counted(o) { 1 } else { free }
+}
+
+// Event n breaks a rule, or none (0).
+pub fn seen_next(s: Seen, d: bool, kind: u8, o: Outcome, rule: u32, n: u64) -> Seen
+    ensures { λ r. ⌜ r ≡ seenNext s d kind o rule n ⌝ }
+{
+    let free = free_next(s.free, d, kind, o);
+    let refused = events::or_else(s.refused, is_refused(o.number), n);
+    if s.rule != 0 {
+        return Seen {
+            free,
+            refused,
+            event: s.event,
+            rule: s.rule,
+        };
+    }
+    let event = events::or_else(0, rule != 0, n);
+    Seen {
+        free,
+        refused,
+        event,
+        rule,
+    }
+}
+
+pub fn concluded(s: Seen) -> Verdict
+    ensures { λ r. ⌜ r ≡ concluded s ⌝ }
+{
+    if s.refused != 0 {
+        return Verdict {
+            number: 34,
+            rule: 0,
+            event: s.refused,
+        };
+    }
+    Verdict {
+        number: 0,
+        rule: s.rule,
+        event: s.event,
+    }
+}
