@@ -19,8 +19,8 @@
 #include <stdint.h>
 #include <string.h>
 
-#define AOC_VERSION 20200       /* 2.2.0: ten thousand times the first number, a hundred times the second, the third */
-#define AOC_VERSION_TEXT "2.2.0"
+#define AOC_VERSION 20300       /* 2.3.0: ten thousand times the first number, a hundred times the second, the third */
+#define AOC_VERSION_TEXT "2.3.0"
 
 #ifdef __cplusplus
 extern "C" {
@@ -59,6 +59,8 @@ extern "C" {
     ROW(AOC_REFUSED_NOT_HELD, 37, "a call reference that is not held")                                 \
     ROW(AOC_REFUSED_UNIT_LIST, 38, "a closing figure in units")                                        \
     ROW(AOC_REFUSED_NO_CLOSING, 39, "no closing figure")                                               \
+    ROW(AOC_REFUSED_MONTH_FULL, 46, "a month that has all its 4096 figures")                           \
+    ROW(AOC_REFUSED_CURRENCIES_FULL, 47, "a seventeenth currency in a month")                          \
     ROW(AOC_REFUSED_LENGTHS, 48, "lengths that do not add up")                                         \
     AOC_ARGUMENT_REFUSALS(ROW)
 
@@ -280,7 +282,12 @@ enum {
     AOC_LIMIT_CURRENCY_OCTETS = 10,
     AOC_LIMIT_DIGITS = 20,
     AOC_LIMIT_CHARGE_TEXT = 1200,       /* room for the whole text of any charge: see aoc_print_charge */
-    AOC_LIMIT_NUMBER = 16777215         /* of an amount, units, a time */
+    AOC_LIMIT_NUMBER = 16777215,        /* of an amount, units, a time */
+    AOC_LIMIT_MONTH_FIGURES = 4096,
+    AOC_LIMIT_MONTH_CURRENCIES = 16,
+    AOC_MONTH_TYPES = 17,               /* of units: 1 to 16, and 0 for none */
+    AOC_MONTH_BILLINGS = 9,             /* aoc_billing, and AOC_MONTH_NOT_BILLED for none */
+    AOC_MONTH_NOT_BILLED = 8
 };
 
 /* ------------------------------------------------------------------ structs */
@@ -665,6 +672,49 @@ typedef struct {
 /* Proved. Of a call that starts with no event and goes through the list: whether the exchange kept the rules. A list with a
  * refused event is not judged. At most quadratic in the list: linear while its amounts are in one currency. */
 aoc_fault_answer aoc_fault(const uint16_t *rows, size_t numbers, const uint8_t *octets, size_t length);
+
+/* ------------------------------------------------------------------ a month's figures */
+
+/* A currency of a month, as first received; two that differ in trailing spaces alone are one. */
+typedef struct {
+    aoc_currency currency;
+    uint8_t unused;             /* 0 */
+    uint32_t calls;
+    uint64_t sum;               /* in thousandths, exact */
+} aoc_month_currency;
+
+/* The totals of the closing figures that were added. Begin with aoc_month_empty. */
+typedef struct {
+    uint32_t added;             /* how many figures, at most AOC_LIMIT_MONTH_FIGURES */
+    uint32_t count;             /* of currencies, at most AOC_LIMIT_MONTH_CURRENCIES; the rows past it are zero */
+    uint32_t absent;            /* entries of units that were not available: in no sum */
+    uint32_t free_calls;
+    uint64_t units[AOC_MONTH_TYPES];    /* the sum of numbers for each type, 0 for none */
+    aoc_month_currency rows[AOC_LIMIT_MONTH_CURRENCIES];    /* in order of first appearance */
+    uint32_t table[2][AOC_MONTH_BILLINGS];      /* how many figures: D's, then E's, by billing */
+} aoc_month;
+
+typedef struct {
+    uint64_t refusal;           /* AOC_ACCEPTED, or a refusal: then the month is as it was */
+    aoc_month month;
+} aoc_month_added;
+
+/* Proved. A month without figures. */
+aoc_month aoc_month_empty(void);
+
+/* Proved. One closing figure more. AOC_REFUSED_BAD_RECORD where it is none or out of range, as for aoc_price, then
+ * AOC_REFUSED_MONTH_FULL, then AOC_REFUSED_CURRENCIES_FULL for money in a seventeenth currency: such a figure is not added. */
+aoc_month_added aoc_month_add(aoc_month month, aoc_closing closing);
+
+/* Inline. The same on a month where it lies; the refusal. */
+static inline aoc_refusal aoc_month_post(aoc_month *month, const aoc_closing *closing);
+
+/* Inline. What a month holds, whatever that is: how many rows there are to be read; the row at an index, zeros past them; the
+ * sum of a type of units; the figures of a service and a billing. 0 for a type, service or billing that has no place. */
+static inline size_t aoc_month_rows(const aoc_month *month);
+static inline aoc_month_currency aoc_month_row(const aoc_month *month, size_t index);
+static inline uint64_t aoc_month_units(const aoc_month *month, size_t type);
+static inline uint32_t aoc_month_place(const aoc_month *month, uint32_t service, uint32_t billing);
 
 #include "aoc_parts.h"
 

@@ -177,6 +177,40 @@ static inline void aoc_board_clear(aoc_board *board)
     memset(board, 0, sizeof *board);
 }
 
+/* ------------------------------------------------------------------ a month's figures */
+
+static inline aoc_refusal aoc_month_post(aoc_month *month, const aoc_closing *closing)
+{
+    aoc_month_added added = aoc_month_add(*month, *closing);
+    *month = added.month;
+    return AOC_TO(aoc_refusal, added.refusal);
+}
+
+static inline size_t aoc_month_rows(const aoc_month *month)
+{
+    size_t most = AOC_LIMIT_MONTH_CURRENCIES;
+    return month->count < most ? month->count : most;
+}
+
+static inline aoc_month_currency aoc_month_row(const aoc_month *month, size_t index)
+{
+    aoc_month_currency none;
+    memset(&none, 0, sizeof none);
+    return index < aoc_month_rows(month) ? month->rows[index] : none;
+}
+
+static inline uint64_t aoc_month_units(const aoc_month *month, size_t type)
+{
+    return type < AOC_MONTH_TYPES ? month->units[type] : 0;
+}
+
+static inline uint32_t aoc_month_place(const aoc_month *month, uint32_t service, uint32_t billing)
+{
+    if ((service != AOC_SERVICE_D && service != AOC_SERVICE_E) || AOC_MONTH_BILLINGS <= billing)
+        return 0;
+    return month->table[service - AOC_SERVICE_D][billing];
+}
+
 /* ------------------------------------------------------------------ the layout that the library has */
 
 #ifdef __cplusplus
@@ -221,6 +255,12 @@ AOC_LAYOUT(offsetof(aoc_priced, thousandths) == 16 && offsetof(aoc_priced, quoti
 AOC_LAYOUT(sizeof(aoc_board) == 95488 && offsetof(aoc_board, calls) == 256);
 AOC_LAYOUT(sizeof(aoc_collected) == 376 && offsetof(aoc_collected, closing) == 4);
 AOC_LAYOUT(sizeof(aoc_viewed) == 1492 && offsetof(aoc_viewed, account) == 4);
+AOC_LAYOUT(sizeof(aoc_month_currency) == 24 && offsetof(aoc_month_currency, unused) == 11);
+AOC_LAYOUT(offsetof(aoc_month_currency, calls) == 12 && offsetof(aoc_month_currency, sum) == 16);
+AOC_LAYOUT(sizeof(aoc_month) == 608 && offsetof(aoc_month, count) == 4 && offsetof(aoc_month, absent) == 8);
+AOC_LAYOUT(offsetof(aoc_month, free_calls) == 12 && offsetof(aoc_month, units) == 16);
+AOC_LAYOUT(offsetof(aoc_month, rows) == 152 && offsetof(aoc_month, table) == 536);
+AOC_LAYOUT(sizeof(aoc_month_added) == 616 && offsetof(aoc_month_added, month) == 8);
 #undef AOC_LAYOUT
 
 /* Numbers lie low octet first, in what reading stores and in the outline's words. */

@@ -7,6 +7,7 @@ N <place> <hex>          one of its places <number> <offset> <the place after> <
 J <room> <hex>           reject in reply  <number> <count> <hex>
 T <number> <multiplier>  thousandths      <thousandths>
 P <service> <charge>     price            <number> <free> <count> <currency> <bits of the thousandths> <bits of the quotient>
+M <month> <figure>;...   a month, - for the empty one, and figures <times>,<service>,<charge>: <numbers, a run as number*times> <month>
 A <event>;<event>;...    account          outcome,service,phase,rate,running,closing,its service,marks,pending,identifiers;...
 D <event>;~<event>;...   the same of a list from which the events with ~ are left out: here the whole list is judged, and the answers
                          of the events that remain are given; the library is given those events alone
@@ -32,6 +33,7 @@ import zlib
 import aoc
 import board
 import fault
+import month
 import price
 import why
 
@@ -76,6 +78,13 @@ def answer_thousandths(rest):
 def answer_price(rest):
     service, packed = rest.split(" ")
     return price.answer(int(service), aoc.unpack(bytes(8) + bytes.fromhex(packed)).charge)
+
+
+def answer_month(rest):
+    octets, _, figures = rest.partition(" ")
+    return month.answer(bytes(608) if octets == "-" else bytes.fromhex(octets),
+                        [(int(times), int(service), aoc.unpack_charge(bytes.fromhex(packed)))
+                         for times, service, packed in (f.split(",") for f in figures.split(";") if f)])
 
 
 def do(account, event):
@@ -176,7 +185,7 @@ def answer_board(rest):
 
 ANSWERS = {"R": answer_read, "W": answer_write, "E": answer_element, "J": answer_reply,
            "T": answer_thousandths, "N": answer_next, "A": answer_account, "D": answer_account, "Y": answer_why,
-           "F": answer_fault, "P": answer_price, "Z": answer_held, "B": answer_board}
+           "F": answer_fault, "P": answer_price, "M": answer_month, "Z": answer_held, "B": answer_board}
 
 
 def answer(line):

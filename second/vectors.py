@@ -5,6 +5,7 @@ python3 vectors.py [COUNT]: COUNT generated components for the self-checks.
 
 import random
 import re
+import struct
 import sys
 
 import answer
@@ -12,6 +13,7 @@ import aoc
 import fault
 import inputs
 import board
+import month
 import price
 import why
 from aoc import D, E, S
@@ -702,6 +704,50 @@ def prices():
         check(f"price {case}", price.answer(*given), wanted)
 
 
+def months():
+    """The readings' cases: figures, and the numbers, then what of the month is not zero."""
+    D, E = price.D, price.E
+    identified = aoc.Association(kind=aoc.BY_IDENTIFIER, id=3)
+    free = lambda service, **fields: closing(inputs.no_charge(), service, **fields)
+    counted = lambda service, *entries, **fields: closing(inputs.units(*entries), service, **fields)
+    letters = [bytes((c,)) for c in b"ABCDEFGHIJKLMNOP"]
+
+    def holds(added, rows=(), units={}, absent=0, free=0, table={}):
+        laid = [value for text, calls, total in rows for value in (len(text), text, 0, calls, total)]
+        laid += [0, b"", 0, 0, 0] * (16 - len(rows))
+        return struct.pack("<4I17Q" + "B10sBIQ" * 16 + "18I", added, len(rows), absent, free,
+                           *(units.get(k, 0) for k in range(17)), *laid, *(table.get((s, b), 0) for s in (D, E) for b in range(9))).hex()
+
+    large = dict(multiplier=6, billed=1, billing=0)
+    for case, given, numbers, wanted in (
+            ("a", (), "", holds(0)),
+            ("b", (euros(500, D), euros(50, E, b"EUR ", 1), euros(1, D, b"EUR  ", 6)), "0*3",
+             holds(3, [(b"EUR", 3, 1001000)], table={(D, 8): 2, (E, 8): 1})),
+            ("c", (euros(5, E, b"EUR "), euros(7, D), euros(1, D, b"DM")), "0*3",
+             holds(3, [(b"EUR ", 2, 12), (b"DM", 1, 1)], table={(D, 8): 2, (E, 8): 1})),
+            ("d", (euros(5, D, b" "), euros(6, D, b"   "), euros(1, D), euros(2, D, b" EUR")), "0*4",
+             holds(4, [(b" ", 2, 11), (b"EUR", 1, 1), (b" EUR", 1, 2)], table={(D, 8): 4})),
+            ("e", (counted(E, (12, 0), (None, 0), (5, 3), (None, 3), (7, 3), billed=1, billing=7),), "0*1",
+             holds(1, units={0: 12, 3: 12}, absent=2, table={(E, 7): 1})),
+            ("f", (counted(D, (None, 0)), counted(D, (0, 16))), "0*2", holds(2, absent=1, table={(D, 8): 2})),
+            ("g", (free(D), free(E), free(E, association=identified)), "0*3", holds(3, free=3, table={(D, 8): 1, (E, 8): 2})),
+            ("h", (euros(500, D, billed=1, billing=2), euros(500, D, billed=1, billing=3), euros(500, E, billed=1, billing=3)),
+             "0*1,10*1,0*1", holds(2, [(b"EUR", 2, 1000)], table={(D, 2): 1, (E, 3): 1})),
+            ("i", (euros(16777215, D, multiplier=6), euros(16777216, D), euros(1, D, multiplier=7), euros(1, D, b"EUR\0")),
+             "0*1,10*2,0*1", holds(2, [(b"EUR", 1, 16777215000000), (b"EUR\0", 1, 1)], table={(D, 8): 2})),
+            ("j", ((0, aoc.Charge()), (1, euros(5, D)[1]), euros(5, D, kind=0), euros(5, D, kind=4), euros(5, D, total=2), euros(5, D, total=0)),
+             "10*5,0*1", holds(1, [(b"EUR", 1, 5)], table={(D, 8): 1})),
+            ("k", (euros(5, D, association=aoc.Association(kind=1)), euros(5, E, total=1), euros(5, E, billing=1), free(D, billed=1),
+                   euros(5, E, count=1), euros(5, D, arrangement=1)), "10*6", holds(0)),
+            ("l", (*(euros(1, D, text) for text in letters), euros(1, D, b"Q"), euros(1, D, b"A "), free(D), counted(E, (3, 0))),
+             "0*16,47*1,0*3", holds(19, [(text, 1 + (text == b"A"), 1 + (text == b"A")) for text in letters], {0: 3}, 0, 1, {(D, 8): 18, (E, 8): 1})),
+            ("m", (*[euros(1, D)] * 4097, euros(16777216, D), *(euros(1, D, text) for text in letters)),
+             "0*4096,46*1,10*1,46*16", holds(4096, [(b"EUR", 4096, 4096)], table={(D, 8): 4096})),
+            ("n", [euros(16777215, E, **large)] * 4096, "0*4096", holds(4096, [(b"EUR", 4096, 68719472640000000)], table={(E, 0): 4096})),
+            ("o", [counted(E, *[(16777215, 1)] * 32)] * 4096, "0*4096", holds(4096, units={1: 2199023124480}, table={(E, 8): 4096}))):
+        check(f"month {case}", month.answer(bytes(608), [(1, *figure) for figure in given]), f"{numbers} {wanted}")
+
+
 def line_program():
     given = (C3_LOOSE.hex(" ").upper() + "\nA1 80 02 01 05 02 01 1E 0A 01 01 00 00\n"
              + C7.hex(" ").lower() + "\n")
@@ -760,6 +806,7 @@ def main():
     nonsense()
     passes()
     prices()
+    months()
     line_program()
     generated(count)
     print(f"{passed} passed, {failed} failed")

@@ -143,6 +143,50 @@ static void answer_price(const char *rest)
     printf(" %016llx %016llx", (unsigned long long)doubles[0], (unsigned long long)doubles[1]);
 }
 
+static void answer_month(const char *rest)
+{
+    aoc_month month = aoc_month_empty();
+    unsigned long runs = 0, number = 0;
+    char *at;
+    if (rest[0] != '-') {
+        static uint8_t held[sizeof month];
+        char *end = strchr((char *)rest, ' ');
+        *end = 0;
+        if (unhex(rest, held) != sizeof month) {
+            fputs("not a month", stdout);
+            return;
+        }
+        memcpy(&month, held, sizeof month);
+        at = end + 1;
+    } else {
+        at = (char *)rest + 2;
+    }
+    for (char *figure = strtok(at, ";"); figure; figure = strtok(NULL, ";")) {
+        char *next;
+        unsigned long times = strtoul(figure, &next, 10);
+        aoc_closing c;
+        c.service = (uint32_t)strtoul(next + 1, &next, 10);
+        if (unhex(next + 1, octets) != sizeof c.charge) {
+            fputs("not a charge", stdout);
+            return;
+        }
+        memcpy(&c.charge, octets, sizeof c.charge);
+        for (; times; times--) {
+            unsigned long refusal = aoc_month_post(&month, &c);
+            if (runs && refusal != number) {
+                printf("%lu*%lu,", number, runs);
+                runs = 0;
+            }
+            number = refusal;
+            runs++;
+        }
+    }
+    if (runs)
+        printf("%lu*%lu", number, runs);
+    putchar(' ');
+    put_hex(&month, sizeof month);
+}
+
 static uint32_t crc(const void *from, size_t n)
 {
     static uint32_t table[256];
@@ -438,6 +482,9 @@ int main(int count, char **arguments)
             break;
         case 'B':
             answer_board(line + 2);
+            break;
+        case 'M':
+            answer_month(line + 2);
             break;
         default:
             fputs("not a line", stdout);

@@ -29,15 +29,16 @@ ghost use Rattle.aoc.specs.Events.{plainEvent, setupEvent, Took};
 ghost use Rattle.aoc.specs.Reading.{ReadsOff};
 ghost use Rattle.price.specs.Price.{priceOf};
 ghost use Rattle.slots.specs.Board.{boarded, eventOn, emptied, collectOn, viewOn};
+ghost use Rattle.month.specs.Month.{emptyMonth, addOf};
 
 // ---- the version
 
 // What the header says as AOC_VERSION, of the archive that a host is linked with.
 #[no_mangle]
 pub extern "C" fn aoc_version() -> u32
-    ensures { λ r. ⌜ r ≡ 20200 ⌝ }
+    ensures { λ r. ⌜ r ≡ 20300 ⌝ }
 {
-    20200
+    20300
 }
 
 // The number in its name is the layout's. The header's inline functions mention it, so that an archive with another layout is not linked.
@@ -383,4 +384,21 @@ pub extern "C" fn aoc_fault(rows: &[u16], octets: &[u8]) -> fault_rules::Verdict
     ensures { λ r. ⌜ r ≡ faultAt (now (rows .entry)) (now (octets .entry)) ⌝ }
 {
     fault::fault(rows, octets)
+}
+
+// ---- a month's figures
+
+#[no_mangle]
+pub extern "C" fn aoc_month_empty() -> month::Month
+    ensures { λ r. ⌜ r ≡ emptyMonth ⌝ }
+{
+    month::empty_month()
+}
+
+#[no_mangle]
+pub extern "C" fn aoc_month_add(m: month::Month, c: account::Closing) -> month::Added
+    ensures { λ r. ⌜ r ≡ addOf m (c .service) (c .value) ⌝ }
+{
+    let charge = c.value;
+    month::add(m, c.service, charge)
 }
