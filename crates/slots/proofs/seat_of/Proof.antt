@@ -20,4 +20,4 @@ seat-of-spec =
     rw (eq-eqb _ 1 (e .if1 .left), ← f .slot-at .ensures, eq-eqb _ 64 (z .before .if3 .left), ← z .slot-of .ensures, eq-eqb _ 64 (c .if4 .taken)) refl)
     (search needs)
     (λ c. let y = c .before in let z = y .before in let e = z .before .before in let f = e .before .before in
-    rw (eq-eqb _ 1 (e .if1 .left), ← f .slot-at .ensures, eq-eqb _ 64 (z .before .if3 .left), ← z .slot-of .ensures, ne-eqb _ 64 (y .if4 .left), c .begin .ensures) refl))
+    rw (eq-eqb _ 1 (e .if1 .left), ← f .slot-at .ensures, eq-eqb _ 64 (z .before .if3 .left), ← z .slot-of .ensures, ne-eqb _ 64 (y .if4 .left), ← c .begin .ensures) refl))
