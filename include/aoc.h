@@ -19,8 +19,8 @@
 #include <stdint.h>
 #include <string.h>
 
-#define AOC_VERSION 20300       /* 2.3.0: ten thousand times the first number, a hundred times the second, the third */
-#define AOC_VERSION_TEXT "2.3.0"
+#define AOC_VERSION 20400       /* 2.4.0: ten thousand times the first number, a hundred times the second, the third */
+#define AOC_VERSION_TEXT "2.4.0"
 
 #ifdef __cplusplus
 extern "C" {
@@ -62,6 +62,7 @@ extern "C" {
     ROW(AOC_REFUSED_MONTH_FULL, 46, "a month that has all its 4096 figures")                           \
     ROW(AOC_REFUSED_CURRENCIES_FULL, 47, "a seventeenth currency in a month")                          \
     ROW(AOC_REFUSED_LENGTHS, 48, "lengths that do not add up")                                         \
+    ROW(AOC_REFUSED_FRAMING, 49, "a message that is not framed")                                       \
     AOC_ARGUMENT_REFUSALS(ROW)
 
 /* Those of an argument or result: reading gives them with the offset of an octet. */
@@ -594,6 +595,73 @@ typedef struct {
 /* Proved. Of a call that starts with no event and goes through the list: the first reason, in the order above, that holds, and
  * its earliest event; of AOC_REASON_PRICED the event that gave the closing figure. `numbers` is six times the rows. */
 aoc_why_answer aoc_why(const uint16_t *rows, size_t numbers, const uint8_t *octets, size_t length);
+
+/* ------------------------------------------------------------------ whole messages from the line */
+
+/* A trace of one call is the octets of its layer 3 messages end to end, and for each message a pair of numbers: how many of
+ * the octets it has, and its direction. */
+enum { AOC_PAIR_NUMBERS = 2, AOC_FROM_USER = 0, AOC_FROM_NETWORK = 1 };
+
+typedef struct {
+    uint64_t refusal;           /* AOC_ACCEPTED, AOC_REFUSED_LENGTHS, AOC_REFUSED_FRAMING or AOC_REFUSED_NO_ROOM */
+    uint64_t message;           /* with AOC_REFUSED_FRAMING the first message that is not framed, from 1; else 0 */
+    uint64_t events;            /* how many rows, */
+    uint64_t octets;            /* and how many octets the event list has; 0 where the trace is refused */
+} aoc_trace_answer;
+
+/* Proved. The events of a trace, laid as an event list: the rows in front of `rows`, the octets in front of `out`, and what
+ * was behind them is left. AOC_REFUSED_LENGTHS where the lengths do not add up to the octets, or a pair is not whole; then
+ * AOC_REFUSED_FRAMING; then AOC_REFUSED_NO_ROOM where the list needs more than `row_room` numbers or `out_room` octets. Both
+ * are then as they were. Six numbers and one octet for each octet of the trace are always enough. Any direction but
+ * AOC_FROM_USER is the network. Messages with another reference than the first one's give no event. */
+aoc_trace_answer aoc_trace_events(const uint32_t *pairs, size_t numbers, const uint8_t *octets, size_t length, uint16_t *rows,
+                                  size_t row_room, uint8_t *out, size_t out_room);
+
+/* ------------------------------------------------------------------ the plain engine */
+
+/* What each of these answers about an event list is found by going over the list again; no account is kept. `refusal` is
+ * AOC_REFUSED_LENGTHS for slices that are no event list, and then the rest is zero. */
+typedef struct {
+    uint16_t refusal;
+    aoc_outcome outcome;
+} aoc_plain_outcome_answer;
+
+typedef struct {
+    uint16_t refusal;
+    uint16_t phase;             /* aoc_phase */
+} aoc_plain_phase_answer;
+
+typedef struct {
+    uint16_t refusal;
+    aoc_pending pending;
+} aoc_plain_pending_answer;
+
+typedef struct {
+    uint16_t refusal;
+    aoc_marks marks;
+} aoc_plain_marks_answer;
+
+typedef struct {
+    uint32_t refusal;
+    aoc_charge charge;          /* kind AOC_CHARGE_NONE where there is none */
+} aoc_plain_charge_answer;
+
+typedef struct {
+    uint32_t refusal;
+    aoc_closing closing;
+} aoc_plain_closing_answer;
+
+/* Proved. Each is what an account answers that starts fresh and takes the events of the list in turn: the outcome of event
+ * `event`, from 1 (zero for a number that is no event's); and after the last one the phase, the pending requests, the rate,
+ * the running and the closing figure, and the marks. `numbers` is six times the rows. The time taken grows with the square of
+ * the events, that of an outcome with the events before it. */
+aoc_plain_outcome_answer aoc_plain_outcome(const uint16_t *rows, size_t numbers, const uint8_t *octets, size_t length, size_t event);
+aoc_plain_phase_answer aoc_plain_phase(const uint16_t *rows, size_t numbers, const uint8_t *octets, size_t length);
+aoc_plain_pending_answer aoc_plain_pending(const uint16_t *rows, size_t numbers, const uint8_t *octets, size_t length);
+aoc_plain_charge_answer aoc_plain_rate(const uint16_t *rows, size_t numbers, const uint8_t *octets, size_t length);
+aoc_plain_charge_answer aoc_plain_running(const uint16_t *rows, size_t numbers, const uint8_t *octets, size_t length);
+aoc_plain_closing_answer aoc_plain_closing(const uint16_t *rows, size_t numbers, const uint8_t *octets, size_t length);
+aoc_plain_marks_answer aoc_plain_marks(const uint16_t *rows, size_t numbers, const uint8_t *octets, size_t length);
 
 /* ------------------------------------------------------------------ prices as doubles */
 

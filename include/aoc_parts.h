@@ -261,6 +261,14 @@ AOC_LAYOUT(sizeof(aoc_month) == 608 && offsetof(aoc_month, count) == 4 && offset
 AOC_LAYOUT(offsetof(aoc_month, free_calls) == 12 && offsetof(aoc_month, units) == 16);
 AOC_LAYOUT(offsetof(aoc_month, rows) == 152 && offsetof(aoc_month, table) == 536);
 AOC_LAYOUT(sizeof(aoc_month_added) == 616 && offsetof(aoc_month_added, month) == 8);
+AOC_LAYOUT(sizeof(aoc_trace_answer) == 32 && offsetof(aoc_trace_answer, message) == 8);
+AOC_LAYOUT(offsetof(aoc_trace_answer, events) == 16 && offsetof(aoc_trace_answer, octets) == 24);
+AOC_LAYOUT(sizeof(aoc_plain_outcome_answer) == 4 && offsetof(aoc_plain_outcome_answer, outcome) == 2);
+AOC_LAYOUT(sizeof(aoc_plain_phase_answer) == 4 && offsetof(aoc_plain_phase_answer, phase) == 2);
+AOC_LAYOUT(sizeof(aoc_plain_pending_answer) == 12 && offsetof(aoc_plain_pending_answer, pending) == 2);
+AOC_LAYOUT(sizeof(aoc_plain_marks_answer) == 8 && offsetof(aoc_plain_marks_answer, marks) == 2);
+AOC_LAYOUT(sizeof(aoc_plain_charge_answer) == 372 && offsetof(aoc_plain_charge_answer, charge) == 4);
+AOC_LAYOUT(sizeof(aoc_plain_closing_answer) == 376 && offsetof(aoc_plain_closing_answer, closing) == 4);
 #undef AOC_LAYOUT
 
 /* Numbers lie low octet first, in what reading stores and in the outline's words. */

@@ -18,11 +18,13 @@ Y <rows> <hex>           why no price     <number> <reason> <event>
 B <reference> <event>;.. switchboard      of each operation: number,service of an event; number,service,figure of a collection;
                          number,figure of a reading, the figure being the account
 F <rows> <hex>           exchange         <number> <rule> <event>
+G <rows> <hex>           plain engine     <number> outcome,service;...;phase,rate,running,closing,its service,marks,pending,identifiers
+X <room> <room> <pairs> <hex> a trace     <number> <message> <rows> <hex>, then the plain engine's answers on them as G has them
 
 Events: S <id>,<id>,<id> Setup, C Connect, X Clear, L Released, P Suspend, U Resume, M<hex> Component. On a switchboard also
 K a collection, V a reading, O<number> an event of a kind that is none's.
 
-A row's six numbers are four hex digits each. Hex is small and without spaces. An empty last field leaves the space before it.
+A row's six numbers are four hex digits each, a pair's two are eight. Hex is small and without spaces. An empty last field leaves the space before it.
 A figure is - where all of it is zero, else a checksum of its octets; after `python3 answer.py octets` it is the octets themselves.
 """
 
@@ -34,7 +36,9 @@ import aoc
 import board
 import fault
 import month
+import plain
 import price
+import trace
 import why
 
 NO_RECORD = "00" * 376
@@ -183,9 +187,35 @@ def answer_board(rest):
     return ";".join(operate(table, operation) for operation in rest.split(";"))
 
 
+def engine(events):
+    """The plain engine's answers about a list of events."""
+    found = plain.Plain(events)
+    service, closing = found.closing()
+    marks = sum(1 << s for s in range(3) if found.absent()[s]) | sum(4 << s for s in range(3) if found.conflict()[s])
+    pending = found.pending()
+    outcomes = [f"{number},{of}" for number, of in map(found.outcome, range(found.n))]
+    end = (f"{found.phase(found.n)},{figure(found.rate())},{figure(found.running())},{figure(closing)},{service},{marks},"
+           f"{sum(1 << s for s, i in enumerate(pending) if i is not None)},{','.join(str(i or 0) for i in pending)}")
+    return ";".join((*outcomes, end))
+
+
+def answer_plain(rest):
+    rows, octets = rest.split(" ")
+    events = why.split([int(rows[i:i + 4], 16) for i in range(0, len(rows), 4)], bytes.fromhex(octets))
+    return "48" if events is None else f"0 {engine(events)}"
+
+
+def answer_trace(rest):
+    row_room, out_room, pairs, octets = rest.split(" ")
+    numbers = [int(pairs[i:i + 8], 16) for i in range(0, len(pairs), 8)]
+    number, message, rows, out = trace.lay(numbers, bytes.fromhex(octets), int(row_room), int(out_room))
+    return f"{number} {message} {''.join(f'{n:04x}' for n in rows)} {out.hex()} {engine(why.split(rows, out))}"
+
+
 ANSWERS = {"R": answer_read, "W": answer_write, "E": answer_element, "J": answer_reply,
            "T": answer_thousandths, "N": answer_next, "A": answer_account, "D": answer_account, "Y": answer_why,
-           "F": answer_fault, "P": answer_price, "M": answer_month, "Z": answer_held, "B": answer_board}
+           "F": answer_fault, "P": answer_price, "M": answer_month, "Z": answer_held, "B": answer_board,
+           "G": answer_plain, "X": answer_trace}
 
 
 def answer(line):

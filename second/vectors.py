@@ -3,6 +3,7 @@
 python3 vectors.py [COUNT]: COUNT generated components for the self-checks.
 """
 
+import os
 import random
 import re
 import struct
@@ -14,7 +15,9 @@ import fault
 import inputs
 import board
 import month
+import plain
 import price
+import trace
 import why
 from aoc import D, E, S
 
@@ -748,6 +751,79 @@ def months():
         check(f"month {case}", month.answer(bytes(608), [(1, *figure) for figure in given]), f"{numbers} {wanted}")
 
 
+def trace_of(text):
+    """A trace as the cases of request 10 write it: pairs and octets."""
+    found = re.match(r"lengths (.*); octets (.*)", text)
+    if found:
+        lengths = [] if found[1] == "none" else found[1].split()
+        return [n for word in lengths for n in (int(word[:-1]), int(word[-1] == "n"))], octets("" if found[2] == "none" else found[2])
+    pairs, all_octets = [], b""
+    for line in text.splitlines():
+        message = octets(line[2:])
+        pairs += [len(message), {"u": 0, "n": 1}.get(line[0]) if line[0] in "un" else int(line[0])]
+        all_octets += message
+    return pairs, all_octets
+
+
+def figure_in_words(charge):
+    figure = charge.figure
+    if figure.kind == aoc.AMOUNT:
+        return str(aoc.thousandths(figure.money.number, figure.money.multiplier))
+    if figure.kind == aoc.UNITS:
+        return f"{charge.list.numbers[0]} units"
+    return "free" if figure.kind == aoc.FREE else f"special {figure.arrangement}"
+
+
+def told(events):
+    """The events, their outcomes and the end of a call, in the words of the cases, a component without its place."""
+    engine, letters = plain.Plain(events), "-SDE"
+    kinds = {2: "connect", 3: "clear", 4: "released"}
+    listed = [f"setup {' '.join('-' if i is None else str(i) for i in ids)}" if kind == 1 else
+              f"component {len(part)}" if kind == 5 else kinds[kind] for kind, ids, part in events]
+    outcomes = [f"{number}{letters[s] if s else ''}" for number, s in map(engine.outcome, range(engine.n))]
+    phase = engine.phase(engine.n)
+    end = ["phase " + ("Idle", "Establishment", "Active", "Clearing", "Ended", "Suspended")[phase]]
+    end += [f"pending {s} {i}" for s, i in zip("SDE", engine.pending()) if i is not None]
+    end += [f"rate {figure_in_words(engine.rate())}"] if engine.rate() else []
+    service, charge = engine.closing()
+    if phase == aoc.ENDED:
+        end.append(f"closing {letters[service]} {figure_in_words(charge)}" if service else "closing none")
+    end += [f"running D {figure_in_words(engine.running())}"] if engine.running() else []
+    end += [f"conflict {s}" for s, mark in zip("SDE", engine.conflict()) if mark]
+    return " / ".join(("; ".join(listed) or "none", " ".join(outcomes) or "none", ", ".join(end)))
+
+
+def messages():
+    """Request 10: the cases stand in tests/messages.c; and the engine's answers are the account's on generated traces and lists."""
+    with open(os.path.join(os.path.dirname(os.path.abspath(__file__)), "../tests/messages.c"), encoding="utf-8") as file:
+        table = file.read().split("} cases[] = {")[1].split("\n};")[0]
+    cases = re.findall(r"\{((?:[^{}]|\n)*?)\},\n", table + "\n")
+    check("cases", len(cases), 70)
+    for case in cases:
+        name, given, wanted = ("".join(re.findall(r'"([^"]*)"', part)).replace("\\n", "\n") for part in case.split(",\n     "))
+        number, message, events = trace.read(*trace_of(given))
+        got = told(events) if number == 0 else f"{number} {message}" if message else str(number)
+        check(name, got, re.sub(r"component \d+ (\d+)", r"component \1", wanted))
+    rng = random.Random(10)
+    for i in range(1500):
+        line = inputs.trace_input(rng, rng.randint(0, 14)) if i % 2 else inputs.why_input(rng, rng.randint(0, 14))
+        if i % 2:
+            _, _, pairs, given = line[2:].split(" ")
+            events = trace.read([int(pairs[k:k + 8], 16) for k in range(0, len(pairs), 8)], octets(given))[2]
+        else:
+            rows, given = line[2:].split(" ")
+            events = why.split([int(rows[k:k + 4], 16) for k in range(0, len(rows), 4)], octets(given)) or []
+        call, engine = aoc.Account(), plain.Plain(events)
+        for k, event in enumerate(events):
+            check("an outcome", engine.outcome(k), (call.event(*event), call.service))
+        nothing = aoc.Charge()
+        check("the end", (engine.phase(engine.n), engine.rate() or nothing, engine.running() or nothing, engine.closing()),
+              (call.phase, call.rate, call.running, (call.closing_service, call.closing)))
+        check("marks and requests", ([s for s, i in enumerate(engine.pending()) if i is not None],
+                                     [s for s in (S, D, E) if engine.absent()[s]], [s for s in (S, D, E) if engine.conflict()[s]]),
+              (sorted(call.pending), sorted(call.unavailable), sorted(call.conflict)))
+
+
 def line_program():
     given = (C3_LOOSE.hex(" ").upper() + "\nA1 80 02 01 05 02 01 1E 0A 01 01 00 00\n"
              + C7.hex(" ").lower() + "\n")
@@ -807,6 +883,7 @@ def main():
     passes()
     prices()
     months()
+    messages()
     line_program()
     generated(count)
     print(f"{passed} passed, {failed} failed")

@@ -435,6 +435,65 @@ static void answer_board(const char *rest)
         fputs(" touched", stdout);
 }
 
+/* The plain engine's answers about an event list. */
+static void put_engine(const uint16_t *rows, size_t numbers, const uint8_t *from, size_t n)
+{
+    for (size_t k = 1; k <= numbers / 6; k++) {
+        aoc_plain_outcome_answer o = aoc_plain_outcome(rows, numbers, from, n, k);
+        printf("%u,%u;", o.outcome.number, o.outcome.service);
+    }
+    aoc_plain_charge_answer rate = aoc_plain_rate(rows, numbers, from, n), running = aoc_plain_running(rows, numbers, from, n);
+    aoc_plain_closing_answer closing = aoc_plain_closing(rows, numbers, from, n);
+    aoc_marks marks = aoc_plain_marks(rows, numbers, from, n).marks;
+    aoc_pending pending = aoc_plain_pending(rows, numbers, from, n).pending;
+    printf("%u", aoc_plain_phase(rows, numbers, from, n).phase);
+    put_figure(&rate.charge);
+    put_figure(&running.charge);
+    put_figure(&closing.closing.charge);
+    printf(",%u,%u,%u", closing.closing.service, bits(marks.absent) | bits(marks.conflict) << 2, bits(pending.asked));
+    printf(",%u,%u,%u", pending.s, pending.d, pending.e);
+}
+
+static void answer_plain(const char *rest)
+{
+    static uint16_t rows[WIDEST / 4];
+    size_t n = unhex(rest, octets);
+    for (size_t i = 0; i < n / 2; i++)
+        rows[i] = (uint16_t)(octets[2 * i] << 8 | octets[2 * i + 1]);
+    size_t length = unhex(strchr(rest, ' ') + 1, octets);
+    uint32_t refusal = aoc_plain_phase(rows, n / 2, octets, length).refusal;
+    printf("%u", (unsigned)refusal);
+    if (!refusal) {
+        putchar(' ');
+        put_engine(rows, n / 2, octets, length);
+    }
+}
+
+static void answer_trace(const char *rest)
+{
+    static uint32_t pairs[WIDEST / 8];
+    static uint16_t rows[WIDEST];
+    char *next;
+    size_t row_room = strtoul(rest, &next, 10), out_room = strtoul(next + 1, &next, 10), n = unhex(next + 1, octets);
+    for (size_t i = 0; i < n / 4; i++)
+        pairs[i] = (uint32_t)octets[4 * i] << 24 | (uint32_t)octets[4 * i + 1] << 16 | (uint32_t)octets[4 * i + 2] << 8 | octets[4 * i + 3];
+    size_t length = unhex(next + 2 + 2 * n, octets);
+    memset(rows, MARK, 2 * row_room + GUARD);
+    memset(buffer, MARK, out_room + GUARD);
+    aoc_trace_answer a = aoc_trace_events(pairs, n / 4, octets, length, rows, row_room, buffer, out_room);
+    size_t numbers = 6 * (size_t)a.events, count = (size_t)a.octets;
+    printf("%u %u ", (unsigned)a.refusal, (unsigned)a.message);
+    for (size_t i = 0; i < numbers; i++)
+        printf("%04x", rows[i]);
+    putchar(' ');
+    put_hex(buffer, count);
+    putchar(' ');
+    put_engine(rows, numbers, buffer, count);
+    if (numbers > row_room || count > out_room || !all(rows + numbers, 2 * (row_room - numbers) + GUARD, MARK) ||
+        !all(buffer + count, out_room - count + GUARD, MARK))
+        fputs(" touched", stdout);
+}
+
 int main(int count, char **arguments)
 {
     whole_figures = count > 1 && !strcmp(arguments[1], "octets");
@@ -485,6 +544,12 @@ int main(int count, char **arguments)
             break;
         case 'M':
             answer_month(line + 2);
+            break;
+        case 'G':
+            answer_plain(line + 2);
+            break;
+        case 'X':
+            answer_trace(line + 2);
             break;
         default:
             fputs("not a line", stdout);

@@ -6,6 +6,7 @@ extern "C" {
 #endif
 void exit(int) __attribute__((noreturn));
 void *calloc(size_t, size_t);
+int atoi(const char *);
 void *realloc(void *, size_t);
 void free(void *);
 unsigned long strtoul(const char *, char **, int);

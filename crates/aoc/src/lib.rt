@@ -30,15 +30,17 @@ ghost use Rattle.aoc.specs.Reading.{ReadsOff};
 ghost use Rattle.price.specs.Price.{priceOf};
 ghost use Rattle.slots.specs.Board.{boarded, eventOn, emptied, collectOn, viewOn};
 ghost use Rattle.month.specs.Month.{emptyMonth, addOf};
+ghost use Rattle.trace.specs.Into.{laidOf, rowsLeft, octetsLeft};
+ghost use Rattle.plain.specs.Answers.{plainOutcome, plainPhase, plainPending, plainCurrentRate, plainRunning, plainClosing, plainMarks};
 
 // ---- the version
 
 // What the header says as AOC_VERSION, of the archive that a host is linked with.
 #[no_mangle]
 pub extern "C" fn aoc_version() -> u32
-    ensures { λ r. ⌜ r ≡ 20300 ⌝ }
+    ensures { λ r. ⌜ r ≡ 20400 ⌝ }
 {
-    20300
+    20400
 }
 
 // The number in its name is the layout's. The header's inline functions mention it, so that an archive with another layout is not linked.
@@ -401,4 +403,69 @@ pub extern "C" fn aoc_month_add(m: month::Month, c: account::Closing) -> month::
 {
     let charge = c.value;
     month::add(m, c.service, charge)
+}
+
+// ---- whole messages, and the plain engine
+
+#[no_mangle]
+pub extern "C" fn aoc_trace_events(
+    pairs: &[u32],
+    octets: &[u8],
+    rows: &mut [u16],
+    out: &mut [u8],
+) -> trace::Laid
+    ensures { λ r. ⌜ r ≡ laidOf (now (pairs .entry)) (now (octets .entry)) (length (now (rows .entry))) (length (now (out .entry))) ⌝ }
+    ensures rows { λ r. ⌜ now (rows .exit) ≡ rowsLeft (now (pairs .entry)) (now (octets .entry)) (now (rows .entry)) (now (out .entry)) ⌝ }
+    ensures out { λ r. ⌜ now (out .exit) ≡ octetsLeft (now (pairs .entry)) (now (octets .entry)) (now (rows .entry)) (now (out .entry)) ⌝ }
+{
+    trace::events_into(pairs, octets, rows, out)
+}
+
+#[no_mangle]
+pub extern "C" fn aoc_plain_outcome(rows: &[u16], octets: &[u8], k: usize) -> plain::PlainOutcome
+    ensures { λ r. ⌜ r ≡ plainOutcome (now (rows .entry)) (now (octets .entry)) k ⌝ }
+{
+    plain::outcome(rows, octets, k)
+}
+
+#[no_mangle]
+pub extern "C" fn aoc_plain_phase(rows: &[u16], octets: &[u8]) -> plain::PlainPhase
+    ensures { λ r. ⌜ r ≡ plainPhase (now (rows .entry)) (now (octets .entry)) ⌝ }
+{
+    plain::phase(rows, octets)
+}
+
+#[no_mangle]
+pub extern "C" fn aoc_plain_pending(rows: &[u16], octets: &[u8]) -> plain::PlainPending
+    ensures { λ r. ⌜ r ≡ plainPending (now (rows .entry)) (now (octets .entry)) ⌝ }
+{
+    plain::pending(rows, octets)
+}
+
+#[no_mangle]
+pub extern "C" fn aoc_plain_rate(rows: &[u16], octets: &[u8]) -> plain::PlainCharge
+    ensures { λ r. ⌜ r ≡ plainCurrentRate (now (rows .entry)) (now (octets .entry)) ⌝ }
+{
+    plain::rate(rows, octets)
+}
+
+#[no_mangle]
+pub extern "C" fn aoc_plain_running(rows: &[u16], octets: &[u8]) -> plain::PlainCharge
+    ensures { λ r. ⌜ r ≡ plainRunning (now (rows .entry)) (now (octets .entry)) ⌝ }
+{
+    plain::running(rows, octets)
+}
+
+#[no_mangle]
+pub extern "C" fn aoc_plain_closing(rows: &[u16], octets: &[u8]) -> plain::PlainClosing
+    ensures { λ r. ⌜ r ≡ plainClosing (now (rows .entry)) (now (octets .entry)) ⌝ }
+{
+    plain::closing(rows, octets)
+}
+
+#[no_mangle]
+pub extern "C" fn aoc_plain_marks(rows: &[u16], octets: &[u8]) -> plain::PlainMarks
+    ensures { λ r. ⌜ r ≡ plainMarks (now (rows .entry)) (now (octets .entry)) ⌝ }
+{
+    plain::marks(rows, octets)
 }

@@ -1,0 +1,4 @@
+pub mod Walk
+pub mod Requests
+pub mod Theorems
+pub mod Examples

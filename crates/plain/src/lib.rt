@@ -1,0 +1,319 @@
+// A plain engine: every answer about a call's event list is found by going over the list again. No account is kept.
+use account::Closing;
+use account::Marks;
+use account::Pending;
+use phases::Outcome;
+use types::Charge;
+use values::Services;
+ghost use mathlib.Core.Path.{_≡_};
+ghost use mathlib.Core.Bool.{true};
+ghost use mathlib.Core.List.{[], reverse};
+ghost use lib.ListN.{length};
+ghost use lib.Dec.{eqb};
+ghost use Rattle.types.specs.Charges.{flag};
+ghost use Rattle.outcomes.specs.Outcome.{its};
+ghost use Rattle.outcomes.specs.Status.{placeOf};
+ghost use Rattle.events.specs.Events.{addsUp, eventsOf};
+ghost use Rattle.account.specs.History.{any, last, judged, phase, requests, currentRate, running, closing, marks, pendingOf};
+ghost use Rattle.plain.specs.Marked.{toldSet};
+ghost use Rattle.plain.specs.Answers.{outcomeAt, plainOutcome, plainPhase, plainPending, plainCurrentRate, plainRunning, plainClosing, plainMarks};
+
+// ---- what is kept and what was told
+
+// The charge of the last event whose outcome keeps it at a place: 1 the rate, 2 the running figure, 3 the final of D, 4 the final of E.
+fn last_kept(rows: &[u16], octets: &[u8], place: u16) -> Charge
+    requires { ⌜ addsUp (now rows) (length (now octets)) ≡ true ⌝ }
+    ensures { λ r. ⌜ r ≡ last (λ j. eqb (placeOf (j .outcome)) place) (judged (reverse (eventsOf (now (rows .entry)) (now (octets .entry))))) ⌝ }
+{
+    let mut i = rows.len() / 6;
+    while i > 0 {
+        i -= 1;
+        let o = scans::outcome_at(rows, octets, i);
+        if outcomes::place_of(o) == place {
+            return scans::charge_at(rows, octets, i);
+        }
+    }
+    account::no_charge()
+}
+
+// Whether an event was a service's outcome.
+fn told(rows: &[u16], octets: &[u8], service: u8, number: u8) -> bool
+    requires { ⌜ addsUp (now rows) (length (now octets)) ≡ true ⌝ }
+    ensures { λ r. ⌜ r ≡ any (λ j. its service number (j .outcome)) (judged (reverse (eventsOf (now (rows .entry)) (now (octets .entry))))) ⌝ }
+{
+    let mut i = rows.len() / 6;
+    while i > 0 {
+        i -= 1;
+        let o = scans::outcome_at(rows, octets, i);
+        if scans::is_its(o, service, number) {
+            return true;
+        }
+    }
+    false
+}
+
+fn flag(b: bool) -> u8
+    ensures { λ r. ⌜ r ≡ flag b ⌝ }
+{
+    if b { 1 } else { 0 }
+}
+
+fn told_set(rows: &[u16], octets: &[u8], number: u8) -> Services
+    requires { ⌜ addsUp (now rows) (length (now octets)) ≡ true ⌝ }
+    ensures { λ r. ⌜ r ≡ toldSet number (judged (reverse (eventsOf (now (rows .entry)) (now (octets .entry))))) ⌝ }
+{
+    let s = flag(told(rows, octets, 1, number));
+    let d = flag(told(rows, octets, 2, number));
+    let e = flag(told(rows, octets, 3, number));
+    Services { s, d, e }
+}
+
+// ---- the answers about an event list
+
+fn phase_in(rows: &[u16], octets: &[u8]) -> u8
+    requires { ⌜ addsUp (now rows) (length (now octets)) ≡ true ⌝ }
+    ensures { λ r. ⌜ r ≡ phase (judged (reverse (eventsOf (now (rows .entry)) (now (octets .entry))))) ⌝ }
+{
+    let n = rows.len() / 6;
+    scans::phase_before(rows, n)
+}
+
+fn pending_in(rows: &[u16], octets: &[u8]) -> Pending
+    requires { ⌜ addsUp (now rows) (length (now octets)) ≡ true ⌝ }
+    ensures { λ r. ⌜ r ≡ pendingOf (requests (judged (reverse (eventsOf (now (rows .entry)) (now (octets .entry)))))) ⌝ }
+{
+    let n = rows.len() / 6;
+    let t = scans::status_before(rows, octets, n);
+    let asked = t.asked;
+    Pending {
+        asked,
+        unused: 0,
+        s: t.s,
+        d: t.d,
+        e: t.e,
+    }
+}
+
+fn rate_in(rows: &[u16], octets: &[u8]) -> Charge
+    requires { ⌜ addsUp (now rows) (length (now octets)) ≡ true ⌝ }
+    ensures { λ r. ⌜ r ≡ currentRate (judged (reverse (eventsOf (now (rows .entry)) (now (octets .entry))))) ⌝ }
+{
+    last_kept(rows, octets, 1)
+}
+
+fn running_in(rows: &[u16], octets: &[u8]) -> Charge
+    requires { ⌜ addsUp (now rows) (length (now octets)) ≡ true ⌝ }
+    ensures { λ r. ⌜ r ≡ running (judged (reverse (eventsOf (now (rows .entry)) (now (octets .entry))))) ⌝ }
+{
+    last_kept(rows, octets, 2)
+}
+
+fn closing_in(rows: &[u16], octets: &[u8]) -> Closing
+    requires { ⌜ addsUp (now rows) (length (now octets)) ≡ true ⌝ }
+    ensures { λ r. ⌜ r ≡ closing (judged (reverse (eventsOf (now (rows .entry)) (now (octets .entry))))) ⌝ }
+{
+    if phase_in(rows, octets) != 4 {
+        return Closing {
+            service: 0,
+            value: account::no_charge(),
+        };
+    }
+    let e = last_kept(rows, octets, 4);
+    if e.figure.kind != 0 {
+        return Closing {
+            service: 3,
+            value: e,
+        };
+    }
+    let d = last_kept(rows, octets, 3);
+    if d.figure.kind != 0 {
+        return Closing {
+            service: 2,
+            value: d,
+        };
+    }
+    Closing {
+        service: 0,
+        value: account::no_charge(),
+    }
+}
+
+fn marks_in(rows: &[u16], octets: &[u8]) -> Marks
+    requires { ⌜ addsUp (now rows) (length (now octets)) ≡ true ⌝ }
+    ensures { λ r. ⌜ r ≡ marks (judged (reverse (eventsOf (now (rows .entry)) (now (octets .entry))))) ⌝ }
+{
+    let absent = told_set(rows, octets, 23);
+    let conflict = told_set(rows, octets, 29);
+    Marks { absent, conflict }
+}
+
+// ---- the same of any slices: 48 for those that are no event list, and then all else is zero
+
+#[repr(C)]
+pub struct PlainOutcome {
+    pub number: u16,
+    pub outcome: Outcome,
+}
+
+#[repr(C)]
+pub struct PlainPhase {
+    pub number: u16,
+    pub phase: u16,
+}
+
+#[repr(C)]
+pub struct PlainPending {
+    pub number: u16,
+    pub pending: Pending,
+}
+
+#[repr(C)]
+pub struct PlainMarks {
+    pub number: u16,
+    pub marks: Marks,
+}
+
+#[repr(C)]
+pub struct PlainCharge {
+    pub number: u32,
+    pub value: Charge,
+}
+
+#[repr(C)]
+pub struct PlainClosing {
+    pub number: u32,
+    pub closing: Closing,
+}
+
+fn is_list(rows: &[u16], octets: &[u8]) -> bool
+    ensures { λ r. ⌜ r ≡ addsUp (now (rows .entry)) (length (now (octets .entry))) ⌝ }
+{
+    events::adds_up(rows, octets.len())
+}
+
+// The outcome of event k, from 1; zero for a number that is no event's.
+fn outcome_in(rows: &[u16], octets: &[u8], k: usize) -> Outcome
+    requires { ⌜ addsUp (now rows) (length (now octets)) ≡ true ⌝ }
+    ensures { λ r. ⌜ r ≡ outcomeAt [] (eventsOf (now (rows .entry)) (now (octets .entry))) k ⌝ }
+{
+    let n = rows.len() / 6;
+    if k == 0 {
+        return Outcome {
+            number: 0,
+            service: 0,
+        };
+    }
+    if k > n {
+        return Outcome {
+            number: 0,
+            service: 0,
+        };
+    }
+    scans::outcome_at(rows, octets, k - 1)
+}
+
+pub fn outcome(rows: &[u16], octets: &[u8], k: usize) -> PlainOutcome
+    ensures { λ r. ⌜ r ≡ plainOutcome (now (rows .entry)) (now (octets .entry)) k ⌝ }
+{
+    if !is_list(rows, octets) {
+        let outcome = Outcome {
+            number: 0,
+            service: 0,
+        };
+        return PlainOutcome {
+            number: 48,
+            outcome,
+        };
+    }
+    let outcome = outcome_in(rows, octets, k);
+    PlainOutcome { number: 0, outcome }
+}
+
+pub fn phase(rows: &[u16], octets: &[u8]) -> PlainPhase
+    ensures { λ r. ⌜ r ≡ plainPhase (now (rows .entry)) (now (octets .entry)) ⌝ }
+{
+    if !is_list(rows, octets) {
+        return PlainPhase {
+            number: 48,
+            phase: 0,
+        };
+    }
+    let phase = phase_in(rows, octets);
+    PlainPhase {
+        number: 0,
+        phase: phase as u16,
+    }
+}
+
+pub fn pending(rows: &[u16], octets: &[u8]) -> PlainPending
+    ensures { λ r. ⌜ r ≡ plainPending (now (rows .entry)) (now (octets .entry)) ⌝ }
+{
+    if !is_list(rows, octets) {
+        let asked = Services::empty();
+        let pending = Pending {
+            asked,
+            unused: 0,
+            s: 0,
+            d: 0,
+            e: 0,
+        };
+        return PlainPending {
+            number: 48,
+            pending,
+        };
+    }
+    let pending = pending_in(rows, octets);
+    PlainPending { number: 0, pending }
+}
+
+pub fn rate(rows: &[u16], octets: &[u8]) -> PlainCharge
+    ensures { λ r. ⌜ r ≡ plainCurrentRate (now (rows .entry)) (now (octets .entry)) ⌝ }
+{
+    if !is_list(rows, octets) {
+        let value = account::no_charge();
+        return PlainCharge { number: 48, value };
+    }
+    let value = rate_in(rows, octets);
+    PlainCharge { number: 0, value }
+}
+
+pub fn running(rows: &[u16], octets: &[u8]) -> PlainCharge
+    ensures { λ r. ⌜ r ≡ plainRunning (now (rows .entry)) (now (octets .entry)) ⌝ }
+{
+    if !is_list(rows, octets) {
+        let value = account::no_charge();
+        return PlainCharge { number: 48, value };
+    }
+    let value = running_in(rows, octets);
+    PlainCharge { number: 0, value }
+}
+
+pub fn closing(rows: &[u16], octets: &[u8]) -> PlainClosing
+    ensures { λ r. ⌜ r ≡ plainClosing (now (rows .entry)) (now (octets .entry)) ⌝ }
+{
+    if !is_list(rows, octets) {
+        let value = account::no_charge();
+        let closing = Closing { service: 0, value };
+        return PlainClosing {
+            number: 48,
+            closing,
+        };
+    }
+    let closing = closing_in(rows, octets);
+    PlainClosing { number: 0, closing }
+}
+
+pub fn marks(rows: &[u16], octets: &[u8]) -> PlainMarks
+    ensures { λ r. ⌜ r ≡ plainMarks (now (rows .entry)) (now (octets .entry)) ⌝ }
+{
+    if !is_list(rows, octets) {
+        let none = Services::empty();
+        let marks = Marks {
+            absent: none,
+            conflict: none,
+        };
+        return PlainMarks { number: 48, marks };
+    }
+    let marks = marks_in(rows, octets);
+    PlainMarks { number: 0, marks }
+}

@@ -1,0 +1,5 @@
+pub mod Claims
+pub mod Histories
+pub mod Scans
+pub mod Heard
+pub mod Outcomes

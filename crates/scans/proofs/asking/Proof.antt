@@ -1,0 +1,6 @@
+use Rattle.same_final.proofs.Ways.{ways}
+use Rattle.scans.proofs.asking.Statement.{statement}
+use Rattle.scans.proofs.asking.Tie as tie
+
+pub asking-spec : {M : Type 1} → statement M
+asking-spec = tie.close (tie.spec (λ c. search ways) (λ c. search ways))

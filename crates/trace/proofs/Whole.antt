@@ -1,0 +1,107 @@
+-- The list of a whole trace: the call's reference, the room that the list needs, and what the slices then hold.
+use Rattle.prelude.proofs.Prelude.{_≡_, refl, sym, ap, _∙_, ℕ, zero, suc, _+_, _-_, _*_, _/_, _≤_, _<_, arith, zero-add, Bool, true, false, _&&_, cond, List, [], _∷_, _++_, length, getD, take}
+use Rattle.prelude.proofs.Prelude.{drop, sets-eq, eqb, leb, eqb-true, eq-eqb, ne-eqb, le-leb, lt-leb}
+use Rattle.phases.specs.Phases.{Given}
+use Rattle.coding.{specs.Written.Wrote, specs.Written.Room, proofs.Basic.and-left}
+use Rattle.events.{specs.Laid.rowsOf, specs.Laid.octetsOf, proofs.Laid.rows-count}
+use Rattle.framing.specs.{declared.Verdict.Verdict, Framing.framed, Framing.lengthsAddUp, Framing.messagesFrom, Framing.messagesOf, Framing.verdictOf}
+use Rattle.framing.proofs.Laws.{passing-starts, inside}
+use Rattle.messages.specs.Trace.{reference, allFramed, traceFrom, traceEvents}
+use Rattle.sizes.specs.{declared.Size.Size, Sizes.Sizes}
+use Rattle.trace.specs.{declared.Put.Put, declared.Laid.Laid, Into.eventsIn, Into.fitsIn, Into.laid, Into.roomOf, Into.laidOf, Into.laidOver, Into.rowsLeft, Into.octetsLeft, Putting.Puts}
+use Rattle.trace.specs.{Putting.Rooms, Putting.Lays}
+
+-- ---- the call's reference
+
+-- a trace without a message gives nothing
+pub no-call : (pairs octets : List ℕ) (r : ℕ) → length pairs / 2 ≡ 0 → traceFrom r false (messagesOf pairs octets) ≡ eventsIn pairs octets
+unfolding messagesOf messagesFrom traceFrom traceEvents
+no-call pairs octets r z = rw z refl
+
+module _ (pairs octets : List ℕ) (adds : lengthsAddUp pairs (length octets) ≡ true) (all : allFramed (messagesOf pairs octets) ≡ true) (some : 2 ≤ length pairs) (c : ℕ) (is : c ≡ getD pairs 0 0) where
+  one-more : length pairs / 2 ≡ suc (length pairs / 2 - 1)
+  one-more = omega (arith, some)
+
+  size-is : c - 0 ≡ getD pairs 0 0
+  size-is = omega (arith, is)
+
+  pub first-inside : c ≤ length octets
+  first-inside = omega (arith, is, inside pairs octets 0 0 (passing-starts pairs octets adds) (omega (arith, some)))
+
+  pub first-framed : framed (take (c - 0) (drop 0 octets)) ≡ true
+  unfolding messagesOf messagesFrom
+  first-framed = rw size-is (and-left (framed (take (getD pairs 0 0) (drop 0 octets))) _ (rw one-more at all))
+
+  pub first-call : (r : ℕ) → r ≡ reference (take (c - 0) (drop 0 octets)) → traceFrom r false (messagesOf pairs octets) ≡ eventsIn pairs octets
+  unfolding messagesOf messagesFrom traceEvents
+  first-call r e = rw (one-more, e, size-is) refl
+
+-- ---- room
+
+module _ (rows out : List ℕ) (l : List Given) (size : Size) (v : Sizes l size) where
+  pub too-many : length rows / 6 < size .events → fitsIn l (length rows) (length out) ≡ false
+  too-many h = rw (lt-leb (length (rowsOf l)) (length rows) (omega (arith, h, rows-count l, v .events))) refl
+
+  module _ (some : size .events ≤ length rows / 6) where
+    rows-in : length (rowsOf l) ≤ length rows
+    rows-in = omega (arith, some, rows-count l, v .events)
+
+    pub too-long : length out < size .octets → fitsIn l (length rows) (length out) ≡ false
+    too-long h = rw (le-leb (length (rowsOf l)) (length rows) rows-in, lt-leb (length (octetsOf l)) (length out) (omega (arith, h, v .octets))) refl
+
+    module _ (few : size .octets ≤ length out) where
+      octets-in : length (octetsOf l) ≤ length out
+      octets-in = omega (arith, few, v .octets)
+
+      pub room-for : Rooms rows out (record { rows = 0; octets = 0 }) l
+      room-for = record { for-rows = record { fits = omega (arith, rows-in) }; for-out = record { fits = omega (arith, octets-in) } }
+
+      enough : fitsIn l (length rows) (length out) ≡ true
+      enough = rw (le-leb (length (rowsOf l)) (length rows) rows-in, le-leb (length (octetsOf l)) (length out) octets-in) refl
+
+      in-front : (xs before after : List ℕ) {q : ℕ} → length xs ≤ length before → Wrote before after 0 xs q → after ≡ xs ++ drop (length xs) before
+      in-front xs before after h w = w .stored ∙ sets-eq xs before 0 (omega (arith, h)) ∙ ap (λ (j : ℕ). xs ++ drop j before) (zero-add (length xs))
+
+      pub lays : (rows′ out′ : List ℕ) (q : Put) → Puts rows rows′ out out′ (record { rows = 0; octets = 0 }) l q → Lays l rows rows′ out out′ (laid 0 0 (size .events) (size .octets))
+      lays rows′ out′ q p = record {
+        answer = rw (v .events, v .octets) (sym (rw enough refl));
+        in-rows = rw enough (in-front (rowsOf l) rows rows′ rows-in (p .in-rows));
+        in-out = rw enough (in-front (octetsOf l) out out′ octets-in (p .in-out));
+      }
+
+  pub lays-none : fitsIn l (length rows) (length out) ≡ false → Lays l rows rows out out (laid 12 0 0 0)
+  lays-none z = record { answer = sym (rw z refl); in-rows = sym (rw z refl); in-out = sym (rw z refl) }
+
+-- ---- the answer
+
+pub record Answers (pairs octets rows rows′ out out′ : List ℕ) (r : Laid) : Type 0 where
+  pub result : r ≡ laidOf pairs octets (length rows) (length out)
+  pub in-rows : rows′ ≡ rowsLeft pairs octets rows out
+  pub in-out : out′ ≡ octetsLeft pairs octets rows out
+
+module _ (pairs octets rows rows′ out out′ : List ℕ) (v : Verdict) (is : v ≡ verdictOf pairs octets) where
+  number-is : verdictOf pairs octets .number ≡ v .number
+  number-is = ap (λ (x : Verdict). x .number) (sym is)
+
+  pub refused : (v .number ≡ 0 → ⊥) → rows′ ≡ rows → out′ ≡ out → Answers pairs octets rows rows′ out out′ (laid (v .number) (v .message) 0 0)
+  unfolding laidOf rowsLeft octetsLeft
+  refused n a b =
+      let z = ne-eqb (verdictOf pairs octets .number) 0 (λ e. n (sym number-is ∙ e)) in record {
+        result = sym (rw (z, ← is) refl);
+        in-rows = a ∙ sym (rw (z, z) refl);
+        in-out = b ∙ sym (rw (z, z) refl);
+      }
+
+  room-zero : (b : Bool) (l : List Given) → eqb ((cond b (laid 0 0 (length l) (length (octetsOf l))) (laid 12 0 0 0)) .number) 0 ≡ b
+  room-zero true l = refl
+  room-zero false l = refl
+
+  pub accepted : v .number ≡ 0 → (r : Laid) → Lays (eventsIn pairs octets) rows rows′ out out′ r → Answers pairs octets rows rows′ out out′ r
+  unfolding laidOf rowsLeft octetsLeft
+  accepted n r w =
+      let z = eq-eqb (verdictOf pairs octets .number) 0 (number-is ∙ n) in
+      let b = room-zero (fitsIn (eventsIn pairs octets) (length rows) (length out)) (eventsIn pairs octets) in record {
+        result = w .answer ∙ sym (rw z refl);
+        in-rows = w .in-rows ∙ sym (rw (z, b) refl);
+        in-out = w .in-out ∙ sym (rw (z, b) refl);
+      }

@@ -1,0 +1,22 @@
+use Rattle.prelude.proofs.Prelude.{needs, arith, length-set, ap, _≡_, ℕ, List, sym}
+use Rattle.coding.specs.Written.{Wrote}
+use Rattle.events.specs.Laid.{laidRow}
+use Rattle.trace.proofs.{Laying.wrote-6, put_row.Statement.statement}
+use Rattle.trace.proofs.put_row.Tie as tie
+
+returns : tie.Need-returns
+returns c =
+    let far = c .before .before .before in
+    let x = far .before .args in
+    rw (c .before .bits-of .ensures) (wrote-6 _ _ _ _ _ _ _ _)
+
+pub put-row-spec : {M : Type 1} → statement M
+put-row-spec =
+    tie.close
+    (tie.spec (search needs) (search needs) (search needs) (search needs)
+    (search needs) (search needs) (λ c. simp length-set (omega arith))
+    (search needs) (search needs) (λ c. simp length-set (omega arith))
+    (search needs) (search needs) (λ c. simp length-set (omega arith))
+    (search needs) (search needs) (λ c. simp length-set (omega arith))
+    (search needs) (search needs) (λ c. simp length-set (omega arith))
+    (search needs) (search needs) returns)

@@ -1,0 +1,367 @@
+// The events of a trace, laid as an event list into two lent slices.
+use messages::Gives;
+use phases::Event;
+use values::Services;
+ghost use mathlib.Core.Path.{_≡_};
+ghost use mathlib.Core.Bool.{true, false, cond};
+ghost use mathlib.Core.List.{List, [], _∷_};
+ghost use Prim.Native.Nat.{ℕ, suc, _-_, _≤_, _<_};
+ghost use lib.ListN.{length};
+ghost use lib.Dec.{eqb};
+ghost use Rattle.coding.specs.Written.{Wrote, Room};
+ghost use Rattle.phases.specs.Phases.{event};
+ghost use Rattle.framing.specs.Framing.{message, elementEnd, elementsFit, framed, lengthsAddUp, messagesOf};
+ghost use Rattle.messages.specs.Trace.{componentsIn, componentsAt, componentsFrom, componentEvent, componentEvents, phaseEvent, setupBy, when, laidOut, messageEvents, ofCall, allFramed, traceFrom};
+ghost use Rattle.events.specs.Laid.{bitsOf, laidRow};
+ghost use Rattle.trace.specs.Into.{eventsIn, laidOf, rowsLeft, octetsLeft};
+ghost use Rattle.trace.specs.Putting.{Puts, Rooms, RowsFor, Lays};
+
+// ---- an event laid into lent slices
+
+// Where the next event goes: its row's first number, and its first octet.
+struct Put {
+    pub rows: usize,
+    pub octets: usize,
+}
+
+fn bit(mark: u8, value: u16) -> u16
+    ensures { λ r. ⌜ r ≡ cond (eqb mark 0) 0 value ⌝ }
+{
+    if mark == 0 {
+        return 0;
+    }
+    value
+}
+
+fn bits_of(t: Services) -> u16
+    ensures { λ r. ⌜ r ≡ bitsOf t ⌝ }
+{
+    let s = bit(t.s, 1);
+    let d = bit(t.d, 2);
+    let e = bit(t.e, 4);
+    s + d + e
+}
+
+fn put_row(rows: &mut [u16], at: usize, e: Event, count: u16) -> usize
+    requires { ⌜ Room (now rows) at (laidRow e count) ⌝ }
+    ensures { λ r. ⌜ Wrote (now (rows .entry)) (now (rows .exit)) at (laidRow e count) r ⌝ }
+{
+    let asked = e.asked;
+    let bits = bits_of(asked);
+    rows[at] = e.kind as u16;
+    rows[at + 1] = bits;
+    rows[at + 2] = e.s;
+    rows[at + 3] = e.d;
+    rows[at + 4] = e.e;
+    rows[at + 5] = count;
+    at + 6
+}
+
+fn put_event(rows: &mut [u16], out: &mut [u8], p: Put, e: Event, octets: &[u8]) -> Put
+    requires { ⌜ (length (now octets) ≤ 65535) × Rooms (now rows) (now out) p (event e (now octets) ∷ []) ⌝ }
+    ensures { λ r. ⌜ Puts (now (rows .entry)) (now (rows .exit)) (now (out .entry)) (now (out .exit)) p (event e (now (octets .entry)) ∷ []) r ⌝ }
+{
+    let n = octets.len();
+    let r = p.rows;
+    let o = p.octets;
+    let row = put_row(rows, r, e, n as u16);
+    let end = write_elements::put_octets(out, o, octets, n);
+    Put {
+        rows: row,
+        octets: end,
+    }
+}
+
+// An event without octets.
+fn put_bare(rows: &mut [u16], p: Put, e: Event) -> Put
+    requires { ⌜ Room (now rows) (p .rows) (laidRow e 0) ⌝ }
+    ensures { λ r. ⌜ ((out : List ℕ) → Puts (now (rows .entry)) (now (rows .exit)) out out p (event e [] ∷ []) r) ⌝ }
+{
+    let at = p.rows;
+    let row = put_row(rows, at, e, 0);
+    Put {
+        rows: row,
+        octets: p.octets,
+    }
+}
+
+fn put_component(rows: &mut [u16], out: &mut [u8], p: Put, octets: &[u8]) -> Put
+    requires { ⌜ (length (now octets) ≤ 65535) × Rooms (now rows) (now out) p (componentEvent (now octets) ∷ []) ⌝ }
+    ensures { λ r. ⌜ Puts (now (rows .entry)) (now (rows .exit)) (now (out .entry)) (now (out .exit)) p (componentEvent (now (octets .entry)) ∷ []) r ⌝ }
+{
+    let none = Services::empty();
+    let e = Event {
+        kind: 5,
+        asked: none,
+        s: 0,
+        d: 0,
+        e: 0,
+    };
+    put_event(rows, out, p, e, octets)
+}
+
+// ---- the components of an element, of a message
+
+// The components of a Facility element become events; none where it is malformed.
+fn put_tiles(rows: &mut [u16], out: &mut [u8], p: Put, s: &[u8]) -> Put
+    requires { ⌜ (length (now s) ≤ 65535) × Rooms (now rows) (now out) p (componentEvents (componentsIn (now s))) ⌝ }
+    ensures { λ r. ⌜ Puts (now (rows .entry)) (now (rows .exit)) (now (out .entry)) (now (out .exit)) p (componentEvents (componentsIn (now (s .entry)))) r ⌝ }
+{
+    let tiles = messages::tiles_of(s);
+    if tiles.number != 0 {
+        return p;
+    }
+    let starts = tiles.starts;
+    let count = framing::wide(tiles.count);
+    let end = s.len();
+    let mut q = p;
+    let mut i: usize = 0;
+    while i < count {
+        let a = framing::wide(starts[i]);
+        let b = messages::stop_of(starts, count, i, end);
+        let next = put_component(rows, out, q, &s[a..b]);
+        q = next;
+        i += 1;
+    }
+    q
+}
+
+// The components of the element at a place: a Facility element under no shift.
+fn put_at(
+    rows: &mut [u16],
+    out: &mut [u8],
+    p: Put,
+    s: &[u8],
+    at: usize,
+    next: usize,
+    under: u8,
+) -> Put
+    requires { ⌜ (at < next) × (next ≤ length (now s)) × (next ≡ elementEnd (now s) at) × (next - at ≤ 65535) × Rooms (now rows) (now out) p (componentEvents (componentsAt (now s) at under)) ⌝ }
+    ensures { λ r. ⌜ Puts (now (rows .entry)) (now (rows .exit)) (now (out .entry)) (now (out .exit)) p (componentEvents (componentsAt (now (s .entry)) at under)) r ⌝ }
+{
+    if under != 0 {
+        return p;
+    }
+    if s[at] != 0x1c {
+        return p;
+    }
+    put_tiles(rows, out, p, &s[at..next])
+}
+
+// The components of a message's elements, from a place to the end.
+fn put_elements(rows: &mut [u16], out: &mut [u8], p: Put, s: &[u8], start: usize) -> Put
+    requires { ⌜ (start ≤ length (now s)) × (elementsFit (suc (length (now s))) (now s) start ≡ true) × Rooms (now rows) (now out) p (componentEvents (componentsFrom (suc (length (now s))) (now s) start 0)) ⌝ }
+    ensures { λ r. ⌜ Puts (now (rows .entry)) (now (rows .exit)) (now (out .entry)) (now (out .exit)) p (componentEvents (componentsFrom (suc (length (now (s .entry)))) (now (s .entry)) start 0)) r ⌝ }
+{
+    let end = s.len();
+    let mut q = p;
+    let mut under: u8 = 0;
+    let mut at = start;
+    while at < end {
+        let next = framing::element_end(s, at);
+        let after = put_at(rows, out, q, s, at, next, under);
+        let over = messages::under_after(under, s[at]);
+        q = after;
+        under = over;
+        at = next;
+    }
+    q
+}
+
+// ---- the events of a message
+
+// A phase event, where it is given.
+fn put_when(rows: &mut [u16], p: Put, given: bool, kind: u8) -> Put
+    requires { ⌜ RowsFor (now rows) p (when given (phaseEvent kind ∷ [])) ⌝ }
+    ensures { λ r. ⌜ ((out : List ℕ) → Puts (now (rows .entry)) (now (rows .exit)) out out p (when given (phaseEvent kind ∷ [])) r) ⌝ }
+{
+    if !given {
+        return p;
+    }
+    let none = Services::empty();
+    let e = Event {
+        kind,
+        asked: none,
+        s: 0,
+        d: 0,
+        e: 0,
+    };
+    put_bare(rows, p, e)
+}
+
+// A SETUP's event, where it is given.
+fn put_setup(rows: &mut [u16], p: Put, s: &[u8], start: usize, given: bool) -> Put
+    requires { ⌜ (start ≤ length (now s)) × (elementsFit (suc (length (now s))) (now s) start ≡ true) × RowsFor (now rows) p (when given (setupBy (componentsFrom (suc (length (now s))) (now s) start 0) ∷ [])) ⌝ }
+    ensures { λ r. ⌜ ((out : List ℕ) → Puts (now (rows .entry)) (now (rows .exit)) out out p (when given (setupBy (componentsFrom (suc (length (now (s .entry)))) (now (s .entry)) start 0) ∷ [])) r) ⌝ }
+{
+    if !given {
+        return p;
+    }
+    let e = messages::setup_of(s, start);
+    put_bare(rows, p, e)
+}
+
+// A message's components, where they are given.
+fn put_given(rows: &mut [u16], out: &mut [u8], p: Put, s: &[u8], start: usize, given: bool) -> Put
+    requires { ⌜ (start ≤ length (now s)) × (elementsFit (suc (length (now s))) (now s) start ≡ true) × Rooms (now rows) (now out) p (when given (componentEvents (componentsFrom (suc (length (now s))) (now s) start 0))) ⌝ }
+    ensures { λ r. ⌜ Puts (now (rows .entry)) (now (rows .exit)) (now (out .entry)) (now (out .exit)) p (when given (componentEvents (componentsFrom (suc (length (now (s .entry)))) (now (s .entry)) start 0))) r ⌝ }
+{
+    if !given {
+        return p;
+    }
+    put_elements(rows, out, p, s, start)
+}
+
+// Setup; Clear; the components; Connect; Released: those that are given.
+fn put_all(rows: &mut [u16], out: &mut [u8], p: Put, s: &[u8], start: usize, g: Gives) -> Put
+    requires { ⌜ (start ≤ length (now s)) × (elementsFit (suc (length (now s))) (now s) start ≡ true) × Rooms (now rows) (now out) p (laidOut g (componentsFrom (suc (length (now s))) (now s) start 0)) ⌝ }
+    ensures { λ r. ⌜ Puts (now (rows .entry)) (now (rows .exit)) (now (out .entry)) (now (out .exit)) p (laidOut g (componentsFrom (suc (length (now (s .entry)))) (now (s .entry)) start 0)) r ⌝ }
+{
+    let a = put_setup(rows, p, s, start, g.setup);
+    let b = put_when(rows, a, g.clear, 3);
+    let d = put_given(rows, out, b, s, start, g.components);
+    let e = put_when(rows, d, g.connect, 2);
+    put_when(rows, e, g.released, 4)
+}
+
+// The events of a message.
+fn put_message(
+    rows: &mut [u16],
+    out: &mut [u8],
+    p: Put,
+    s: &[u8],
+    network: bool,
+    cleared: bool,
+) -> Put
+    requires { ⌜ (framed (now s) ≡ true) × Rooms (now rows) (now out) p (messageEvents cleared (message (now s) network)) ⌝ }
+    ensures { λ r. ⌜ Puts (now (rows .entry)) (now (rows .exit)) (now (out .entry)) (now (out .exit)) p (messageEvents cleared (message (now (s .entry)) network)) r ⌝ }
+{
+    let g = messages::gives_of(messages::type_of(s), network, cleared);
+    let start = 3 + framing::wide(s[1]);
+    put_all(rows, out, p, s, start, g)
+}
+
+// ---- the events of a trace
+
+// The events of a message, none where it has another reference.
+fn put_next(
+    rows: &mut [u16],
+    out: &mut [u8],
+    p: Put,
+    s: &[u8],
+    network: bool,
+    cleared: bool,
+    call: usize,
+) -> Put
+    requires { ⌜ (framed (now s) ≡ true) × Rooms (now rows) (now out) p (ofCall call cleared (message (now s) network)) ⌝ }
+    ensures { λ r. ⌜ Puts (now (rows .entry)) (now (rows .exit)) (now (out .entry)) (now (out .exit)) p (ofCall call cleared (message (now (s .entry)) network)) r ⌝ }
+{
+    if messages::reference_of(s) != call {
+        return p;
+    }
+    put_message(rows, out, p, s, network, cleared)
+}
+
+// The events of the messages of one call, laid into lent slices.
+fn put_trace(
+    rows: &mut [u16],
+    out: &mut [u8],
+    p: Put,
+    pairs: &[u32],
+    octets: &[u8],
+    call: usize,
+) -> Put
+    requires { ⌜ (lengthsAddUp (now pairs) (length (now octets)) ≡ true) × (allFramed (messagesOf (now pairs) (now octets)) ≡ true) × Rooms (now rows) (now out) p (traceFrom call false (messagesOf (now pairs) (now octets))) ⌝ }
+    ensures { λ r. ⌜ Puts (now (rows .entry)) (now (rows .exit)) (now (out .entry)) (now (out .exit)) p (traceFrom call false (messagesOf (now (pairs .entry)) (now (octets .entry)))) r ⌝ }
+{
+    let n = pairs.len() / 2;
+    let mut q = p;
+    let mut cleared = false;
+    let mut at: usize = 0;
+    let mut i: usize = 0;
+    while i < n {
+        let end = at + framing::size(pairs[i * 2]);
+        let network = pairs[i * 2 + 1] != 0;
+        let next = put_next(rows, out, q, &octets[at..end], network, cleared, call);
+        let over = messages::cleared_by(&octets[at..end], call, cleared);
+        q = next;
+        cleared = over;
+        at = end;
+        i += 1;
+    }
+    q
+}
+
+// ---- the whole trace
+
+// number: 0, 48, 49 or 12. message: with 49 the number of the first message that is not framed, from 1. events, octets: how many the list has; 0 where it is refused.
+#[repr(C)]
+pub struct Laid {
+    pub number: u64,
+    pub message: u64,
+    pub events: u64,
+    pub octets: u64,
+}
+
+// The call's reference: that of the first message; 0 where there is none.
+fn call_of(pairs: &[u32], octets: &[u8]) -> usize
+    requires { ⌜ (lengthsAddUp (now pairs) (length (now octets)) ≡ true) × (allFramed (messagesOf (now pairs) (now octets)) ≡ true) ⌝ }
+    ensures { λ r. ⌜ traceFrom r false (messagesOf (now (pairs .entry)) (now (octets .entry))) ≡ eventsIn (now (pairs .entry)) (now (octets .entry)) ⌝ }
+{
+    if pairs.len() < 2 {
+        return 0;
+    }
+    let end = framing::size(pairs[0]);
+    messages::reference_of(&octets[0..end])
+}
+
+// The list of a trace that is framed, where there is room for it.
+fn lay(pairs: &[u32], octets: &[u8], rows: &mut [u16], out: &mut [u8]) -> Laid
+    requires { ⌜ (lengthsAddUp (now pairs) (length (now octets)) ≡ true) × (allFramed (messagesOf (now pairs) (now octets)) ≡ true) ⌝ }
+    ensures { λ r. ⌜ Lays (eventsIn (now (pairs .entry)) (now (octets .entry))) (now (rows .entry)) (now (rows .exit)) (now (out .entry)) (now (out .exit)) r ⌝ }
+{
+    let call = call_of(pairs, octets);
+    let size = sizes::of_trace(pairs, octets, call);
+    if rows.len() / 6 < size.events {
+        return Laid {
+            number: 12,
+            message: 0,
+            events: 0,
+            octets: 0,
+        };
+    }
+    if out.len() < size.octets {
+        return Laid {
+            number: 12,
+            message: 0,
+            events: 0,
+            octets: 0,
+        };
+    }
+    let start = Put { rows: 0, octets: 0 };
+    let _end = put_trace(rows, out, start, pairs, octets, call);
+    Laid {
+        number: 0,
+        message: 0,
+        events: size.events as u64,
+        octets: size.octets as u64,
+    }
+}
+
+// The event list of a trace: 48, then 49, then 12 for too little room; both slices are then as they were.
+pub fn events_into(pairs: &[u32], octets: &[u8], rows: &mut [u16], out: &mut [u8]) -> Laid
+    ensures { λ r. ⌜ r ≡ laidOf (now (pairs .entry)) (now (octets .entry)) (length (now (rows .entry))) (length (now (out .entry))) ⌝ }
+    ensures rows { λ r. ⌜ now (rows .exit) ≡ rowsLeft (now (pairs .entry)) (now (octets .entry)) (now (rows .entry)) (now (out .entry)) ⌝ }
+    ensures out { λ r. ⌜ now (out .exit) ≡ octetsLeft (now (pairs .entry)) (now (octets .entry)) (now (rows .entry)) (now (out .entry)) ⌝ }
+{
+    let v = framing::judge(pairs, octets);
+    if v.number != 0 {
+        return Laid {
+            number: v.number,
+            message: v.message,
+            events: 0,
+            octets: 0,
+        };
+    }
+    lay(pairs, octets, rows, out)
+}
