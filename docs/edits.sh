@@ -5,33 +5,45 @@
 cd "$(dirname "$0")/.." || exit 2
 page=docs/EDITS.md
 
-# fact LOG: what stands in the log's first error. `omega` tells values at which the goal fails; else two types differ somewhere.
+# fact LOG: what the log's first error says that does not follow from another one. It fails where that shows no fact: an edit that the
+# proof does not fit by its shape (a name or a field that is not there), or a rewriting that finds nothing.
 fact() {
     python3 - "$1" <<'PYTHON'
 import re, sys
 text = open(sys.argv[1], errors="replace").read()
-first = re.search(r"^(?:\S*?/must-fail/[a-z_]+/[a-z_0-9]+/)?((?:proofs|specs)/\S+?):\d+:\d+: error: `([^`]+)`: ((?:.|\n)*?)(?=^\S+:\d+:\d+: |\Z)", text, re.M)
-if not first:
+errors = re.finditer(r"^(?:\S*?/must-fail/[a-z_]+/[a-z_0-9]+/)?((?:proofs|specs)/\S+?):\d+:\d+: error: `([^`]+)`: ((?:.|\n)*?)(?=^\S+:\d+:\d+: |^fn |^struct |\Z)", text, re.M)
+own = [error for error in errors if "not admitted" not in error[3]]
+shape = re.search(r"(?m)^\S+: error: [^\n]*(has no field|can be named from here)", text)
+if shape and (not own or shape.start() <= own[0].start()):
+    sys.exit(f"{sys.argv[1]}: refused by its shape ({shape[1]}), which shows nothing")
+if not own:
     # a function without a proof file: its needs are found, or not, where they stand
     need = re.search(r"it is not proved that [^\n]*\(`([^`]+)`\)", text)
-    function = re.search(r"^fn \w+::([\w:]+): (?!proved)", text, re.M)
+    function = re.search(r"^fn \w+::([\w:]+): no proof", text, re.M) or re.search(r"^fn \w+::([\w:]+): (?!proved)", text, re.M)
     if not need or not function:
-        sys.exit("no error")
+        sys.exit(f"{sys.argv[1]}: no error")
     print(f"`{function[1]}` | `{need[1]}` | not found by search")
     sys.exit()
-place, need, says = first.groups()
+place, need, says = own[0].groups()
 place = re.sub(r"^proofs/(?:(\w+)/)?(\w+)/Proof\.antt$", lambda m: (m[1] + "::" if m[1] else "") + m[2], place)
+head = says.split("\n")[0]
+if "no occurrence" in head:
+    sys.exit(f"{sys.argv[1]}: {place}, {need}: the proof's rewriting finds nothing, which shows nothing")
 sides = re.findall(r"one has `([^`]*)`\s*\(expected\)(?:, [^`]*`[^`]*`)?,?\s*and the other has `([^`]*)`", says)
 sides = [s for s in sides if max(map(len, s)) <= 60 and "𝓤" not in s[0]]  # 𝓤 differs in print alone
-values = re.search(r"the goal fails, at ((?:[^.]|\.(?=\S)){1,160})\. ", says)
+values = re.search(r"(?:goal|part) fails, at ((?:[^.]|\.(?=\S)){1,160})\. ", says)
 if sides:
     what = f"`{sides[-1][0]}` against `{sides[-1][1]}`"
-elif "omega" in says:
+elif "omega" in head:
     what = f"fails at {values[1]}" if values and "argsV" not in values[1] and "\n" not in values[1] else "numbers for which it fails"
-elif "does not close" in says:
+elif "does not close" in says or "`search`: no proof" in head:
     what = "not found by search"
-else:
+elif "two ends are equal" in says or "last argument" in head:
     what = "two sides that are not equal"
+elif "differ" in head or "expected type" in says:
+    what = "two types that differ"
+else:
+    what = head[:80].replace("|", "\\|")
 print(f"`{place}` | `{need}` | {what}")
 PYTHON
 }
@@ -39,12 +51,15 @@ PYTHON
 table() {
     echo '| Edit | The wrong program | Where it stops | The need | What the log shows |'
     echo '|---|---|---|---|---|'
+    wrong=
     for edit in crates/*/must-fail/*.edit; do
         crate=${edit#crates/} crate=${crate%%/*} name=$(basename "$edit" .edit)
         log=target/must-fail/$crate/$name/.log
         [ -f "$log" ] || { echo "no log of $crate/$name: run .ci/run first" >&2; return 1; }
-        echo "| \`$crate/$name\` | $(sed -n '1s/^# *//p' "$edit") | $(fact "$log") |"
+        said=$(fact "$log") || wrong=1
+        echo "| \`$crate/$name\` | $(sed -n '1s/^# *//p' "$edit") | $said |"
     done
+    [ -z "$wrong" ]
 }
 
 case $1 in

@@ -462,7 +462,8 @@ uint32_t aoc_version(void);
 /* Inline, over a proved function. Reads one component into an answer, whatever it holds. The record is what the octets mean,
  * each length in any of its forms; or the refusal is that of the first failure, and the record is zero. It returns the refusal.
  * With AOC_REFUSED_MISSING the offset is where the enclosing element's contents end, with 41 to 45 the place of the failing
- * element's tag: at least 8, and at most the length. */
+ * element's tag: at least 8, and at most the length. A refusal writes the answer too, zeros for its record: what a refusal leaves
+ * untouched is the buffer that a component is written to. */
 static inline aoc_refusal aoc_read(const uint8_t *octets, size_t length, aoc_answer *answer);
 
 /* Inline, over a proved function. Writes a record's shortest form: its octets are the first `count` of the buffer, at most
@@ -571,7 +572,8 @@ uint8_t aoc_phase_of(const aoc_account *account);
  * asked for, 1 S, 2 D, 4 E added up; the identifiers of S, D and E; how many of the octets are the event's. */
 enum { AOC_ROW_NUMBERS = 6 };
 
-/* Inline. The row of an event that has so many octets. */
+/* Inline. The row of an event that has so many octets: at most 65,535, which a longer length must not be cut down to. An event of
+ * more, which aoc_component refuses, can stand in no list. */
 static inline void aoc_row_of(aoc_event event, uint16_t count, uint16_t *row);
 
 /* Why a call has no price. */

@@ -1,6 +1,7 @@
 #!/bin/sh
 # The pages say what the tree has: what each crate stands on, the lines of each file of definitions, which of them are to be believed,
-# the exports, the sizes, the must-fail edits, the theorems, the names in backticks and their files, what is quoted of definitions, the links.
+# the exports, the sizes, the must-fail edits, the theorems, the names in backticks and their files, what is quoted of definitions, what
+# public statements cite, the landings' notes, the links.
 cd "$(dirname "$0")/.." || exit 2
 exec python3 - <<'PYTHON'
 import glob
@@ -148,6 +149,54 @@ for line in text("docs/READING-01.md").splitlines():
             for piece in re.split(r" ?\.\. ?", quoted.replace("\\|", "|")):
                 if piece not in specs:
                     tell("docs/READING-01.md", f"no definition has {piece}")
+
+# ---- a name after a short name in READING-01 stands in the file that the short name is said to be
+def shorts(line):
+    """The short names that a line gives: **A**, **B** are `crate/specs/..`, or **A** is `crate/specs/A.antt`."""
+    for names, path in re.findall(r"((?:\*\*\w+\*\*(?:, )?)+) (?:is|are) `([a-z_]+/specs/[\w.]+)`", line):
+        for name in re.findall(r"\w+", names):
+            yield name, path if path.endswith(".antt") else path.replace("..", f"{name}.antt")
+
+
+general, own = {}, {}
+for line in text("docs/READING-01.md").splitlines():
+    if line.startswith("## "):
+        own = {}
+    elif line.startswith("Short names: "):
+        general = dict(shorts(line))
+    else:
+        own.update(shorts(line))
+    for piece in re.split(r"; |, (?=[A-Z]\w* `)", re.sub(r" \([^)]*\)", "", line.split(" | ")[1])) if line.startswith("| ") else []:
+        at = re.match(r"(\w+) `", piece)
+        path = {**general, **own}.get(at[1]) if at else None
+        for name in re.findall(r"`([^\W\d][\w·-]*)", piece) if path else []:
+            if not os.path.exists("crates/" + path) or not re.search(rf"(?m)^ *(?:(?:pub|abbrev|unfoldable|data|record|struct) )*{re.escape(name)}(?![\w·-])", text("crates/" + path)):
+                tell("docs/READING-01.md", f"no {name} in {path}")
+
+# ---- a public function has no `requires`, and its `ensures` cites no definition that only helps
+public, crate = {"aoc": None}, None
+for row in text(ARCHITECTURE).split("## What is public")[1].split("\n## ")[0].splitlines():
+    for name in re.findall(r"`([\w:]+)`", row.split("|")[1]) if row.startswith("| `") else []:
+        crate = name.split("::")[0] if "::" in name else crate
+        public.setdefault(crate, set()).add(name.split("::")[-1])
+for crate, functions in public.items():
+    cited = re.findall(r"ghost use Rattle·([a-z_]+)(?:·specs)?\.specs\.([A-Za-z]+)(?:\.[A-Za-z]+)?\.\{([^}]*)\}", code[crate])
+    stand = {name.strip(): f"{of}/specs/{file}.antt" for of, file, names in cited for name in names.split(",")}
+    for head in re.finditer(r"pub (?:extern \"C\" )?fn (\w+)\((?:.|\n)*?\n\s*\{\n", code[crate]):
+        if functions is not None and head[1] not in functions:
+            continue
+        if "requires" in head[0]:
+            tell(ARCHITECTURE, f"{crate}::{head[1]} is public and has a requires")
+        for name in sorted(set(re.findall(r"[^\W\d][\w·-]*", " ".join(re.findall(r"ensures[^\n]*", head[0]))))):
+            if stand.get(name) in helping:
+                tell(ARCHITECTURE, f"{crate}::{head[1]} is public and cites {name} of {stand[name]}, which is not to be believed")
+
+# ---- a landing's note is short, and gives the time of the check before and after
+for page in sorted(glob.glob("docs/landings/*.md")):
+    if not re.search(r"(?m)^Check: [0-9.,]+ s before, [0-9.,]+ s after", text(page)):
+        tell(page, "no line 'Check: N s before, M s after'")
+    if len(text(page).split()) > 500:
+        tell(page, f"{len(text(page).split())} words, 500 at most")
 
 # ---- links, and files that are named by their path
 for page in pages + sorted(glob.glob("docs/landings/*.md")):

@@ -1,6 +1,5 @@
-pub mod Lent
 pub mod Walk
 pub mod Passed
-pub mod Moves
+pub mod Alone
 pub mod Readers
 pub mod Boards

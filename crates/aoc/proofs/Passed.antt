@@ -62,44 +62,44 @@ abbrev component-function : Fn
 component-function = passing 2 octetsTy E.Laws.mir (seq (call maker.Symbol.name [] (place 3 [])) (passed 3 2))
 
 -- what is promised of an event is promised of an equal one
-retold : {M : Type 1} (𝓤 : URA M) (h : Account) (e e′ : Event) (octets : List ℕ) (t : Stepped) → e ≡ e′ → ent 𝓤 (fact 𝓤 (Took h e octets t)) (fact 𝓤 (Took h e′ octets t))
+pub retold : {M : Type 1} (𝓤 : URA M) (h : Account) (e e′ : Event) (octets : List ℕ) (t : Stepped) → e ≡ e′ → ent 𝓤 (fact 𝓤 (Took h e octets t)) (fact 𝓤 (Took h e′ octets t))
 retold 𝓤 h e e′ octets t q = subst (λ u. ent 𝓤 (fact 𝓤 (Took h e octets t)) (fact 𝓤 (Took h u octets t))) q (id⊢ 𝓤 _)
 
 module _ {M : Type 1} (𝓤 : URA M) (H : Heap 𝓤) (A : Atoms 𝓤) (W : Given 𝓤 H A) (at-mem : Memory → SProp 𝓤) (run : Routine → Fun 𝓤) where
   abbrev Maker : Contract 𝓤
   Maker = tripleOf 𝓤 H A maker.signature (maker.spec 𝓤 H A at-mem run)
 
-  abbrev Callee : Contract 𝓤
+  abbrev pub Callee : Contract 𝓤
   Callee = tripleOf 𝓤 H A callee.signature (callee.spec 𝓤 H A at-mem run)
 
   module _ (κ κ′ : Lft) (q q′ : Share) (a : RefT Account) (s : RefT (List ℕ)) where
-    abbrev vP : Val
+    abbrev pub vP : Val
     vP = vptr (a .ptr .0) (a .ptr .1)
 
     abbrev vS : Val
     vS = sliceVal (s .ptr) (length (s .now))
 
-    abbrev tokens : Item 𝓤
+    abbrev pub tokens : Item 𝓤
     tokens = ‵ (flft κ q) ⊛ ‵ (flft κ′ q′) ⊛ ‵ ftrue
 
     module _ (ev : Event) (v : Val) where
       abbrev x : RefT Account × (Event × (RefT (List ℕ) × Unit {0}))
       x = (a, (ev, (s, tt)))
 
-      abbrev handed : Item 𝓤
+      abbrev pub handed : Item 𝓤
       handed = ‵ (owns (MutRef (named 0) κ T.the-row ∷ E.the-row ∷ ShrSlice (named 1) κ′ u8 ∷ []) x (vP ∷ [], (v ∷ [], (vS ∷ [], tt))))
 
-      abbrev to-callee : Callee .Ghost
+      abbrev pub to-callee : Callee .Ghost
       to-callee = (((κ, (κ′, tt)), (q, (q′, tt)), tt, x, (vP ∷ [], (v ∷ [], (vS ∷ [], tt)))), tt)
 
-      goes-in : ent 𝓤 (⋆ 𝓤 H A (tokens ∷ handed ∷ [])) (Callee .pre to-callee)
+      pub goes-in : ent 𝓤 (⋆ 𝓤 H A (tokens ∷ handed ∷ [])) (Callee .pre to-callee)
       goes-in = qed W (tokens ∷ handed ∷ []) ∵ join ! $ frame ! $ done !
 
       -- what is said of the last values, and the clauses at them
-      abbrev came-back : Outcome → Lasts callee.ended (κ, (κ′, tt)) x → Item 𝓤
+      abbrev pub came-back : Outcome → Lasts callee.ended (κ, (κ′, tt)) x → Item 𝓤
       came-back r ws = ‵ (lasts callee.ended (κ, (κ′, tt)) x ws) ⊛ raw (callee.clauses 𝓤 H A at-mem run (κ, (κ′, tt)) x .ensures tt r (atExit callee.ended (κ, (κ′, tt)) x ws))
 
-      abbrev came : Val → Item 𝓤
+      abbrev pub came : Val → Item 𝓤
       came u = later (some (λ (r : Outcome). (tokens ⊛ ‵ (O.the-row .own r (u ∷ []))) ⊛ some (λ (ws : Lasts callee.ended (κ, (κ′, tt)) x). came-back r ws)))
 
       abbrev step-ends : Val → SProp 𝓤
@@ -179,10 +179,10 @@ module _ {M : Type 1} (𝓤 : URA M) (H : Heap 𝓤) (A : Atoms 𝓤) (W : Given
           keep ! (0 ∷ 1 ∷ 2 ∷ []) $ by ! (component-exits ev v e r u ws))))))))))))))
 
 module _ {M : Type 1} (𝓤 : URA M) (H : Heap 𝓤) (𝓜 : Model 𝓤 H) (𝓖 : GhostRules 𝓤 H) (𝓡 : Running 𝓤 H 𝓜) (γ : Env) (calls : γ callee.Symbol.name ≡ callee.Symbol.routine) where
-  abbrev G : Given 𝓤 H (𝓖 .A)
+  abbrev pub G : Given 𝓤 H (𝓖 .A)
   G = givenOf 𝓤 H 𝓜 𝓖
 
-  known-step : Triple 𝓤 (tables 𝓤 H 𝓜 𝓡 γ .C callee.Symbol.name) (Callee 𝓤 H (𝓖 .A) G (𝓜 .mem) (𝓡 .run))
+  pub known-step : Triple 𝓤 (tables 𝓤 H 𝓜 𝓡 γ .C callee.Symbol.name) (Callee 𝓤 H (𝓖 .A) G (𝓜 .mem) (𝓡 .run))
   known-step = cited 𝓤 H (Callee 𝓤 H (𝓖 .A) G (𝓜 .mem) (𝓡 .run)) 𝓜 𝓡 γ callee.Symbol.name callee.Symbol.routine calls (callee.Met.met 𝓤 H 𝓜 𝓖 𝓡)
 
   goes : AllGo 𝓤 H (𝓖 .A) G 2 (component.signature .params) (component.ended .kept) component-stays

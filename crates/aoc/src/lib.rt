@@ -24,7 +24,6 @@ ghost use Rattle.phases.specs.Phases.{Given, event, Connect, Clear, Released, C
 ghost use Rattle.account.specs.History.{judged, accountBy, currentRate, running, closing, marks, phase, requests, stepped, steppedBy, fresh, pendingOf};
 ghost use Rattle.outcomes.specs.Status.{requestsOf};
 ghost use Rattle.account.specs.Step.{steppedOf, closingOf, marksOf};
-ghost use Rattle.phases.specs.Parts.{movingOf};
 ghost use Rattle.aoc.specs.Events.{plainEvent, setupEvent, Took};
 ghost use Rattle.aoc.specs.Reading.{ReadsOff};
 ghost use Rattle.price.specs.Price.{priceOf};
@@ -178,36 +177,30 @@ pub extern "C" fn aoc_step(
     step::step_in(a, e, octets)
 }
 
-// The events, one function for each. An event without octets is taken by its status, which alone it changes.
+// The events, one function for each: it makes the event and hands it to the step, with no octets where it has none.
 
-fn set_up(t: phases::Status, asked: values::Services, ids: values::Three) -> phases::Moving
-    ensures { λ r. ⌜ r ≡ movingOf t (setupEvent asked ids) ⌝ }
+fn setup_event(asked: values::Services, ids: values::Three) -> phases::Event
+    ensures { λ r. ⌜ r ≡ setupEvent asked ids ⌝ }
 {
-    phases::phase_step(
-        t,
-        phases::Event {
-            kind: 1,
-            asked,
-            s: ids.s,
-            d: ids.d,
-            e: ids.e,
-        },
-    )
+    phases::Event {
+        kind: 1,
+        asked,
+        s: ids.s,
+        d: ids.d,
+        e: ids.e,
+    }
 }
 
-fn moved(t: phases::Status, kind: u8) -> phases::Moving
-    ensures { λ r. ⌜ r ≡ movingOf t (plainEvent kind) ⌝ }
+fn plain_event(kind: u8) -> phases::Event
+    ensures { λ r. ⌜ r ≡ plainEvent kind ⌝ }
 {
-    phases::phase_step(
-        t,
-        phases::Event {
-            kind,
-            asked: values::Services::EMPTY,
-            s: 0,
-            d: 0,
-            e: 0,
-        },
-    )
+    phases::Event {
+        kind,
+        asked: values::Services::EMPTY,
+        s: 0,
+        d: 0,
+        e: 0,
+    }
 }
 
 fn component_event() -> phases::Event
@@ -230,54 +223,48 @@ pub extern "C" fn aoc_setup(
 ) -> phases::Outcome
     ensures { λ r. ⌜ Took (now (a .entry)) (setupEvent asked ids) [] (stepped r (now (a .exit))) ⌝ }
 {
-    let m = set_up(a.status, asked, ids);
-    a.status = m.status;
-    m.outcome
+    let e = setup_event(asked, ids);
+    step::step_in(a, e, &[])
 }
 
 #[no_mangle]
 pub extern "C" fn aoc_connect(a: &mut account::Account) -> phases::Outcome
     ensures { λ r. ⌜ Took (now (a .entry)) (plainEvent Connect) [] (stepped r (now (a .exit))) ⌝ }
 {
-    let m = moved(a.status, 2);
-    a.status = m.status;
-    m.outcome
+    let e = plain_event(2);
+    step::step_in(a, e, &[])
 }
 
 #[no_mangle]
 pub extern "C" fn aoc_clear(a: &mut account::Account) -> phases::Outcome
     ensures { λ r. ⌜ Took (now (a .entry)) (plainEvent Clear) [] (stepped r (now (a .exit))) ⌝ }
 {
-    let m = moved(a.status, 3);
-    a.status = m.status;
-    m.outcome
+    let e = plain_event(3);
+    step::step_in(a, e, &[])
 }
 
 #[no_mangle]
 pub extern "C" fn aoc_released(a: &mut account::Account) -> phases::Outcome
     ensures { λ r. ⌜ Took (now (a .entry)) (plainEvent Released) [] (stepped r (now (a .exit))) ⌝ }
 {
-    let m = moved(a.status, 4);
-    a.status = m.status;
-    m.outcome
+    let e = plain_event(4);
+    step::step_in(a, e, &[])
 }
 
 #[no_mangle]
 pub extern "C" fn aoc_suspend(a: &mut account::Account) -> phases::Outcome
     ensures { λ r. ⌜ Took (now (a .entry)) (plainEvent Suspend) [] (stepped r (now (a .exit))) ⌝ }
 {
-    let m = moved(a.status, 6);
-    a.status = m.status;
-    m.outcome
+    let e = plain_event(6);
+    step::step_in(a, e, &[])
 }
 
 #[no_mangle]
 pub extern "C" fn aoc_resume(a: &mut account::Account) -> phases::Outcome
     ensures { λ r. ⌜ Took (now (a .entry)) (plainEvent Resume) [] (stepped r (now (a .exit))) ⌝ }
 {
-    let m = moved(a.status, 7);
-    a.status = m.status;
-    m.outcome
+    let e = plain_event(7);
+    step::step_in(a, e, &[])
 }
 
 #[no_mangle]

@@ -1,3 +1,4 @@
 -- What is proved of one pass over an element.
 pub mod Order
 pub mod Through
+pub mod One

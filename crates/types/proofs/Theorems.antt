@@ -1,9 +1,9 @@
 -- What reading octets answers, and what is written of a record: the theorems about whole components.
-use Rattle.prelude.proofs.Prelude.{ℕ, _+_, _≤_, _<_, _≡_, refl, sym, ap, _∙_, List, Bool, true, false, _⊎_, inl, inr, _↔_, arith, length, ltb, ltb-true, ltb-false, lt-leb, le-leb}
+use Rattle.prelude.proofs.Prelude.{ℕ, _+_, _≤_, _<_, _≡_, refl, sym, ap, _∙_, List, Bool, true, false, _⊎_, inl, inr, _↔_, arith, length, ltb, leb, ltb-true, ltb-false, leb-true, leb-false}
 use Rattle.coding.{specs.Reader.Ans, specs.Reader.Fault, specs.Reader.Ans.got, specs.Reader.Ans.halt, specs.Reader.Fault.named, proofs.Laws.Octets, proofs.Whole.Encodes}
-use Rattle.coding.{proofs.Whole.one-meaning, proofs.Whole.means-itself, proofs.Frames.frames-ends}
+use Rattle.coding.{proofs.Basic.by-test, proofs.Whole.one-meaning, proofs.Whole.means-itself, proofs.Frames.frames-ends}
 use Rattle.types.specs.{declared.Record.Record, declared.Answer.Answer, Frames.outside, Frames.numberOf, Frames.noRecord, Frames.frame, Frames.component, Frames.readWhole}
-use Rattle.types.specs.{Frames.accepted, Frames.refusedAt, Frames.refused, Frames.answered, Frames.readOf}
+use Rattle.types.specs.{Frames.accepted, Frames.refusedAt, Frames.refused, Frames.offsetOf, Frames.answered, Frames.readOf}
 use Rattle.types.proofs.{FrameLaws.componentLaws, Places.Ends, Faults.Told, Faults.whole-told}
 use Rattle.coding.proofs.Whole as Whole
 use Rattle.types.proofs.Family as Family
@@ -26,10 +26,18 @@ pub data Answers (s : List ℕ) : Type 0 where
   framed : (n : ℕ) → 1 ≤ n → n ≤ 8 → readOf s ≡ refused n → Answers s
   argued : (n p : ℕ) → 40 ≤ n → n ≤ 45 → 8 ≤ p → p ≤ length s → length s ≤ 254 → readOf s ≡ refusedAt n p → Answers s
 
+-- the place is shown with 40 to 45 alone
+unplaced : (n p : ℕ) → n ≤ 8 → offsetOf n p ≡ 0
+unplaced n p l = by-test (λ x. x ≡ 0) (leb _ n) p 0 (λ q. absurd (omega (arith, l, leb-true _ n q))) (λ q. refl)
+
+placed : (n p : ℕ) → 40 ≤ n → offsetOf n p ≡ p
+placed n p l = by-test (λ x. x ≡ p) (leb _ n) p 0 (λ q. refl) (λ q. absurd (omega (arith, l, leb-false _ n q)))
+
 by-fault : (s : List ℕ) (w : Fault) (p : ℕ) → Told w p → p ≤ length s → readWhole s ≡ halt w p → Answers s
 unfolding readOf
-by-fault s w p (inl l) i e = framed (numberOf w) (l .0) (l .1) (rw (e, lt-leb 40 (numberOf w) (omega (arith, l .1))))
-by-fault s w p (inr h) i e = argued (numberOf w) p (h .0) (h .1) (h .2) i (short (ltb 254 (length s)) refl) (rw (e, le-leb 40 (numberOf w) (h .0)))
+by-fault s w p (inl l) i e = framed (numberOf w) (l .0) (l .1) (ap answered e ∙ ap (refusedAt (numberOf w)) (unplaced (numberOf w) p (l .1)))
+by-fault s w p (inr h) i e = argued (numberOf w) p (h .0) (h .1) (h .2) i (short (ltb 254 (length s)) refl)
+    (ap answered e ∙ ap (refusedAt (numberOf w)) (placed (numberOf w) p (h .0)))
   where
     short : (t : Bool) → ltb 254 (length s) ≡ t → length s ≤ 254
     short true q = absurd (omega (arith, h .0, ap (λ a. answered a .number) (sym e ∙ read-long s (ltb-true 254 (length s) q))))

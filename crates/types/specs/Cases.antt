@@ -1,6 +1,6 @@
 -- Octets to try: what reading them answers, the answer's amount in thousandths, and what is written of it. One statement over one table.
 use mathlib.Core.Bool.{cond}
-use Prim.Native.Nat.{ℕ, zero, suc, _*_, _^_}
+use Prim.Native.Nat.{ℕ, zero, suc}
 use mathlib.Core.Path.{_≡_, refl}
 use mathlib.Core.List.{List, [], _∷_, map}
 use lib.ListN.{replicate}
@@ -218,22 +218,19 @@ cases =
     ∷ noAt 41 80 ten-rates-over
     ∷ []
 
--- ---- the same table by the definitions
+-- ---- the same table by the definitions. The column of thousandths is held in `same_final`, where they are defined
 
 unfoldable pub answerOf : List ℕ → Answer
 unfolding after tagged neither choice extent numberedAt endless marker turn searched findEnd spanned lengthAt opened blamed closed constructed enteredAny part mapped narrowed ruled primitive optional entries listOf numberFrom valueOf negative shortest natural every text null oneOf prim cons nothing pair alt over maybe some·more leafOver leads barring marked sort frames shape canonical pad padded number string nullLeaf integer identifier listing listed only given rows table scaled currencyLeaf currency money digitsLeaf identified publicParty plainParty party unassociated association unit duration flatRate volume coded plainRate price rate sign inMoney inUnits during subtotals ending settled finals rates arrangement available chargeOf value carrying request argument invoke returnResult failed returnError caller problem problems reject frame component readWhole readOf
 answerOf s = readOf s
-
-unfoldable pub amountOf : Answer → ℕ
-amountOf a = let m : Money = a .value .charge .figure .money in m .number * 10 ^ m .multiplier
 
 unfoldable pub writtenOf : Answer → List ℕ
 unfolding lengthOctets digits width oneOf prim cons nothing pair alt over maybe some·more leafOver leads barring marked sort frames shape canonical pad padded number string nullLeaf shortest shorten identifier listed only given rows table scaled currencyLeaf currency money digitsLeaf identified publicParty plainParty party unassociated association unit duration flatRate volume coded plainRate price rate sign inMoney inUnits during subtotals ending settled finals rates arrangement available chargeOf value carrying request argument invoke returnResult failed returnError caller problem problems reject frame component
 writtenOf a = cond (eqb (a .number) 0) (component .write (a .value)) []
 
 unfoldable pub tried : Case → Case
-tried c = let a : Answer = answerOf (c .octets) in record { octets = c .octets; answer = a; thousandths = amountOf a; written = writtenOf a }
+tried c = let a : Answer = answerOf (c .octets) in record { octets = c .octets; answer = a; thousandths = c .thousandths; written = writtenOf a }
 
 pub cases-right : map tried cases ≡ cases
-unfolding cases tried answerOf amountOf writtenOf c1 c2 c3 c3-long c4 c5 c6 c6-ending c7 c8 c8-eleven c1-endless c3-endless c7-endless c7-mixed no-marker one-marker over-marker plain-endless inner-cut missing-argument missing-amount missing-marked twice-total longer-length beyond-inner beyond-outer empty-currency units-padded units-below freeRates eleven-rates ten-rates-over
+unfolding cases tried answerOf writtenOf c1 c2 c3 c3-long c4 c5 c6 c6-ending c7 c8 c8-eleven c1-endless c3-endless c7-endless c7-mixed no-marker one-marker over-marker plain-endless inner-cut missing-argument missing-amount missing-marked twice-total longer-length beyond-inner beyond-outer empty-currency units-padded units-below freeRates eleven-rates ten-rates-over
 cases-right = refl

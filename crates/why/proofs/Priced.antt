@@ -5,7 +5,7 @@ use Rattle.phases.{specs.Phases.Ended, specs.Phases.D, specs.Phases.E, specs.Ph
 use Rattle.outcomes.{specs.Outcome.firstFinal, specs.Outcome.judge, specs.Outcome.chargeIn, specs.Outcome.its, proofs.Judging.only-final}
 use Rattle.account.specs.History.{Judged, any, known, judged, phase, hasFinal, final, closing}
 use Rattle.events.{specs.Earliest.orElse, specs.Earliest.earliest, proofs.Earliest.at-most}
-use Rattle.why.specs.{declared.Reason.Reason, Reasons.ifFound, Reasons.seenBy, Reasons.explained, Reasons.reasonOf}
+use Rattle.why.specs.{declared.Reason.Reason, Reasons.ifFound, Reasons.explained, Reasons.reasonOf, Seeing.seenBy}
 
 -- the charge of event n
 abbrev pub chargeAt : ℕ → List Judged → Charge

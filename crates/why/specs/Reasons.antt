@@ -13,7 +13,6 @@ use Rattle.account.specs.History.{Judged, judged, phase}
 use Rattle.events.specs.Events.{addsUp, eventsOf}
 use Rattle.events.specs.Earliest.{within, earliest}
 use Rattle.why.specs.declared.Reason.{Reason}
-use Rattle.why.specs.declared.Seen.{Seen}
 
 -- ---- which events count
 
@@ -42,33 +41,19 @@ because n event = record { number = 0; reason = n; event = event }
 abbrev pub ifFound : ℕ → ℕ → Reason → Reason
 ifFound n event rest = cond (eqb event 0) rest (because n event)
 
--- the number of the earliest event of each sort, or 0
-abbrev pub seenBy : List Judged → Seen
-seenBy h = record {
-  efinal = earliest (λ j. its E 22 (j .outcome)) h;
-  dfinal = earliest (λ j. its D 22 (j .outcome)) h;
-  figure = earliest (λ j. passedOver (j .outcome) (j .octets)) h;
-  absent = earliest (λ j. toldAbsent (j .outcome)) h;
-  running = earliest (λ j. was 21 (j .outcome)) h;
-  refused = earliest (λ j. unread (j .outcome)) h;
-}
-
 -- 1 still open; 2 there is a closing figure: E's only 22, else D's; 3 a figure was ignored or out of phase; 4 told not available;
 -- 5 only running figures; 6 a component was refused; 7 nothing usable came in time
-abbrev pub concluded : ℕ → Seen → Reason
-concluded phase s =
-    cond (eqb phase Ended)
-    (ifFound 2 (s .efinal)
-    (ifFound 2 (s .dfinal)
-    (ifFound 3 (s .figure)
-    (ifFound 4 (s .absent)
-    (ifFound 5 (s .running)
-    (ifFound 6 (s .refused)
+unfoldable pub explained : List Judged → Reason
+explained h =
+    cond (eqb (phase h) Ended)
+    (ifFound 2 (earliest (λ j. its E 22 (j .outcome)) h)
+    (ifFound 2 (earliest (λ j. its D 22 (j .outcome)) h)
+    (ifFound 3 (earliest (λ j. passedOver (j .outcome) (j .octets)) h)
+    (ifFound 4 (earliest (λ j. toldAbsent (j .outcome)) h)
+    (ifFound 5 (earliest (λ j. was 21 (j .outcome)) h)
+    (ifFound 6 (earliest (λ j. unread (j .outcome)) h)
     (because 7 0)))))))
     (because 1 0)
-
-unfoldable pub explained : List Judged → Reason
-explained h = concluded (phase h) (seenBy h)
 
 -- of a list of events as they came
 unfoldable pub reasonOf : List Given → Reason

@@ -10,8 +10,8 @@ ghost use lib.ListN.{length};
 ghost use Rattle.types.specs.Frames.{readOf};
 ghost use Rattle.outcomes.specs.Outcome.{its};
 ghost use Rattle.events.specs.Events.{addsUp, eventsOf};
-ghost use Rattle.why.specs.Reasons.{isFigure, passedOver, toldAbsent, unread, because, ifFound, concluded, reasonOf, whyOf};
-ghost use Rattle.why.specs.Seeing.{seenNext, turnOf};
+ghost use Rattle.why.specs.Reasons.{isFigure, passedOver, toldAbsent, unread, because, ifFound, reasonOf, whyOf};
+ghost use Rattle.why.specs.Seeing.{concluded, seenNext, turnOf};
 
 // number: 48 for slices that are no event list, and then the rest is 0. reason: 1 to 7. event: its number, from 1; 0 for none.
 #[repr(C)]

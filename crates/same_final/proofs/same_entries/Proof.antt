@@ -1,6 +1,6 @@
 use Rattle.prelude.proofs.Prelude.{ℕ, _+_, _≤_, _-_, _≡_, refl, sym, Bool, true, false, arith, needs}
 use Rattle.types.specs.{Entries.unitAt, Entries.sameUnits, declared.Entries.Entries}
-use Rattle.same_final.specs.Same.{each, equalUnits}
+use Rattle.same_final.specs.Same.{each, upTo, equalUnits}
 use Rattle.same_final.proofs.{Each.each-fails, Each.each-more, same_entries.Statement.statement}
 use Rattle.coding.proofs.Tests.{tests}
 use Rattle.same_final.proofs.same_entries.Tie as tie
@@ -22,7 +22,9 @@ module _ (turn : tie.In-loop Inv-loop μ-loop) where
   stops : same (turn .before .loop .i) ≡ false → false ≡ equalUnits (turn .before .before .before .args .t1) (turn .before .before .before .args .t2)
       (turn .before .before .before .args .count)
   unfolding equalUnits
-  stops f = sym (rw (← turn .before .before .places .ensures .0) (each-fails _ same _ (turn .loop-test .taken) f))
+  stops f =
+      let all : upTo 32 (turn .before .before .before .args .count) ≡ turn .before .before .places .result = sym (turn .before .before .places .ensures .0) in
+      sym (rw all (each-fails _ same _ (turn .loop-test .taken) f))
 
   goes-on : same (turn .before .loop .i) ≡ true → each (turn .before .loop .i + 1) same ≡ true
   goes-on = each-more _ same (turn .before .loop .inv .1)
