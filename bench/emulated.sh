@@ -6,6 +6,7 @@ kit=$(dirname "$(dirname "$(rt doc)")")/on/$(uname -m)/toolchain
 [ -x "$kit/bin/qemu-x86_64" ] || { echo "bench: no emulator here: bench/run.sh counts the archive itself"; exit 1; }
 work=$(mktemp -d) || exit 2
 trap 'rm -rf "$work"' EXIT
+export AOC_FOR=x86_64
 { sh tools/archive && sh tools/cc "$work/count" bench/emulated.c -Ibench >"$work/log" 2>&1; } || { cat "$work/log"; exit 1; }
 job=0
 for name in 'component read' 'component read and written' 'element of eight components, gone through' 'event of an account'; do

@@ -3,8 +3,8 @@
 # sh bench/run.sh write    the same, and puts the tables into docs/SPEED.md, between their marks
 # Instructions are callgrind's; starting up does not count. Times are the best of many short rounds, both sides by turns in one run,
 # so that other work on the machine falls between them.
-# The archive is for x86-64. On another processor its own LLVM module, and the line program's, are compiled for that one
-# (bench/native.sh), so that both sides run as they are and not under an emulator.
+# The archive is that of the machine's own processor. On another than x86-64 the line program's module is compiled for it too
+# (tools/native), so that both sides run as they are and not under an emulator.
 # COUNT: items counted (default 1440; a multiple of 72). TURNS, ROUNDS, ITEMS: so many turns (40) of so many rounds (60) of so many
 # items (4000) are timed; TURNS=0: no times.
 cd "$(dirname "$0")/.." || exit 2
@@ -16,14 +16,11 @@ command -v valgrind >/dev/null || { echo "bench: valgrind is not installed"; exi
 # ---- the programs
 
 sh tools/archive && sh tools/prove lines && "$cc" -O2 bench/echo.c -o "$work/echo" && "$cc" -O2 bench/spent.c -o "$work/spent" || exit 1
-if [ "$(uname -m)" = x86_64 ]; then
-    built="the archive itself" lines=target/bin/lines
-    sh tools/cc "$work/ours" bench/bench.c bench/ours.c || exit 1
-else
+sh tools/cc "$work/ours" bench/bench.c bench/ours.c || exit 1
+built="the archive itself" lines=target/bin/lines
+if [ "$(uname -m)" != x86_64 ]; then
     built="the archive's own module compiled for this processor" lines=$work/lines
-    sh bench/native.sh crate aoc "$work/aoc.o" && sh bench/native.sh c bench/ours.c "$work/side.o" &&
-        "$cc" -O2 bench/bench.c "$work/side.o" "$work/aoc.o" -o "$work/ours" &&
-        sh bench/native.sh crate lines "$work/lines.o" && "$cc" "$work/lines.o" -o "$lines" || exit 1
+    sh tools/native "$(uname -m)" lines "$work/lines.o" && "$cc" "$work/lines.o" -o "$lines" || exit 1
 fi
 sides=ours
 if "$cc" -O2 bench/bench.c bench/libpri.c -o "$work/libpri" -lpri 2>"$work/log"; then

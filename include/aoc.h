@@ -1,4 +1,5 @@
-/* Advice of Charge (ETS 300 182-1) for a host in C or C++: the library libaoc.a, for x86-64.
+/* Advice of Charge (ETS 300 182-1) for a host in C or C++: the library libaoc.a, for x86-64. The library for aarch64 is the same
+ * proved module under another back end: tested, and not the proof's target (docs/TRUST.md).
  *
  * A function marked "Proved." is an export of the library. It is proved to return, for whatever octets, records and accounts
  * it is handed, the one answer that its words fix (docs/CONTRACTS.md). It allocates nothing, keeps nothing between calls and
@@ -19,11 +20,17 @@
 #include <stdint.h>
 #include <string.h>
 
-#define AOC_VERSION 20400       /* 2.4.0: ten thousand times the first number, a hundred times the second, the third */
-#define AOC_VERSION_TEXT "2.4.0"
+#define AOC_VERSION 20500       /* 2.5.0: ten thousand times the first number, a hundred times the second, the third */
+#define AOC_VERSION_TEXT "2.5.0"
 
 #ifdef __cplusplus
 extern "C" {
+#endif
+
+/* An inline function is compiled into each file that includes the header. One C file of the installed library has the macro
+ * empty, and so has each of these functions under its own name, for languages that see the linker's names alone. */
+#ifndef AOC_INLINE
+#define AOC_INLINE static inline
 #endif
 
 /* ------------------------------------------------------------------ numbers */
@@ -107,44 +114,59 @@ typedef enum { AOC_OUTCOMES(AOC_ROW_NAME) } aoc_outcome_number;
 typedef enum { AOC_PHASES(AOC_ROW_NAME) } aoc_phase;
 
 /* An event's `kind`. */
-typedef enum {
-    AOC_EVENT_SETUP = 1,
-    AOC_EVENT_CONNECT = 2,
-    AOC_EVENT_CLEAR = 3,
-    AOC_EVENT_RELEASED = 4,
-    AOC_EVENT_COMPONENT = 5,
-    AOC_EVENT_SUSPEND = 6,
-    AOC_EVENT_RESUME = 7
-} aoc_event_kind;
+#define AOC_EVENTS(ROW)                                                                                \
+    ROW(AOC_EVENT_SETUP, 1, "set-up")                                                                  \
+    ROW(AOC_EVENT_CONNECT, 2, "connect")                                                               \
+    ROW(AOC_EVENT_CLEAR, 3, "clear")                                                                   \
+    ROW(AOC_EVENT_RELEASED, 4, "released")                                                             \
+    ROW(AOC_EVENT_COMPONENT, 5, "component")                                                           \
+    ROW(AOC_EVENT_SUSPEND, 6, "suspend")                                                               \
+    ROW(AOC_EVENT_RESUME, 7, "resume")
 
-/* Services: charges at set-up, during the call, at its end. */
-typedef enum { AOC_SERVICE_NONE = 0, AOC_SERVICE_S = 1, AOC_SERVICE_D = 2, AOC_SERVICE_E = 3 } aoc_service;
+typedef enum { AOC_EVENTS(AOC_ROW_NAME) } aoc_event_kind;
 
-/* A record's `frame`. */
-typedef enum { AOC_FRAME_INVOKE = 1, AOC_FRAME_RESULT = 2, AOC_FRAME_ERROR = 3, AOC_FRAME_REJECT = 4 } aoc_frame;
+/* Services. */
+#define AOC_SERVICES(ROW)                                                                              \
+    ROW(AOC_SERVICE_NONE, 0, "no service")                                                             \
+    ROW(AOC_SERVICE_S, 1, "charges at set-up")                                                         \
+    ROW(AOC_SERVICE_D, 2, "charges during the call")                                                   \
+    ROW(AOC_SERVICE_E, 3, "charges at the end")
+
+typedef enum { AOC_SERVICES(AOC_ROW_NAME) } aoc_service;
+
+/* A record's `frame`. The words of frames, operations and errors are the names of ETS 300 182-1 and of the standards it cites. */
+#define AOC_FRAMES(ROW)                                                                                \
+    ROW(AOC_FRAME_INVOKE, 1, "invoke")                                                                 \
+    ROW(AOC_FRAME_RESULT, 2, "returnResult")                                                           \
+    ROW(AOC_FRAME_ERROR, 3, "returnError")                                                             \
+    ROW(AOC_FRAME_REJECT, 4, "reject")
+
+typedef enum { AOC_FRAMES(AOC_ROW_NAME) } aoc_frame;
 
 /* A record's `operation`. */
-typedef enum {
-    AOC_OPERATION_CHARGING_REQUEST = 30,
-    AOC_OPERATION_S_CURRENCY = 31,
-    AOC_OPERATION_S_SPECIAL = 32,
-    AOC_OPERATION_D_CURRENCY = 33,
-    AOC_OPERATION_D_UNITS = 34,
-    AOC_OPERATION_E_CURRENCY = 35,
-    AOC_OPERATION_E_UNITS = 36
-} aoc_operation;
+#define AOC_OPERATIONS(ROW)                                                                            \
+    ROW(AOC_OPERATION_CHARGING_REQUEST, 30, "chargingRequest")                                         \
+    ROW(AOC_OPERATION_S_CURRENCY, 31, "aOCSCurrency")                                                  \
+    ROW(AOC_OPERATION_S_SPECIAL, 32, "aOCSSpecialArr")                                                 \
+    ROW(AOC_OPERATION_D_CURRENCY, 33, "aOCDCurrency")                                                  \
+    ROW(AOC_OPERATION_D_UNITS, 34, "aOCDChargingUnit")                                                 \
+    ROW(AOC_OPERATION_E_CURRENCY, 35, "aOCECurrency")                                                  \
+    ROW(AOC_OPERATION_E_UNITS, 36, "aOCEChargingUnit")
+
+typedef enum { AOC_OPERATIONS(AOC_ROW_NAME) } aoc_operation;
 
 /* What an AOC_OPERATION_CHARGING_REQUEST asks for: the `detail` of its invoke. Not the numbers of the services. */
 typedef enum { AOC_CHARGING_CASE_S = 0, AOC_CHARGING_CASE_D = 1, AOC_CHARGING_CASE_E = 2 } aoc_charging_case;
 
 /* A record's `error`. */
-typedef enum {
-    AOC_ERROR_NOT_SUBSCRIBED = 0,
-    AOC_ERROR_NOT_AVAILABLE = 3,
-    AOC_ERROR_NOT_IMPLEMENTED = 4,
-    AOC_ERROR_INVALID_CALL_STATE = 7,
-    AOC_ERROR_NO_CHARGING_INFO = 26
-} aoc_error;
+#define AOC_ERRORS(ROW)                                                                                \
+    ROW(AOC_ERROR_NOT_SUBSCRIBED, 0, "notSubscribed")                                                  \
+    ROW(AOC_ERROR_NOT_AVAILABLE, 3, "notAvailable")                                                    \
+    ROW(AOC_ERROR_NOT_IMPLEMENTED, 4, "notImplemented")                                                \
+    ROW(AOC_ERROR_INVALID_CALL_STATE, 7, "invalidCallState")                                           \
+    ROW(AOC_ERROR_NO_CHARGING_INFO, 26, "noChargingInfoAvailable")
+
+typedef enum { AOC_ERRORS(AOC_ROW_NAME) } aoc_error;
 
 /* A reject's `problem`, and its `detail` under each of them. */
 typedef enum {
@@ -464,13 +486,13 @@ uint32_t aoc_version(void);
  * With AOC_REFUSED_MISSING the offset is where the enclosing element's contents end, with 41 to 45 the place of the failing
  * element's tag: at least 8, and at most the length. A refusal writes the answer too, zeros for its record: what a refusal leaves
  * untouched is the buffer that a component is written to. */
-static inline aoc_refusal aoc_read(const uint8_t *octets, size_t length, aoc_answer *answer);
+AOC_INLINE aoc_refusal aoc_read(const uint8_t *octets, size_t length, aoc_answer *answer);
 
 /* Inline, over a proved function. Writes a record's shortest form: its octets are the first `count` of the buffer, at most
  * 254, and the others are as they were. Or AOC_REFUSED_BAD_RECORD, AOC_REFUSED_LONG_RECORD, AOC_REFUSED_NO_ROOM, the first
  * that fits, with the whole buffer as it was. A record that was read is never refused AOC_REFUSED_BAD_RECORD or
  * AOC_REFUSED_LONG_RECORD, and what is written reads back as the record. */
-static inline aoc_written aoc_write(const aoc_record *record, uint8_t *buffer, size_t room);
+AOC_INLINE aoc_written aoc_write(const aoc_record *record, uint8_t *buffer, size_t room);
 
 /* Proved. The reject to send for the octets of a component, written as aoc_write writes: for one that is refused and does not
  * begin with A4. Otherwise the count is 0: there is nothing to send. Refusal: AOC_REFUSED_NO_ROOM. */
@@ -484,12 +506,22 @@ aoc_written aoc_reply(const uint8_t *octets, size_t length, uint8_t *buffer, siz
  *
  *     size_t place = AOC_FIRST_PLACE, from = place;
  *     for (; aoc_next(element, length, &place, &answer); from = place) { .. element + from, place - from are its octets .. } */
-static inline bool aoc_next(const uint8_t *octets, size_t length, size_t *place, aoc_answer *answer);
+AOC_INLINE bool aoc_next(const uint8_t *octets, size_t length, size_t *place, aoc_answer *answer);
+
+/* Proved. Writes the Facility element that holds components, laid end to end: 1C, its length, 91 and the octets as they are,
+ * three more than they were. The components may be such as aoc_next goes through, read or refused: aoc_next gives the same ones
+ * back in their order. AOC_REFUSED_BAD_ELEMENT for octets that no element holds: none, over 254, or no components laid end to
+ * end; then AOC_REFUSED_NO_ROOM. A refusal leaves the buffer as it was, and else the rest of it is as it was. */
+aoc_written aoc_write_element(const uint8_t *octets, size_t length, uint8_t *buffer, size_t room);
+
+/* Inline. Writes the request for a service, with its identifier, as aoc_write does: an AOC_OPERATION_CHARGING_REQUEST invoke.
+ * AOC_REFUSED_BAD_RECORD for a number that is no service. */
+AOC_INLINE aoc_written aoc_request(uint8_t service, uint16_t id, uint8_t *buffer, size_t room);
 
 /* ------------------------------------------------------------------ values */
 
 /* Inline. Whether a number is a refusal: of an outcome, `number`; of any other answer, `refusal`. */
-static inline bool aoc_is_refusal(uint32_t number);
+AOC_INLINE bool aoc_is_refusal(uint32_t number);
 
 /* Proved. An amount in thousandths: the number times 1, 10, .. 1,000,000 by its multiplier 0 to 6; 0 for a multiplier over 6.
  * Of an amount that was read it is at most 16,777,215,000,000. */
@@ -514,8 +546,8 @@ typedef struct {
     aoc_money money;
 } aoc_rate_entry;
 
-static inline aoc_unit_entry aoc_unit_at(const aoc_charge *charge, size_t index);
-static inline aoc_rate_entry aoc_rate_at(const aoc_charge *charge, size_t index);
+AOC_INLINE aoc_unit_entry aoc_unit_at(const aoc_charge *charge, size_t index);
+AOC_INLINE aoc_rate_entry aoc_rate_at(const aoc_charge *charge, size_t index);
 
 /* Proved. The identifier one up; after 32,767 comes -32,768. */
 uint16_t aoc_next_identifier(uint16_t id);
@@ -529,6 +561,11 @@ aoc_services aoc_no_services(void);
 aoc_services aoc_with_service(aoc_services set, uint8_t service);
 bool aoc_has_service(aoc_services set, uint8_t service);
 
+/* Inline. The identifier of a service among three; 0 for a number that is no service. What a request for a service asks for, an
+ * aoc_charging_case: not the service's own number. It is 255, with which no record is written, for a number that is no service. */
+AOC_INLINE uint16_t aoc_identifier_of(aoc_identifiers ids, uint8_t service);
+AOC_INLINE uint8_t aoc_case_of(uint8_t service);
+
 /* ------------------------------------------------------------------ one call's account */
 
 /* Proved. The account of a call that has had no event. */
@@ -538,6 +575,10 @@ aoc_account aoc_fresh(void);
  * unread. A refused event (aoc_is_refusal) leaves the account as it was. Of an account that started fresh and went through
  * any list of events, the outcome and all that can be read off are what the specification picks out of that list. */
 aoc_outcome aoc_step(aoc_account *account, aoc_event event, const uint8_t *octets, size_t length);
+
+/* Inline. The event of a kind, with nothing beside it; that of a Setup. */
+AOC_INLINE aoc_event aoc_event_of(uint8_t kind);
+AOC_INLINE aoc_event aoc_event_of_setup(aoc_services asked, aoc_identifiers ids);
 
 /* Proved. The events, one function for each, each as aoc_step takes it. A CONNECT's components are given before aoc_connect, a
  * clearing message's after aoc_clear. A Setup has a request for each service asked for; the identifier of another service is
@@ -574,7 +615,17 @@ enum { AOC_ROW_NUMBERS = 6 };
 
 /* Inline. The row of an event that has so many octets: at most 65,535, which a longer length must not be cut down to. An event of
  * more, which aoc_component refuses, can stand in no list. */
-static inline void aoc_row_of(aoc_event event, uint16_t count, uint16_t *row);
+AOC_INLINE void aoc_row_of(aoc_event event, uint16_t count, uint16_t *row);
+
+/* Inline. Takes one event as aoc_step does, and fills the row of what was done. The list of the call is this row behind its
+ * earlier rows, and the first row[5] of the octets behind its earlier octets: all of an event's octets, but none where the event
+ * is no AOC_EVENT_COMPONENT, and 65,535 at most, the rest of which changes no outcome. */
+AOC_INLINE aoc_outcome aoc_take(aoc_account *account, aoc_event event, const uint8_t *octets, size_t length, uint16_t *row);
+
+/* Inline. The account of a call that starts with no event and goes through the list: what a host stores over a restart is the
+ * list, and this makes the account of it again. AOC_REFUSED_LENGTHS for slices that are no event list, and then it is aoc_fresh's.
+ * `numbers` is six times the rows. */
+AOC_INLINE aoc_refusal aoc_replay(const uint16_t *rows, size_t numbers, const uint8_t *octets, size_t length, aoc_account *account);
 
 /* Why a call has no price. */
 #define AOC_REASONS(ROW)                                                                               \
@@ -694,7 +745,7 @@ typedef struct {
 } aoc_board;
 
 /* Inline. A table with no call: all zeros, as `static aoc_board board;` and calloc give it too. */
-static inline void aoc_board_clear(aoc_board *board);
+AOC_INLINE void aoc_board_clear(aoc_board *board);
 
 /* Proved. An event of a reference; `octets` are those of a component, none with another event. A Setup is AOC_REFUSED_IN_USE,
  * then AOC_REFUSED_FULL, then as on a fresh account: accepted, or AOC_REFUSED_BAD_SETUP. Any other event is
@@ -777,14 +828,14 @@ aoc_month aoc_month_empty(void);
 aoc_month_added aoc_month_add(aoc_month month, aoc_closing closing);
 
 /* Inline. The same on a month where it lies; the refusal. */
-static inline aoc_refusal aoc_month_post(aoc_month *month, const aoc_closing *closing);
+AOC_INLINE aoc_refusal aoc_month_post(aoc_month *month, const aoc_closing *closing);
 
 /* Inline. What a month holds, whatever that is: how many rows there are to be read; the row at an index, zeros past them; the
  * sum of a type of units; the figures of a service and a billing. 0 for a type, service or billing that has no place. */
-static inline size_t aoc_month_rows(const aoc_month *month);
-static inline aoc_month_currency aoc_month_row(const aoc_month *month, size_t index);
-static inline uint64_t aoc_month_units(const aoc_month *month, size_t type);
-static inline uint32_t aoc_month_place(const aoc_month *month, uint32_t service, uint32_t billing);
+AOC_INLINE size_t aoc_month_rows(const aoc_month *month);
+AOC_INLINE aoc_month_currency aoc_month_row(const aoc_month *month, size_t index);
+AOC_INLINE uint64_t aoc_month_units(const aoc_month *month, size_t type);
+AOC_INLINE uint32_t aoc_month_place(const aoc_month *month, uint32_t service, uint32_t billing);
 
 #include "aoc_parts.h"
 

@@ -68,7 +68,7 @@ aoc_written aoc_write_from(aoc_front front, aoc_outline outline, uint32_t number
                            const uint8_t (*digits)[20], const uint32_t (*numbers)[32], const uint8_t (*rows)[192],
                            uint8_t *buffer, size_t room);
 
-static inline aoc_refusal aoc_read(const uint8_t *octets, size_t length, aoc_answer *answer)
+AOC_INLINE aoc_refusal aoc_read(const uint8_t *octets, size_t length, aoc_answer *answer)
 {
     aoc_mention_layout();
     aoc_charge *charge = &answer->record.charge;
@@ -78,7 +78,7 @@ static inline aoc_refusal aoc_read(const uint8_t *octets, size_t length, aoc_ans
     return AOC_TO(aoc_refusal, a.refusal);
 }
 
-static inline bool aoc_next(const uint8_t *octets, size_t length, size_t *place, aoc_answer *answer)
+AOC_INLINE bool aoc_next(const uint8_t *octets, size_t length, size_t *place, aoc_answer *answer)
 {
     aoc_mention_layout();
     aoc_charge *charge = &answer->record.charge;
@@ -91,7 +91,7 @@ static inline bool aoc_next(const uint8_t *octets, size_t length, size_t *place,
     return true;
 }
 
-static inline aoc_written aoc_write(const aoc_record *record, uint8_t *buffer, size_t room)
+AOC_INLINE aoc_written aoc_write(const aoc_record *record, uint8_t *buffer, size_t room)
 {
     const aoc_charge *c = &record->charge;
     const aoc_money *m = &c->money;
@@ -112,9 +112,20 @@ static inline aoc_written aoc_write(const aoc_record *record, uint8_t *buffer, s
     return aoc_write_from(front, o.outline, m->number, &m->currency.octets, &a->digits, &c->numbers, &c->octets, buffer, room);
 }
 
+AOC_INLINE aoc_written aoc_request(uint8_t service, uint16_t id, uint8_t *buffer, size_t room)
+{
+    aoc_record record;
+    memset(&record, 0, sizeof record);
+    record.frame = AOC_FRAME_INVOKE;
+    record.id = id;
+    record.operation = AOC_OPERATION_CHARGING_REQUEST;
+    record.detail = aoc_case_of(service);
+    return aoc_write(&record, buffer, room);
+}
+
 /* ------------------------------------------------------------------ values */
 
-static inline bool aoc_is_refusal(uint32_t number)
+AOC_INLINE bool aoc_is_refusal(uint32_t number)
 {
     aoc_mention_layout();
     switch (number) {
@@ -125,7 +136,7 @@ static inline bool aoc_is_refusal(uint32_t number)
     }
 }
 
-static inline aoc_unit_entry aoc_unit_at(const aoc_charge *charge, size_t index)
+AOC_INLINE aoc_unit_entry aoc_unit_at(const aoc_charge *charge, size_t index)
 {
     aoc_unit_entry entry = {0, 0, 0};
     if (charge->kind == AOC_CHARGE_UNITS && index < charge->count && index < AOC_LIMIT_UNITS) {
@@ -136,7 +147,7 @@ static inline aoc_unit_entry aoc_unit_at(const aoc_charge *charge, size_t index)
     return entry;
 }
 
-static inline aoc_rate_entry aoc_rate_at(const aoc_charge *charge, size_t index)
+AOC_INLINE aoc_rate_entry aoc_rate_at(const aoc_charge *charge, size_t index)
 {
     aoc_rate_entry entry;
     memset(&entry, 0, sizeof entry);
@@ -158,9 +169,43 @@ static inline aoc_rate_entry aoc_rate_at(const aoc_charge *charge, size_t index)
     return entry;
 }
 
+AOC_INLINE uint16_t aoc_identifier_of(aoc_identifiers ids, uint8_t service)
+{
+    switch (service) {
+    case AOC_SERVICE_S: return ids.s;
+    case AOC_SERVICE_D: return ids.d;
+    case AOC_SERVICE_E: return ids.e;
+    default: return 0;
+    }
+}
+
+AOC_INLINE uint8_t aoc_case_of(uint8_t service)
+{
+    switch (service) {
+    case AOC_SERVICE_S: return AOC_CHARGING_CASE_S;
+    case AOC_SERVICE_D: return AOC_CHARGING_CASE_D;
+    case AOC_SERVICE_E: return AOC_CHARGING_CASE_E;
+    default: return 255;
+    }
+}
+
+/* ------------------------------------------------------------------ events */
+
+AOC_INLINE aoc_event aoc_event_of(uint8_t kind)
+{
+    aoc_event event = {kind, {0, 0, 0}, 0, 0, 0};
+    return event;
+}
+
+AOC_INLINE aoc_event aoc_event_of_setup(aoc_services asked, aoc_identifiers ids)
+{
+    aoc_event event = {AOC_EVENT_SETUP, asked, ids.s, ids.d, ids.e};
+    return event;
+}
+
 /* ------------------------------------------------------------------ a call's event list */
 
-static inline void aoc_row_of(aoc_event event, uint16_t count, uint16_t *row)
+AOC_INLINE void aoc_row_of(aoc_event event, uint16_t count, uint16_t *row)
 {
     row[0] = event.kind;
     row[1] = AOC_TO(uint16_t, (event.asked.s ? 1 : 0) | (event.asked.d ? 2 : 0) | (event.asked.e ? 4 : 0));
@@ -170,41 +215,72 @@ static inline void aoc_row_of(aoc_event event, uint16_t count, uint16_t *row)
     row[5] = count;
 }
 
+AOC_INLINE aoc_outcome aoc_take(aoc_account *account, aoc_event event, const uint8_t *octets, size_t length, uint16_t *row)
+{
+    size_t count = event.kind != AOC_EVENT_COMPONENT ? 0 : length < 65535 ? length : 65535;
+    aoc_row_of(event, AOC_TO(uint16_t, count), row);
+    return aoc_step(account, event, octets, length);
+}
+
+AOC_INLINE aoc_refusal aoc_replay(const uint16_t *rows, size_t numbers, const uint8_t *octets, size_t length, aoc_account *account)
+{
+    size_t left = length;
+    *account = aoc_fresh();
+    if (numbers % AOC_ROW_NUMBERS != 0)
+        return AOC_REFUSED_LENGTHS;
+    for (size_t i = 0; i < numbers; i += AOC_ROW_NUMBERS) {
+        if (rows[i + 5] > left)
+            return AOC_REFUSED_LENGTHS;
+        left -= rows[i + 5];
+    }
+    if (left != 0)
+        return AOC_REFUSED_LENGTHS;
+    for (size_t i = 0, at = 0; i < numbers; at += rows[i + 5], i += AOC_ROW_NUMBERS) {
+        const uint16_t *row = rows + i;
+        /* a kind that is no octet is that of no event */
+        aoc_event event = {AOC_TO(uint8_t, row[0] < 256 ? row[0] : 0),
+                           {AOC_TO(uint8_t, row[1] & 1), AOC_TO(uint8_t, row[1] >> 1 & 1), AOC_TO(uint8_t, row[1] >> 2 & 1)},
+                           row[2], row[3], row[4]};
+        aoc_step(account, event, row[5] ? octets + at : NULL, row[5]);
+    }
+    return AOC_ACCEPTED;
+}
+
 /* ------------------------------------------------------------------ a switchboard */
 
-static inline void aoc_board_clear(aoc_board *board)
+AOC_INLINE void aoc_board_clear(aoc_board *board)
 {
     memset(board, 0, sizeof *board);
 }
 
 /* ------------------------------------------------------------------ a month's figures */
 
-static inline aoc_refusal aoc_month_post(aoc_month *month, const aoc_closing *closing)
+AOC_INLINE aoc_refusal aoc_month_post(aoc_month *month, const aoc_closing *closing)
 {
     aoc_month_added added = aoc_month_add(*month, *closing);
     *month = added.month;
     return AOC_TO(aoc_refusal, added.refusal);
 }
 
-static inline size_t aoc_month_rows(const aoc_month *month)
+AOC_INLINE size_t aoc_month_rows(const aoc_month *month)
 {
     size_t most = AOC_LIMIT_MONTH_CURRENCIES;
     return month->count < most ? month->count : most;
 }
 
-static inline aoc_month_currency aoc_month_row(const aoc_month *month, size_t index)
+AOC_INLINE aoc_month_currency aoc_month_row(const aoc_month *month, size_t index)
 {
     aoc_month_currency none;
     memset(&none, 0, sizeof none);
     return index < aoc_month_rows(month) ? month->rows[index] : none;
 }
 
-static inline uint64_t aoc_month_units(const aoc_month *month, size_t type)
+AOC_INLINE uint64_t aoc_month_units(const aoc_month *month, size_t type)
 {
     return type < AOC_MONTH_TYPES ? month->units[type] : 0;
 }
 
-static inline uint32_t aoc_month_place(const aoc_month *month, uint32_t service, uint32_t billing)
+AOC_INLINE uint32_t aoc_month_place(const aoc_month *month, uint32_t service, uint32_t billing)
 {
     if ((service != AOC_SERVICE_D && service != AOC_SERVICE_E) || AOC_MONTH_BILLINGS <= billing)
         return 0;
@@ -273,7 +349,7 @@ AOC_LAYOUT(sizeof(aoc_plain_closing_answer) == 376 && offsetof(aoc_plain_closing
 
 /* Numbers lie low octet first, in what reading stores and in the outline's words. */
 #if defined(__BYTE_ORDER__) && __BYTE_ORDER__ != __ORDER_LITTLE_ENDIAN__
-#error "the library is for x86-64"
+#error "the library is for processors with the low octet first: x86-64 and aarch64"
 #endif
 
 #endif

@@ -10,7 +10,7 @@ extern "C" {
 #endif
 
 /* The words of a number's row in aoc.h; for a number that has no row there, words that say so. Never null. */
-static inline const char *aoc_refusal_text(uint32_t refusal)
+AOC_INLINE const char *aoc_refusal_text(uint32_t refusal)
 {
     switch (refusal) {
     case AOC_ACCEPTED: return "accepted";
@@ -20,7 +20,7 @@ static inline const char *aoc_refusal_text(uint32_t refusal)
 }
 
 /* Of an outcome's `number`: of a refusal too. */
-static inline const char *aoc_outcome_text(uint32_t number)
+AOC_INLINE const char *aoc_outcome_text(uint32_t number)
 {
     switch (number) {
         AOC_OUTCOMES(AOC_ROW_WORDS)
@@ -28,7 +28,7 @@ static inline const char *aoc_outcome_text(uint32_t number)
     }
 }
 
-static inline const char *aoc_phase_text(uint32_t phase)
+AOC_INLINE const char *aoc_phase_text(uint32_t phase)
 {
     switch (phase) {
         AOC_PHASES(AOC_ROW_WORDS)
@@ -36,7 +36,7 @@ static inline const char *aoc_phase_text(uint32_t phase)
     }
 }
 
-static inline const char *aoc_reason_text(uint32_t reason)
+AOC_INLINE const char *aoc_reason_text(uint32_t reason)
 {
     switch (reason) {
         AOC_REASONS(AOC_ROW_WORDS)
@@ -44,7 +44,7 @@ static inline const char *aoc_reason_text(uint32_t reason)
     }
 }
 
-static inline const char *aoc_rule_text(uint32_t rule)
+AOC_INLINE const char *aoc_rule_text(uint32_t rule)
 {
     switch (rule) {
         AOC_RULES(AOC_ROW_WORDS)
@@ -52,7 +52,7 @@ static inline const char *aoc_rule_text(uint32_t rule)
     }
 }
 
-static inline const char *aoc_billing_text(uint32_t billing)
+AOC_INLINE const char *aoc_billing_text(uint32_t billing)
 {
     switch (billing) {
         AOC_BILLINGS(AOC_ROW_WORDS)
@@ -60,7 +60,7 @@ static inline const char *aoc_billing_text(uint32_t billing)
     }
 }
 
-static inline const char *aoc_item_text(uint32_t item)
+AOC_INLINE const char *aoc_item_text(uint32_t item)
 {
     switch (item) {
         AOC_ITEMS(AOC_ROW_WORDS)
@@ -68,7 +68,7 @@ static inline const char *aoc_item_text(uint32_t item)
     }
 }
 
-static inline const char *aoc_volume_text(uint32_t volume)
+AOC_INLINE const char *aoc_volume_text(uint32_t volume)
 {
     switch (volume) {
         AOC_VOLUMES(AOC_ROW_WORDS)
@@ -76,11 +76,51 @@ static inline const char *aoc_volume_text(uint32_t volume)
     }
 }
 
-static inline const char *aoc_plan_text(uint32_t plan)
+AOC_INLINE const char *aoc_plan_text(uint32_t plan)
 {
     switch (plan) {
         AOC_PLANS(AOC_ROW_WORDS)
     default: return "unknown";
+    }
+}
+
+AOC_INLINE const char *aoc_event_text(uint32_t kind)
+{
+    switch (kind) {
+        AOC_EVENTS(AOC_ROW_WORDS)
+    default: return "no event of this library";
+    }
+}
+
+AOC_INLINE const char *aoc_service_text(uint32_t service)
+{
+    switch (service) {
+        AOC_SERVICES(AOC_ROW_WORDS)
+    default: return "no service of this library";
+    }
+}
+
+AOC_INLINE const char *aoc_frame_text(uint32_t frame)
+{
+    switch (frame) {
+        AOC_FRAMES(AOC_ROW_WORDS)
+    default: return "no frame of this library";
+    }
+}
+
+AOC_INLINE const char *aoc_operation_text(uint32_t operation)
+{
+    switch (operation) {
+        AOC_OPERATIONS(AOC_ROW_WORDS)
+    default: return "no operation of this library";
+    }
+}
+
+AOC_INLINE const char *aoc_error_text(uint32_t error)
+{
+    switch (error) {
+        AOC_ERRORS(AOC_ROW_WORDS)
+    default: return "no error of this library";
     }
 }
 
@@ -95,7 +135,11 @@ static inline const char *aoc_plan_text(uint32_t plan)
  *   no charge
  * A subtotal has no word: a charge of the end of a call has the same mark. In a currency, `?` is an octet that is no printed
  * character of ASCII. */
-static inline size_t aoc_print_charge(char *buffer, size_t room, const aoc_charge *charge);
+AOC_INLINE size_t aoc_print_charge(char *buffer, size_t room, const aoc_charge *charge);
+
+/* The same of a currency, and of an amount: EUR, and EUR 1.500. A host that knows the type of its figure needs no more. */
+AOC_INLINE size_t aoc_print_currency(char *buffer, size_t room, const aoc_currency *currency);
+AOC_INLINE size_t aoc_print_money(char *buffer, size_t room, const aoc_money *money);
 
 /* ------------------------------------------------------------------ how it is written */
 
@@ -265,7 +309,7 @@ static inline void aoc_put_association(aoc_text *text, const aoc_association *as
     aoc_put_octets(text, association->digits, association->count, AOC_LIMIT_DIGITS);
 }
 
-static inline size_t aoc_print_charge(char *buffer, size_t room, const aoc_charge *charge)
+AOC_INLINE size_t aoc_print_charge(char *buffer, size_t room, const aoc_charge *charge)
 {
     aoc_text text = {buffer, room, 0};
     switch (charge->kind) {
@@ -300,6 +344,24 @@ static inline size_t aoc_print_charge(char *buffer, size_t room, const aoc_charg
         buffer[text.length < room ? text.length : room - 1] = 0;
     for (size_t i = 2; text.length >= room && i <= 3 && i <= room; i++)
         buffer[room - i] = '.';
+    return text.length;
+}
+
+AOC_INLINE size_t aoc_print_currency(char *buffer, size_t room, const aoc_currency *currency)
+{
+    aoc_text text = {buffer, room, 0};
+    aoc_put_octets(&text, currency->octets, currency->count, AOC_LIMIT_CURRENCY_OCTETS);
+    if (room)
+        buffer[text.length < room ? text.length : room - 1] = 0;
+    return text.length;
+}
+
+AOC_INLINE size_t aoc_print_money(char *buffer, size_t room, const aoc_money *money)
+{
+    aoc_text text = {buffer, room, 0};
+    aoc_put_money(&text, money);
+    if (room)
+        buffer[text.length < room ? text.length : room - 1] = 0;
     return text.length;
 }
 

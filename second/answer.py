@@ -3,6 +3,7 @@
 R <hex>                  read             <number> <offset> <packed record>
 W <room> <packed record> write            <number> <count> <hex>
 E <hex>                  Facility element <number> <count> <starts, comma separated>
+L <room> <hex>           element written  <number> <count> <hex>
 N <place> <hex>          one of its places <number> <offset> <the place after> <1 at the end> <packed record>
 J <room> <hex>           reject in reply  <number> <count> <hex>
 T <number> <multiplier>  thousandths      <thousandths>
@@ -60,6 +61,12 @@ def answer_write(rest):
 def answer_element(rest):
     number, starts = aoc.element(bytes.fromhex(rest))
     return f"{number} {len(starts)} {','.join(map(str, starts))}"
+
+
+def answer_write_element(rest):
+    room, _, octets = rest.partition(" ")
+    number, octets = aoc.write_element(bytes.fromhex(octets), int(room))
+    return f"{number} {len(octets)} {octets.hex()}"
 
 
 def answer_next(rest):
@@ -215,7 +222,7 @@ def answer_trace(rest):
 ANSWERS = {"R": answer_read, "W": answer_write, "E": answer_element, "J": answer_reply,
            "T": answer_thousandths, "N": answer_next, "A": answer_account, "D": answer_account, "Y": answer_why,
            "F": answer_fault, "P": answer_price, "M": answer_month, "Z": answer_held, "B": answer_board,
-           "G": answer_plain, "X": answer_trace}
+           "G": answer_plain, "X": answer_trace, "L": answer_write_element}
 
 
 def answer(line):

@@ -837,6 +837,16 @@ def step_through(octets, place):
     return (*locate(octets[place:after]), after, False)
 
 
+def write_element(octets, room):
+    """The element that holds components, laid end to end: (0, octets), (15, b"") or (12, b"")."""
+    whole = bytes((0x1C, (len(octets) + 1) & 0xFF, 0x91)) + octets
+    if len(octets) > 254 or element(whole)[0]:
+        return BAD_ELEMENT, b""
+    if len(whole) > room:
+        return NO_ROOM, b""
+    return 0, whole
+
+
 # ---------------------------------------------------------------- reject in reply
 
 def reply(octets, room):

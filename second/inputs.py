@@ -1100,6 +1100,12 @@ def next_input(rng):
     return f"N {place} {octets.hex()}"
 
 
+def round_input(rng):
+    """Components laid end to end, or damaged, and a room for the element round them, most often one that is enough."""
+    octets = facility(rng)[3:]
+    return f"L {rng.choice((257, 300, len(octets) + rng.randint(0, 5)))} {octets.hex()}"
+
+
 def dropped_input(rng, length):
     """A list of events from which some of those with no effect are to be left out."""
     share = rng.choice((0.3, 0.7, 1.0))
@@ -1375,7 +1381,7 @@ def lines(seed, count):
     records, charges = record_sweep(rng), record_sweep(rng)
     turn = counting()
     for _ in range(count):
-        kind = rng.choices("RWENJTADZYFPBMXG", (38, 24, 4, 5, 8, 1, 22, 5, 14, 12, 8, 3, 5, 0.4, 18, 9))[0]
+        kind = rng.choices("RWENJTADZYFPBMXGL", (38, 24, 4, 5, 8, 1, 22, 5, 14, 12, 8, 3, 5, 0.4, 18, 9, 3))[0]
         if kind == "R":
             yield "R " + next(octets).hex()
         elif kind == "W":
@@ -1384,6 +1390,8 @@ def lines(seed, count):
             yield "E " + facility(rng).hex()
         elif kind == "N":
             yield next_input(rng)
+        elif kind == "L":
+            yield round_input(rng)
         elif kind == "J":
             room = rng.choice((254, 254, rng.randint(0, 10), rng.randint(6, 9)))
             yield f"J {room} {next(octets).hex()}"

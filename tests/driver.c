@@ -105,6 +105,15 @@ static void answer_element(const char *rest)
         printf(i ? ",%u" : "%u", (unsigned)starts[i]);
 }
 
+static void answer_write_element(const char *rest)
+{
+    char *next;
+    size_t room = strtoul(rest, &next, 10);
+    size_t n = unhex(next + 1, octets);
+    memset(buffer, MARK, room + 2 * GUARD);
+    answer_written(aoc_write_element(octets, n, buffer + GUARD, room), room);
+}
+
 static void answer_next(const char *rest)
 {
     char *next;
@@ -550,6 +559,9 @@ int main(int count, char **arguments)
             break;
         case 'X':
             answer_trace(line + 2);
+            break;
+        case 'L':
+            answer_write_element(line + 2);
             break;
         default:
             fputs("not a line", stdout);

@@ -70,7 +70,7 @@ differ("docs/AUDIT.md", "file", audit, believed)
 # ---- the exports
 exports = re.findall(r'extern "C" fn (aoc_\w+)', text("crates/aoc/src/lib.rt"))
 table = "".join(line + "\n" for line in text(ARCHITECTURE).splitlines() if line.startswith("| `") and "`aoc_" in line)
-inline = re.findall(r"static inline [^;{]*?\b(aoc_\w+)\(", text("include/aoc.h"))
+inline = re.findall(r"(?m)^AOC_INLINE [^;{]*?\b(aoc_\w+)\(", text("include/aoc.h"))
 differ(ARCHITECTURE, "export", set(re.findall(r"`(aoc_\w+)`", table)) - set(inline), exports)
 
 # ---- the sizes that hosts are told

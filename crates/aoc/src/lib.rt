@@ -31,15 +31,16 @@ ghost use Rattle.slots.specs.Board.{boarded, eventOn, emptied, collectOn, viewO
 ghost use Rattle.month.specs.Month.{emptyMonth, addOf};
 ghost use Rattle.trace.specs.Into.{laidOf, rowsLeft, octetsLeft};
 ghost use Rattle.plain.specs.Answers.{plainOutcome, plainPhase, plainPending, plainCurrentRate, plainRunning, plainClosing, plainMarks};
+ghost use Rattle.element_writer.specs.Round.{elementInto};
 
 // ---- the version
 
 // What the header says as AOC_VERSION, of the archive that a host is linked with.
 #[no_mangle]
 pub extern "C" fn aoc_version() -> u32
-    ensures { λ r. ⌜ r ≡ 20400 ⌝ }
+    ensures { λ r. ⌜ r ≡ 20500 ⌝ }
 {
-    20400
+    20500
 }
 
 // The number in its name is the layout's. The header's inline functions mention it, so that an archive with another layout is not linked.
@@ -455,4 +456,13 @@ pub extern "C" fn aoc_plain_marks(rows: &[u16], octets: &[u8]) -> plain::PlainMa
     ensures { λ r. ⌜ r ≡ plainMarks (now (rows .entry)) (now (octets .entry)) ⌝ }
 {
     plain::marks(rows, octets)
+}
+
+// ---- a Facility element, written
+
+#[no_mangle]
+pub extern "C" fn aoc_write_element(octets: &[u8], buf: &mut [u8]) -> write::Written
+    ensures { λ w. ⌜ (w, now (buf .exit)) ≡ elementInto (now (octets .entry)) (now (buf .entry)) ⌝ }
+{
+    element_writer::element_into(octets, buf)
 }

@@ -56,6 +56,10 @@ cut (suc turns) s i h =
     (λ q. bind (granted (lengthAt i s (i + 1) (length s)) (λ v n e. e)) (λ v n e.
     bind (cut turns s n (part-tile s i e .1)) (λ ys m r. it (cut-here s i ys e r))))
 
+-- octets that are components from the first on are cut into them
+pub cut-all : (turns : ℕ) (s : List ℕ) {last : ℕ} {xs : List ℕ} → tiled turns s 0 (length s) ≡ got xs last → (joined (partsOf s xs) ≡ s) × Tiles (partsOf s xs)
+cut-all turns s e = let d = known (cut turns s 0 (omega arith)) e in (d .whole, d .fine)
+
 -- an answer of 0 is that of starts that were found
 pub answer-found : (b : Bool) (x : Ans (List ℕ)) → (cond b (startsFound x) malformed) .number ≡ 0
     → (b ≡ true) × ((xs : List ℕ) × (last : ℕ) × (x ≡ got xs last) × (startsOf (cond b (startsFound x) malformed) ≡ xs))
@@ -114,7 +118,12 @@ laid (suc turns) pre (p ∷ ps) h t =
     let rest = rw (append-assoc pre p (joined ps), length-append pre p) at (laid turns (pre ++ p) ps (omega arith) (t .1)) in
     unpicked _ _ (ne-eqb (length pre) (length s) ne) ∙ followed _ (tile-there pre p (joined ps) (t .0) .1) ∙ followed _ rest
 
-places-count : (a : ℕ) (ps : List (List ℕ)) → length (placesOf a ps) ≡ length ps
+-- components by themselves are found from the first octet on
+pub laid-all : (ps : List (List ℕ)) → Tiles ps
+    → (length ps ≤ length (joined ps)) × (tiled (suc (length (joined ps))) (joined ps) 0 (length (joined ps)) ≡ got (placesOf 0 ps) (length (joined ps)))
+laid-all ps t = (tiles-long ps t, laid (suc (length (joined ps))) [] ps (omega (arith, tiles-long ps t)) t)
+
+pub places-count : (a : ℕ) (ps : List (List ℕ)) → length (placesOf a ps) ≡ length ps
 places-count a [] = refl
 places-count a (p ∷ ps) = ap suc (places-count (a + length p) ps)
 
