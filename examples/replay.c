@@ -1,5 +1,6 @@
 /* For support: a log of layer 3 messages, one a line, told as a person follows each call: the messages, the events that they give,
- * each event's outcome, the account after it, and at the end the figure to post or why there is none.
+ * each event's outcome, the account after it, and at the end the figure to post or why there is none, and whether the exchange kept
+ * the rules of charging: if not, the event that broke one, with its octets, as evidence for the operator.
  *
  * A line: a time or any other text, which is shown as it is and may be left out; `u` for the user or `n` for the network; the
  * octets in hex, together or parted by spaces, colons, commas or hyphens, 0x in front of them or not. An empty line and one that
@@ -204,6 +205,47 @@ static void put_reject(const uint8_t *octets, size_t n)
     puts("");
 }
 
+/* What is kept of each event of a call beside its row. */
+typedef struct {
+    const message *from;    /* the message that gave it */
+    const uint8_t *octets;
+    int refused;
+} event;
+
+/* Whether the exchange kept the rules. They are of a list without refused events: these are left out, and their numbers kept. */
+static void put_evidence(const uint16_t *rows, const event *events, size_t count, size_t length)
+{
+    uint16_t *kept = more(NULL, sizeof *kept * AOC_ROW_NUMBERS * (count + 1));
+    uint8_t *octets = more(NULL, length + 1);
+    size_t *numbers = more(NULL, sizeof *numbers * (count + 1));
+    size_t n = 0, used = 0;
+    for (size_t i = 0; i < count; i++) {
+        const uint16_t *row = rows + AOC_ROW_NUMBERS * i;
+        if (events[i].refused)
+            continue;
+        memcpy(kept + AOC_ROW_NUMBERS * n, row, sizeof *row * AOC_ROW_NUMBERS);
+        memcpy(octets + used, events[i].octets, row[5]);
+        used += row[5];
+        numbers[n++] = i;
+    }
+    aoc_fault_answer fault = aoc_fault(kept, AOC_ROW_NUMBERS * n, octets, used);
+    const char *others = n < count ? ", by the events that were not refused" : "";
+    if (fault.event == 0 || fault.rule == AOC_RULE_KEPT) {
+        printf("  %s%s\n", aoc_rule_text(fault.rule), others);
+    } else {
+        size_t i = numbers[fault.event - 1];
+        const message *m = events[i].from;
+        printf("  for the operator: event %lu%s%s, line %lu: %s\n   ", (unsigned long)i + 1, *m->time ? " at " : "", m->time,
+               (unsigned long)m->line, aoc_rule_text(fault.rule));
+        for (size_t k = 0; k < rows[AOC_ROW_NUMBERS * i + 5]; k++)
+            printf(" %02X", events[i].octets[k]);
+        puts("");
+    }
+    free(kept);
+    free(octets);
+    free(numbers);
+}
+
 static void tell_call(size_t which)
 {
     size_t count = 0, length = 0, at = 0;
@@ -213,6 +255,7 @@ static void tell_call(size_t which)
     uint32_t *pairs = more(NULL, sizeof *pairs * 2 * count);
     uint8_t *octets = more(NULL, length), *out = more(NULL, length);
     uint16_t *rows = more(NULL, sizeof *rows * AOC_ROW_NUMBERS * length);
+    event *events = more(NULL, sizeof *events * length);
     if (calls[which].reference == 32768)
         puts("call without a reference");
     else
@@ -234,6 +277,7 @@ static void tell_call(size_t which)
         for (size_t k = before; k < list.events; k++) {
             const uint16_t *row = rows + AOC_ROW_NUMBERS * k;
             aoc_outcome o = aoc_plain_outcome(rows, numbers, out, n, k + 1).outcome;
+            events[k] = (event){&messages[i], out + at, aoc_is_refusal(o.number)};
             printf("    event %lu: ", (unsigned long)k + 1);
             put_event(row, out + at);
             printf("\n      %u%.*s: %s\n", o.number, o.service != 0, services + o.service,
@@ -258,10 +302,12 @@ static void tell_call(size_t which)
             printf(", event %lu", (unsigned long)why.event);
         puts("");
     }
+    put_evidence(rows, events, (size_t)list.events, n);
     free(pairs);
     free(octets);
     free(out);
     free(rows);
+    free(events);
 }
 
 int main(void)

@@ -1,5 +1,5 @@
 #!/bin/sh
-# The example host prints what examples/night.out and night.csv have; it names every line that it does not take, tells failed input
+# The example host prints what examples/night.out and night.csv have, of a month what month.out and month.csv have; it names every line that it does not take, tells failed input
 # and output with a status, and holds a night of any length.
 cd "$(dirname "$0")/.." || exit 2
 work=$(mktemp -d) || exit 2
@@ -12,6 +12,10 @@ has() { grep -q "$2" "$work/$1" || wrong "$3"; }
 ./run night <examples/night.txt | cmp - examples/night.out || exit 1
 night --csv <examples/night.txt 2>"$work/err" | cmp - examples/night.csv || exit 1
 has err 'a component refused' 'a note among the values'
+night --month <examples/month.txt | cmp - examples/month.out || exit 1
+night --csv --month <examples/month.txt | cmp - examples/month.csv || exit 1
+night --week <examples/month.txt >"$work/out" 2>"$work/err"
+[ $? = 2 ] || wrong 'an unknown option'
 
 # refused LINE: the line is told with its number and not taken, and its call is in no report
 refused() {
@@ -43,6 +47,13 @@ has out '^Calls: 1$' 'a line that ends in CR LF'
 printf '%s\n' '1 9 1 connect' '2 9 1 setup D' '3 9 1 facility 1C 05 91' | night >"$work/out" || wrong 'a status for a refused event'
 has out '^1  room 9  call 1  connect refused: an event that is not allowed in this phase$' 'an event out of order'
 has out '^3  room 9  call 1  a malformed Facility element$' 'a malformed element'
+
+# evidence: events that were refused are not judged, and are counted in the number of the one that is told
+printf '%s\n' '1 9 1 setup' '2 9 1 setup' '3 9 1 facility 1C 08 91 A1 05 02 01 01 02 00' '4 9 1 connect' \
+    '5 9 1 facility 1C 1D 91 A1 1A 02 01 64 02 01 21 30 12 A1 0D 81 03 45 55 52 A2 06 81 01 0C 82 01 02 82 01 00' \
+    '6 9 1 facility 1C 1D 91 A1 1A 02 01 65 02 01 21 30 12 A1 0D 81 03 45 55 52 A2 06 81 01 5A 82 01 01 82 01 00' | night >"$work/out" || wrong 'a falling charge'
+has out '^  room 9     call 1    event 6 at 6: an amount below the last one in the same currency$' 'a falling charge'
+has out '^                       A1 1A 02 01 65 02 01 21 30 12 A1 0D 81 03 45 55 52 A2 06 81 01 5A 82 01 01 82 01 00$' 'the octets of a falling charge'
 
 # what cannot be read or written
 night </ >"$work/out" 2>"$work/err"
@@ -77,4 +88,33 @@ has out 'only running figures' 'a long call'
 has out 'event 3 at 2, last running figure EUR 0.450$' 'a long call'
 has out '^  3200 units in 1 call$' 'a long list'
 [ "$(grep -o '100 units' "$work/out" | wc -l)" = 32 ] || wrong 'a long list'
-echo "example: the night's report and its values are as they were; what is not taken is told; 3,002 calls are held"
+# 70 calls at once: six find no place on the switchboard, which is told, and no figure is lost; then there is a place again
+awk 'BEGIN {
+    for (i = 1; i <= 70; i++) printf "1 %d 1 setup\n2 %d 1 connect\n", i, i
+    for (i = 1; i <= 70; i++) printf "3 %d 1 clear\n3 %d 1 facility 1C 1D 91 A1 1A 02 01 0B 02 01 23 30 12 30 10 A1 0E 81 03 45 55 52 A2 07 81 02 00 96 82 01 01\n3 %d 1 released\n", i, i, i
+    print "4 1 1 setup\n4 1 1 connect\n4 1 1 setup\n4 2 1 connect"
+}' | night >"$work/out" || wrong 'a full switchboard'
+[ "$(grep -c ' 1  not on the switchboard: 64 calls are held; the call is kept beside it$' "$work/out")" = 6 ] || wrong 'a full switchboard'
+has out '^1  room 65  call 1  not on the switchboard' 'the 65th call'
+has out '^  EUR 105.000 in 70 calls$' 'the sum of a full switchboard'
+has out '^4  room 1  call 1  setup refused: a Setup for a call reference that is held$' 'a second set-up'
+has out '^4  room 2  call 1  connect refused: an event that is not allowed in this phase$' 'an event of a call that has ended'
+has out '^Calls: 71$' 'a call with the number of one that has ended'
+has out '^    1 still open$' 'a call with the number of one that has ended'
+# what a month refuses is told, and the rest of it stands: a seventeenth currency, and the figures after 4,096
+# ended CURRENCY: a call whose final is 1.300 in a currency of one letter, as its hex octet
+ended='function ended(currency) {
+    print "1 9 1 setup\n1 9 1 connect\n1 9 1 clear"
+    print "1 9 1 facility 1C 1A 91 A1 17 02 01 66 02 01 23 30 0F 30 0D A1 0B 81 01 " currency " A2 06 81 01 0D 82 01 02\n1 9 1 released"
+}'
+awk "$ended"' BEGIN { for (i = 65; i < 82; i++) ended(sprintf("%02X", i)); ended("41") }' | night --month >"$work/out" && wrong 'status 0 for 17 currencies'
+has out '^1  room 9  call 1  not added to the month: Q 1.300: a seventeenth currency in a month$' 'a seventeenth currency'
+has out '^The month: 17 figures$' 'a month of 16 currencies'
+has out '^  A 2.600 in 2 calls$' 'a month of 16 currencies'
+has out '^  1 not added to the month: a seventeenth currency in a month$' 'a seventeenth currency'
+awk "$ended"' BEGIN { for (i = 0; i < 4098; i++) ended("41") }' | night --month --csv >"$work/out" 2>"$work/err" && wrong 'status 0 for 4,098 figures'
+[ "$(grep -c 'not added to the month: A 1.300: a month that has all its 4096 figures$' "$work/err")" = 2 ] || wrong 'a full month'
+has out '^month,,,,,,,,4096$' 'a full month'
+has out '^currency,A,5324.800,,,,,,4096$' 'a full month'
+has out '^not added,,,,,,,a month that has all its 4096 figures,2$' 'a full month'
+echo "example: the night's and the month's report and values are as they were; what is not taken is told; 3,002 calls are held"
