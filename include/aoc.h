@@ -9,7 +9,7 @@
  * What the host owes: a pointer is good for the length beside it (with length 0 it may be null), an account's pointer is good
  * for one account, and what is lent to be written overlaps nothing else lent to the same call.
  *
- * The numbers of refusals and outcomes, and what each means, are those of document 01 (docs/READING-01.md). Where a function
+ * The numbers of refusals and outcomes, and what each means, are those of document 01 (docs/READINGS.md). Where a function
  * refuses, every other field of its answer is zero. docs/HOST.md goes through the life of a call; aoc_text.h has words for
  * the numbers. */
 #ifndef AOC_H

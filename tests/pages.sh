@@ -141,16 +141,16 @@ for page, (names, path) in places:
         if os.path.exists("crates/" + path) and not re.search(rf"(?m)^(?!--|//).*(?<![\w-]){re.escape(name)}(?![\w-])", text("crates/" + path)):
             tell(page, f"no {name} in {path}")
 
-# ---- what READING-01 quotes of a definition stands there, `..` for anything
+# ---- what READINGS quotes of a definition stands there, `..` for anything
 specs = " ".join(re.sub(r"\s+", " ", text(path)) for path in glob.glob("crates/*/specs/*.antt") + glob.glob("crates/*/proofs/*.antt"))
-for line in text("docs/READING-01.md").splitlines():
+for line in text("docs/READINGS.md").splitlines():
     for quoted in re.findall(r"`([^`]+)`", line) if line.startswith("|") else []:
         if re.search(r"\S [=∷(]|^\(", quoted):
             for piece in re.split(r" ?\.\. ?", quoted.replace("\\|", "|")):
                 if piece not in specs:
-                    tell("docs/READING-01.md", f"no definition has {piece}")
+                    tell("docs/READINGS.md", f"no definition has {piece}")
 
-# ---- a name after a short name in READING-01 stands in the file that the short name is said to be
+# ---- a name after a short name in READINGS (before the colon that parts a definition from its line) stands in the file that the short name is said to be
 def shorts(line):
     """The short names that a line gives: **A**, **B** are `crate/specs/..`, or **A** is `crate/specs/A.antt`."""
     for names, path in re.findall(r"((?:\*\*\w+\*\*(?:, )?)+) (?:is|are) `([a-z_]+/specs/[\w.]+)`", line):
@@ -159,19 +159,19 @@ def shorts(line):
 
 
 general, own = {}, {}
-for line in text("docs/READING-01.md").splitlines():
+for line in text("docs/READINGS.md").splitlines():
     if line.startswith("## "):
         own = {}
     elif line.startswith("Short names: "):
         general = dict(shorts(line))
     else:
         own.update(shorts(line))
-    for piece in re.split(r"; |, (?=[A-Z]\w* `)", re.sub(r" \([^)]*\)", "", line.split(" | ")[1])) if line.startswith("| ") else []:
+    for piece in re.split(r"; |, (?=[A-Z]\w* `)", re.sub(r" \([^)]*\)", "", line.split(" | ")[1].split(": ")[0])) if line.startswith("| ") else []:
         at = re.match(r"(\w+) `", piece)
         path = {**general, **own}.get(at[1]) if at else None
         for name in re.findall(r"`([^\W\d][\w·-]*)", piece) if path else []:
             if not os.path.exists("crates/" + path) or not re.search(rf"(?m)^ *(?:(?:pub|abbrev|unfoldable|data|record|struct) )*{re.escape(name)}(?![\w·-])", text("crates/" + path)):
-                tell("docs/READING-01.md", f"no {name} in {path}")
+                tell("docs/READINGS.md", f"no {name} in {path}")
 
 # ---- a public function has no `requires`, and its `ensures` cites no definition that only helps
 public, crate = {"aoc": None}, None
