@@ -69,7 +69,7 @@ def longest():
 FULL = text_of(longest())
 assert len(longest()) == 254
 
-# ---- the inputs of document 01, and of its readings (docs/DECISIONS.md, part 1)
+# ---- the inputs of document 01, and of its readings (docs/READINGS.md)
 
 with open("crates/lines/stdin", "rb") as f, open("crates/lines/stdout", "rb") as g:
     EXAMPLE, EXPECTED = f.read(), g.read()
