@@ -1,6 +1,6 @@
 """Components of trunks between private exchanges (document 02, request 1; source document 001): read, written, replied to.
 
-Written from document 02, source document 001 and their readings (docs/DECISIONS.md) and from nothing else. How elements,
+Written from document 02, source document 001 and their readings (docs/READINGS.md) and from nothing else. How elements,
 lengths and numbers are coded is document 01's, and so is taken from aoc.py.
 """
 

@@ -14,6 +14,11 @@ import aoc
 import fault
 import inputs
 import board
+import make_calls
+import make_elements
+import make_records
+import make_traces
+import make_trees
 import month
 import plain
 import price
@@ -331,8 +336,8 @@ PADDED = (
 
 def padded():
     for text1, number1, multiplier1, text2, number2, multiplier2, outcome in PADDED:
-        first, second = (inputs.lay(inputs.tree(aoc.Record(frame=1, id=7, operation=35,
-                                                           charge=inputs.amount(octets(text), number, multiplier))))
+        first, second = (make_trees.lay(make_trees.tree(aoc.Record(frame=1, id=7, operation=35,
+                                                                   charge=make_calls.amount(octets(text), number, multiplier))))
                          for text, number, multiplier in ((text1, number1, multiplier1), (text2, number2, multiplier2)))
         made, outcomes = account(NO_REQUEST, CLEAR, first, second, RELEASED)
         check(f"{text1} and {text2}", outcomes, [0, 22, outcome, 0])
@@ -375,9 +380,9 @@ def said(event):
     word, *currency, value = event.split(" ")
     currency = currency[0] if currency else "EUR"
     if currency == "units":
-        charge = inputs.units(*((None if n == "na" else int(n), 0) for n in value.split(",")))
+        charge = make_calls.units(*((None if n == "na" else int(n), 0) for n in value.split(",")))
     else:
-        charge = inputs.amount(currency.replace("_", " ").encode(), int(value), 0)
+        charge = make_calls.amount(currency.replace("_", " ").encode(), int(value), 0)
     charge.figure.total = int(word == "tot")
     operation = (35 if word == "E" else 33) + (currency == "units")
     return aoc.write(aoc.Record(frame=1, id=1, operation=operation, charge=charge), 254)[1]
@@ -562,7 +567,7 @@ def passes():
     # Going through an element gives what its starts give, one by one, and then the end.
     rng = random.Random(7)
     for _ in range(300):
-        given = inputs.facility(rng)
+        given = make_elements.facility(rng)
         number, starts = aoc.element(given)
         place, seen = 3, []
         while True:
@@ -580,7 +585,7 @@ def dropped():
     """Without noise, whichever of it is left out, the other events have the outcomes they had and the end is the same."""
     rng = random.Random(12)
     for _ in range(300):
-        events = inputs.dropped_input(rng, 14)[2:].split(";")
+        events = make_calls.dropped_input(rng, 14)[2:].split(";")
         whole, part = aoc.Account(), aoc.Account()
         for event in events:
             outcome = answer.do(whole, event.lstrip("~"))
@@ -595,7 +600,7 @@ def held():
     check("a fresh account", aoc.Account().octets, bytes(1488))
     rng = random.Random(13)
     for _ in range(300):
-        events = inputs.account_input(rng, 12)[2:].split(";")
+        events = make_calls.account_input(rng, 12)[2:].split(";")
         whole, cut = aoc.Account(), rng.randrange(len(events))
         for number, event in enumerate(events):
             if number == cut:
@@ -672,7 +677,7 @@ def closing(charge, service, **fields):
 
 
 def euros(number, service, text=b"EUR", multiplier=0, **fields):
-    return closing(inputs.amount(text, number, multiplier), service, **fields)
+    return closing(make_calls.amount(text, number, multiplier), service, **fields)
 
 
 def prices():
@@ -692,10 +697,10 @@ def prices():
             ("d", euros(9, D), costs("4022000000000000", "3f826e978d4fdf3b")),
             ("e", euros(16777215, E, multiplier=6, billed=1, billing=7), costs("42ae847fe17b8000", "420f3fffe0c00000")),
             ("f", euros(0, D, multiplier=6), costs(ZERO, ZERO)),
-            ("g", closing(inputs.no_charge(), D), free),
-            ("h", closing(inputs.no_charge(), E, association=identified), free),
-            ("i", closing(inputs.units((12, 0)), E), refused(38)),
-            ("j", closing(inputs.units((12, 17)), E), refused(10)),
+            ("g", closing(make_calls.no_charge(), D), free),
+            ("h", closing(make_calls.no_charge(), E, association=identified), free),
+            ("i", closing(make_calls.units((12, 0)), E), refused(38)),
+            ("j", closing(make_calls.units((12, 17)), E), refused(10)),
             ("k", (0, aoc.Charge()), refused(39)),
             ("l", (0, euros(16777216, D)[1]), refused(39)),
             ("m", (1, euros(500, D)[1]), refused(10)),
@@ -703,7 +708,7 @@ def prices():
             ("o", euros(500, D, kind=0), refused(10)),
             ("p", euros(16777216, D), refused(10)),
             ("q", euros(500, D, billed=1, billing=3), refused(10)),
-            ("r", closing(inputs.no_charge(), D, number=1), refused(10)),
+            ("r", closing(make_calls.no_charge(), D, number=1), refused(10)),
             ("s", euros(500, D, total=0), costs(*half))):
         check(f"price {case}", price.answer(*given), wanted)
 
@@ -712,8 +717,8 @@ def months():
     """The readings' cases: figures, and the numbers, then what of the month is not zero."""
     D, E = price.D, price.E
     identified = aoc.Association(kind=aoc.BY_IDENTIFIER, id=3)
-    free = lambda service, **fields: closing(inputs.no_charge(), service, **fields)
-    counted = lambda service, *entries, **fields: closing(inputs.units(*entries), service, **fields)
+    free = lambda service, **fields: closing(make_calls.no_charge(), service, **fields)
+    counted = lambda service, *entries, **fields: closing(make_calls.units(*entries), service, **fields)
     letters = [bytes((c,)) for c in b"ABCDEFGHIJKLMNOP"]
 
     def holds(added, rows=(), units={}, absent=0, free=0, table={}):
@@ -807,7 +812,7 @@ def messages():
         check(name, got, re.sub(r"component \d+ (\d+)", r"component \1", wanted))
     rng = random.Random(10)
     for i in range(1500):
-        line = inputs.trace_input(rng, rng.randint(0, 14)) if i % 2 else inputs.why_input(rng, rng.randint(0, 14))
+        line = make_traces.trace_input(rng, rng.randint(0, 14)) if i % 2 else make_calls.why_input(rng, rng.randint(0, 14))
         if i % 2:
             _, _, pairs, given = line[2:].split(" ")
             events = trace.read([int(pairs[k:k + 8], 16) for k in range(0, len(pairs), 8)], octets(given))[2]
@@ -888,8 +893,8 @@ def generated(count):
     """Records made, laid out and read back; and whatever is read, written and read back."""
     rng = random.Random(2024)
     for _ in range(count):
-        made, root = inputs.fitting_record(rng)
-        short, laid = inputs.lay(root), inputs.loosely(rng, root)
+        made, root = make_records.fitting_record(rng)
+        short, laid = make_trees.lay(root), make_records.loosely(rng, root)
         check("laid out", aoc.read(laid), (0, made))
         check("shortest", aoc.write(made, len(short)), (0, short))
         check("no room", aoc.write(made, len(short) - 1), (12, b""))
@@ -906,7 +911,7 @@ def generated(count):
         check("written", (written_number, len(written) <= len(given)), (0, True))
         check("read back", aoc.read(written), (0, found))
     for _ in range(count):
-        given = inputs.facility(rng)
+        given = make_elements.facility(rng)
         number, starts = aoc.element(given)
         for i, j in zip(starts, starts[1:] + [len(given)]):
             check("a tile", aoc.read(given[i:j])[0] in (1, 3, 5), False)
