@@ -37,6 +37,7 @@ fi
 if [ "$(uname -m)" = x86_64 ]; then
     "$work/aoc/bin/aoc-lines" <crates/lines/stdin | cmp - crates/lines/stdout || exit 1
     "$work/aoc/bin/aoc-explain" <examples/explain.txt | cmp - examples/explain.out || exit 1
+    "$work/aoc/bin/aoc-replay" <examples/replay.txt | cmp - examples/replay.out || exit 1
 fi
 
 # host NAME: compiles NAME.c of the work folder
