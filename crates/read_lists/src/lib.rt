@@ -3,7 +3,7 @@
 // The readers store what they read where it will lie: a list in two arrays and the rest in the figure's 48 octets, all zero before.
 // After a fault what is stored does not count.
 ghost use mathlib.Core.Path.{_≡_};
-ghost use mathlib.Core.Bool.{false, _&&_, _||_};
+ghost use mathlib.Core.Bool.{cond, false, _&&_, _||_};
 ghost use Prim.Native.Nat.{_+_, _*_, _≤_, _<_};
 ghost use lib.ListN.{length};
 ghost use lib.Dec.{eqb};
@@ -14,7 +14,7 @@ ghost use Rattle.types.specs.Entries.{noUnits, unit, unitNumbers, unitOctets};
 ghost use Rattle.types.specs.Arguments.{noCharge, inUnits, rates, available};
 ghost use Rattle.types.specs.Stored.{Blank};
 ghost use Rattle.read_figures.specs.Beside.{Unassociated};
-ghost use Rattle.read_lists.specs.Readers.{whole, Clear, unitNumber, inRates, isTariff, isSubtotal, isMoney, amountBy, typeBy, billingBy, framedBy, pricedOf, settledOf, figureOf};
+ghost use Rattle.read_lists.specs.Readers.{whole, Clear, unitNumber, inRates, isTariff, isSubtotal, isTrunk, isMoney, mostBilling, billingLeaf, amountBy, typeBy, billingBy, framedBy, pricedOf, settledOf, figureOf, formOf};
 
 pub struct UnitsRead {
     pub fault: u8,
@@ -163,13 +163,14 @@ fn rates_in(
     s: &[u8],
     at: usize,
     end: usize,
+    trunk: bool,
     numbers: &mut [u32; 32],
     octets: &mut [u8; 192],
     figure: &mut [u8; 48],
 ) -> read_elements::Empty
     requires { ⌜ end ≤ length (now s) ⌝ }
     requires { ⌜ Blank (now figure) (now numbers) (now octets) ⌝ }
-    ensures { λ r. ⌜ whole r (now (figure .exit)) (now (numbers .exit)) (now (octets .exit)) ≡ shown noCharge (inRates (now (s .entry)) at end) ⌝ }
+    ensures { λ r. ⌜ whole r (now (figure .exit)) (now (numbers .exit)) (now (octets .exit)) ≡ shown noCharge (inRates trunk (now (s .entry)) at end) ⌝ }
 {
     if end <= at {
         return read_figures::halted(40, end);
@@ -183,7 +184,7 @@ fn rates_in(
             }
             return read_figures::halted(41, i);
         }
-        let r = read_rates::rate_at(s, i, end);
+        let r = read_rates::rate_at(s, i, end, trunk);
         if r.fault != 0 {
             return read_figures::halted(r.fault, r.place);
         }
@@ -197,24 +198,33 @@ fn rates_in(
     read_figures::reached(i)
 }
 
-// The argument of operation 31.
-fn rates_at(
+// The argument of operation 31, and what a trunk's 63 holds.
+pub fn rates_at(
     s: &[u8],
     at: usize,
     end: usize,
+    trunk: bool,
     numbers: &mut [u32; 32],
     octets: &mut [u8; 192],
     figure: &mut [u8; 48],
 ) -> read_elements::Empty
     requires { ⌜ end ≤ length (now s) ⌝ }
     requires { ⌜ Blank (now figure) (now numbers) (now octets) ⌝ }
-    ensures { λ r. ⌜ whole r (now (figure .exit)) (now (numbers .exit)) (now (octets .exit)) ≡ shown noCharge (rates .read (now (s .entry)) at end) ⌝ }
+    ensures { λ r. ⌜ whole r (now (figure .exit)) (now (numbers .exit)) (now (octets .exit)) ≡ shown noCharge ((rates trunk) .read (now (s .entry)) at end) ⌝ }
 {
     let e = read_lengths::open_at(s, at, end, 0x30);
     if e.fault != 0 {
         return read_figures::halted(e.fault, e.place);
     }
-    let r = rates_in(s, e.value.start, e.value.stop, numbers, octets, figure);
+    let r = rates_in(
+        s,
+        e.value.start,
+        e.value.stop,
+        trunk,
+        numbers,
+        octets,
+        figure,
+    );
     if r.fault != 0 {
         return read_figures::halted(r.fault, r.place);
     }
@@ -236,14 +246,35 @@ fn is_subtotal(operation: u8) -> bool
     operation == 34
 }
 
-// 35 and 33 hand over money; 36 and 34 units.
+// 61 and 62 are a trunk's.
+fn is_trunk(operation: u8) -> bool
+    ensures { λ r. ⌜ r ≡ isTrunk operation ⌝ }
+{
+    61 <= operation
+}
+
+// 35, 33 and a trunk's hand over money; 36 and 34 units.
 fn is_money(operation: u8) -> bool
     ensures { λ r. ⌜ r ≡ isMoney operation ⌝ }
 {
     if operation == 35 {
         return true;
     }
-    operation == 33
+    if operation == 33 {
+        return true;
+    }
+    is_trunk(operation)
+}
+
+// The greatest billing of 35, 36, 61 and 62.
+fn most_billing(operation: u8) -> u32
+    ensures { λ r. ⌜ r ≡ mostBilling operation ⌝ }
+    ensures bounded { λ r. ⌜ r ≤ 7 ⌝ }
+{
+    if operation == 62 {
+        return 2;
+    }
+    7
 }
 
 // What A1 holds.
@@ -264,7 +295,8 @@ fn price_in(
     if !is_money(operation) {
         return units_in(s, at, end, numbers, octets, figure);
     }
-    let m = read_figures::money_at(s, at, end, figure);
+    let trunk = is_trunk(operation);
+    let m = read_figures::money_at(s, at, end, trunk, figure);
     if m.fault != 0 {
         return read_figures::halted(m.fault, m.place);
     }
@@ -289,16 +321,40 @@ fn type_at(s: &[u8], at: usize, end: usize, operation: u8) -> read_elements::Num
     }
 }
 
-// Optional billing: 83 to 2 in 33 and 34, 82 to 7 in 35 and 36.
+// The billing 1 is none of a trunk's.
+fn trunk_billing(b: read_elements::ChosenRead, at: usize) -> read_elements::ChosenRead
+    ensures { λ r. ⌜ (r .fault, r .place, r .value, r .next) ≡ cond (eqb (b .value .value) 1) (refusal (record { given = false; value = 0 }) 44 at) (b .fault, b .place, b .value, b .next) ⌝ }
+    ensures bounded { λ r. ⌜ r .value .value ≤ b .value .value ⌝ }
+{
+    if b.value.value != 1 {
+        return b;
+    }
+    read_elements::ChosenRead {
+        fault: 44,
+        place: at,
+        value: coding::Chosen {
+            given: false,
+            value: 0,
+        },
+        next: 0,
+    }
+}
+
+// Optional billing: 83 to 2 in 33 and 34, 82 in the others.
 fn billing_at(s: &[u8], at: usize, end: usize, operation: u8) -> read_elements::ChosenRead
     requires { ⌜ end ≤ length (now s) ⌝ }
-    ensures { λ r. ⌜ (r .fault, r .place, r .value, r .next) ≡ shown (record { given = false; value = 0 }) (billingBy (isSubtotal operation) (now (s .entry)) at end) ⌝ }
+    ensures { λ r. ⌜ (r .fault, r .place, r .value, r .next) ≡ shown (record { given = false; value = 0 }) (billingBy (isSubtotal operation) (billingLeaf operation) (now (s .entry)) at end) ⌝ }
     ensures bounded { λ r. ⌜ r .value .value ≤ 7 ⌝ }
 {
     if is_subtotal(operation) {
         return read_elements::chosen_at(s, at, end, 0x83, 0, 2);
     }
-    read_elements::chosen_at(s, at, end, 0x82, 0, 7)
+    let most = most_billing(operation);
+    let b = read_elements::chosen_at(s, at, end, 0x82, 0, most);
+    if !is_trunk(operation) {
+        return b;
+    }
+    trunk_billing(b, at)
 }
 
 // The 30 that holds A1, the type and the billing.
@@ -357,7 +413,7 @@ fn priced_at(
 }
 
 // 81 00 free, or the 30.
-fn settled_at(
+pub fn settled_at(
     s: &[u8],
     at: usize,
     end: usize,
@@ -372,7 +428,7 @@ fn settled_at(
     ensures clear { λ _. ⌜ Unassociated (now (figure .exit)) ⌝ }
 {
     if read_lengths::is_tag(s, at, end, 0x81) {
-        return read_figures::free_at(s, at, end, figure);
+        return read_figures::sign_at(s, at, end, 0x81, 1, figure);
     }
     priced_at(s, at, end, operation, numbers, octets, figure)
 }
@@ -433,7 +489,8 @@ fn figure_at(
     if u.next == e.value.stop {
         return read_figures::reached(e.next);
     }
-    let a = read_figures::association_at(s, u.next, e.value.stop, figure);
+    let trunk = is_trunk(operation);
+    let a = read_figures::association_at(s, u.next, e.value.stop, trunk, figure);
     if a.fault != 0 {
         return read_figures::halted(a.fault, a.place);
     }
@@ -444,6 +501,16 @@ fn figure_at(
 }
 
 // ---- by the operation
+
+// What is none of 30 to 35 is read as 36.
+fn form_of(operation: u8) -> u8
+    ensures { λ r. ⌜ r ≡ formOf operation ⌝ }
+{
+    if 36 < operation {
+        return 36;
+    }
+    operation
+}
 
 // 30 to 32 hand over no figure.
 fn is_tariff(operation: u8) -> bool
@@ -484,10 +551,11 @@ pub fn charge_into(
     ensures { λ r. ⌜ whole r (now (figure .exit)) (now (numbers .exit)) (now (octets .exit)) ≡ shown noCharge ((available operation) .read (now (s .entry)) at end) ⌝ }
 {
     if !is_tariff(operation) {
-        return figure_at(s, at, end, operation, numbers, octets, figure);
+        let form = form_of(operation);
+        return figure_at(s, at, end, form, numbers, octets, figure);
     }
     if is_arranged(s, at, end, operation) {
         return read_figures::arrangement_at(s, at, end, figure);
     }
-    rates_at(s, at, end, numbers, octets, figure)
+    rates_at(s, at, end, false, numbers, octets, figure)
 }

@@ -1,7 +1,7 @@
 -- The octets of a charge's parts, how many they are, and that each has room where all have.
-use Rattle.prelude.proofs.Prelude.{ℕ, suc, _+_, _≤_, _<_, _≡_, refl, sym, ap, ap₂, _∙_, List, [], _∷_, _++_, Bool, true, false, _&&_, cond, arith, length, take, length-append, length-take}
+use Rattle.prelude.proofs.Prelude.{ℕ, suc, _+_, _≤_, _<_, _≡_, refl, sym, ap, ap₂, _∙_, List, [], _∷_, _++_, Bool, true, false, true≢false, _&&_, _||_, cond, arith, length, take, length-append, length-take}
 use Rattle.prelude.proofs.Prelude.{length-take-le, ltb, leb, eqb, eq-eqb, ne-eqb, eqb-true, eqb-false, le-ltb, ltb-true, ltb-false}
-use Rattle.coding.{specs.Codec.canonical, specs.Codec.over, specs.Codec.shape, specs.Codec.prim, specs.Codec.pair, specs.Codec.sort, specs.Codec.nothing, specs.Codec.leafOver}
+use Rattle.coding.{specs.Codec.canonical, specs.Codec.over, specs.Codec.shape, specs.Codec.prim, specs.Codec.pair, specs.Codec.sort, specs.Codec.nothing, specs.Codec.leafOver, specs.Codec.pickRun, specs.Codec.cons}
 use Rattle.coding.{specs.Codec.lengthOctets, specs.Codec.padded, specs.Leaves.number, specs.Leaves.string, specs.Leaves.identifier, specs.Leaves.only, specs.Leaves.width}
 use Rattle.coding.{specs.Written.Wrote, specs.Written.Room, specs.Written.lead, specs.Written.fullNumber, proofs.Basic.and-left, proofs.Basic.and-right, proofs.Basic.unpicked}
 use Rattle.coding.{proofs.Writing.number-write, proofs.Writing.number-length, proofs.Writing.cons-write, proofs.Writing.lead-length-short, proofs.Writing.width-range}
@@ -9,10 +9,10 @@ use Rattle.coding.{proofs.Writing.wrote-as, proofs.Writing.wrote-both, proofs.W
 use Rattle.coding.{proofs.Writing.room-tail, proofs.Holds.tested, proofs.Small.small-length, proofs.Small.string-write, proofs.Small.string-length, proofs.Small.id-length}
 use Rattle.types.specs.{declared.Money.Money, declared.Currency.Currency, declared.Association.Association, declared.Scaled.Scaled, Charges.zeroOctet, Charges.scaled, Charges.currencyLeaf}
 use Rattle.types.specs.{Charges.currency, Charges.money, Charges.isDigit, Charges.isPlan, Charges.sameAssociation, Charges.byIdentifier, Charges.digitsLeaf, Charges.digitsOf}
-use Rattle.types.specs.{Charges.identified, Charges.publicParty, Charges.plainParty, Charges.party, Charges.unassociated, Charges.association}
-use Rattle.write_figures.specs.Octets.{element}
-use Rattle.write_tests.{specs.Fine.digitsFine, proofs.Truth.truth, proofs.Tests.scaled-is, proofs.Tests.money-is, proofs.Tests.public-is, proofs.Tests.plain-is, proofs.Tests.association-0}
-use Rattle.write_tests.{proofs.Tests.association-1, proofs.Tests.association-2, proofs.Tests.association-3}
+use Rattle.types.specs.{Charges.ofKind, Charges.identified, Charges.planned, Charges.partyNumber, Charges.plainParty, Charges.party, Charges.unassociated, Charges.association}
+use Rattle.write_figures.specs.Octets.{element, planTag}
+use Rattle.write_tests.{specs.Fine.digitsFine, specs.Fine.isPlanned, proofs.Truth.truth, proofs.Tests.scaled-is, proofs.Tests.money-is, proofs.Tests.planned-is, proofs.Tests.plain-is, proofs.Tests.association-0}
+use Rattle.write_tests.{proofs.Tests.association-1, proofs.Tests.association-2, proofs.Tests.association-planned}
 
 -- ---- by a test, by the kind of an association, by the time of a charge
 
@@ -23,8 +23,9 @@ by-test false f g h = g refl h
 by-number : {P : Type 0} (k n : ℕ) → (k ≡ n → P) → ((k ≡ n → ⊥) → P) → P
 by-number k n f g = tested (eqb k n) (λ e. f (eqb-true k n e)) (λ e. g (eqb-false k n e))
 
-pub by-kind : {P : Type 0} (k : ℕ) → (k ≡ 0 → P) → (k ≡ 1 → P) → (k ≡ 3 → P) → ((k ≡ 0 → ⊥) → (k ≡ 1 → ⊥) → (k ≡ 3 → ⊥) → P) → P
-by-kind k f g h i = by-number k 0 f (λ a. by-number k 1 g (λ b. by-number k 3 h (i a b)))
+pub by-kind : {P : Type 0} (trunk : Bool) (k : ℕ) → (k ≡ 0 → P) → (k ≡ 1 → P) → ((k ≡ 0 → ⊥) → (k ≡ 1 → ⊥) → isPlanned trunk k ≡ true → P)
+    → ((k ≡ 0 → ⊥) → (k ≡ 1 → ⊥) → isPlanned trunk k ≡ false → P) → P
+by-kind trunk k f g h i = by-number k 0 f (λ a. by-number k 1 g (λ b. tested (isPlanned trunk k) (h a b) (i a b)))
 
 pub by-time : {P : Type 0} (o : ℕ) → (o < 35 → P) → (35 ≤ o → P) → P
 by-time o f g = tested (ltb o 35) (λ e. f (ltb-true o 35 e)) (λ e. g (ltb-false o 35 e))
@@ -99,17 +100,17 @@ module _ (tag w : ℕ) (s : Scaled) (h : s .scale ≤ 6) (e : w ≡ width (s .nu
 -- ---- money
 
 -- a valid currency has room for its octets
-currency-room : (tag : ℕ) (c : Currency) → (currency tag) .valid c ≡ true → (c .count ≤ 10) × (length (c .octets) ≡ 10)
+currency-room : (tag : ℕ) (c : Currency) → (currency false tag) .valid c ≡ true → (c .count ≤ 10) × (length (c .octets) ≡ 10)
 unfolding currency prim currencyLeaf leafOver padded
 currency-room tag c v = let g = simp truth at (and-left (padded 10 zeroOctet (c .octets, c .count)) _ v) in (g .0, g .1 .0)
 
-module _ (m : Money) (v : money .valid m ≡ true) where
+module _ (m : Money) (v : (money false) .valid m ≡ true) where
   abbrev amount : Scaled
   amount = record { number = m .number; scale = m .multiplier }
 
   pub money-room : (m .currency .count ≤ 10) × (length (m .currency .octets) ≡ 10) × (m .number ≤ 16777215) × (m .multiplier ≤ 6)
   money-room =
-      let w = sym (money-is m) ∙ v in
+      let w = sym (money-is false m) ∙ v in
       let g = simp truth at (sym (scaled-is 0xa2 amount) ∙ and-left ((scaled 0xa2) .valid amount) _ w) in
       let q = currency-room 0x81 (m .currency) (and-right ((scaled 0xa2) .valid amount) _ w) in
       (q .0, q .1, g .0, g .1)
@@ -126,13 +127,13 @@ module _ (m : Money) (v : money .valid m ≡ true) where
   abbrev currencyOctets : List ℕ
   currencyOctets = 0x81 ∷ lengthOctets (m .currency .count) ++ take (m .currency .count) (m .currency .octets)
 
-  pub money-octets : money .write m ≡ currencyOctets ++ (scaled 0xa2) .write amount
+  pub money-octets : (money false) .write m ≡ currencyOctets ++ (scaled 0xa2) .write amount
   unfolding money shape over pair currency prim currencyLeaf leafOver string
   money-octets =
       ap (λ (k : ℕ). (0x81 ∷ lengthOctets k ++ take (m .currency .count) (m .currency .octets)) ++ (scaled 0xa2) .write amount)
       (length-take-le (m .currency .count) (m .currency .octets) money-fits)
 
-  pub money-length : (w : ℕ) → w ≡ width (m .number) → 9 + m .currency .count + w ≡ length (money .write m)
+  pub money-length : (w : ℕ) → w ≡ width (m .number) → 9 + m .currency .count + w ≡ length ((money false) .write m)
   money-length w e =
       omega (
         arith,
@@ -143,7 +144,7 @@ module _ (m : Money) (v : money .valid m ≡ true) where
         scaled-length 0xa2 w amount money-multiplier e,
       )
 
-  pub money-1 : {l : List ℕ} {a : ℕ} → Room l a (money .write m) → Room l a currencyOctets
+  pub money-1 : {l : List ℕ} {a : ℕ} → Room l a ((money false) .write m) → Room l a currencyOctets
   money-1 r = room-head _ (room-as r money-octets)
 
 -- ---- associations
@@ -159,32 +160,36 @@ digits-room ds n v =
     let e : length (take n ds) ≡ n = g .0 .0 in
     (omega (arith, g .1 .1 .0), omega (arith, length-take n ds))
 
-module _ (a : Association) where
-  pub association-none : a .kind ≡ 0 → association .write a ≡ []
+module _ (trunk : Bool) (a : Association) where
+  pub association-none : a .kind ≡ 0 → (association trunk) .write a ≡ []
   unfolding association sort unassociated canonical over nothing
   association-none e = rw (ne-eqb (a .kind) 1 (λ z. omega arith), eq-eqb (a .kind) 0 e)
 
-  pub association-id : a .kind ≡ 1 → association .write a ≡ (prim 0x02 identifier) .write (a .id)
+  pub association-id : a .kind ≡ 1 → (association trunk) .write a ≡ (prim 0x02 identifier) .write (a .id)
   unfolding association sort identified canonical over
   association-id e = rw (eq-eqb (a .kind) 1 e)
 
-  pub none-length : a .kind ≡ 0 → 0 ≡ length (association .write a)
+  pub none-length : a .kind ≡ 0 → 0 ≡ length ((association trunk) .write a)
   none-length e = sym (ap length (association-none e))
 
-  pub id-size : (w : ℕ) → w ≡ length (identifier .write (a .id)) → a .kind ≡ 1 → 2 + w ≡ length (association .write a)
+  pub id-size : (w : ℕ) → w ≡ length (identifier .write (a .id)) → a .kind ≡ 1 → 2 + w ≡ length ((association trunk) .write a)
   id-size w q e = omega (arith, ap length (association-id e), id-length 0x02 (a .id))
 
+-- a test that the code made
+pub told : {r b c : Bool} → r ≡ b → r ≡ c → b ≡ c
+told e h = sym e ∙ h
+
 -- what a valid association holds: its digits have room, and its plan is one octet
-module _ (a : Association) (v : association .valid a ≡ true) where
+module _ (trunk : Bool) (a : Association) (v : (association trunk) .valid a ≡ true) where
   association-holds : (a .count ≤ 20) × (a .count ≤ length (a .digits)) × (a .plan ≤ 6)
   unfolding identified canonical over
   association-holds =
-      by-kind (a .kind) (λ e. let g = simp truth at (sym (association-0 a e) ∙ v) in omega (arith, g))
-      (λ e. let g = simp truth at (and-left (sameAssociation (byIdentifier (a .id)) a) _ (sym (association-1 a e) ∙ v)) in omega (arith, g))
-      (λ e. numbered (eqb 3 (a .kind) && (eqb 0 (a .id) && (leb (a .plan) 6 && isPlan (a .plan)))) (λ q. let g = simp truth at q in omega (arith, g))
-      (sym (public-is a) ∙ sym (association-3 a e) ∙ v))
+      by-kind trunk (a .kind) (λ e. let g = simp truth at (sym (association-0 trunk a e) ∙ v) in omega (arith, g))
+      (λ e. let g = simp truth at (and-left (sameAssociation (byIdentifier (a .id)) a) _ (sym (association-1 trunk a e) ∙ v)) in omega (arith, g))
+      (λ x y e. numbered (eqb (a .kind) (a .kind) && (eqb 0 (a .id) && (leb (a .plan) 6 && isPlan (a .plan)))) (λ q. let g = simp truth at q in omega (arith, g))
+      (sym (planned-is 0xa1 (a .kind) a) ∙ sym (association-planned trunk a x y e) ∙ v))
       (λ x y z. numbered (eqb 2 (a .kind) && (eqb 0 (a .id) && eqb 0 (a .plan))) (λ q. let g = simp truth at q in omega (arith, g))
-      (sym (plain-is a) ∙ sym (association-2 a x y z) ∙ v))
+      (sym (plain-is a) ∙ sym (association-2 trunk a x y z) ∙ v))
     where
       numbered : (b : Bool) → (b ≡ true → a .plan ≤ 6) → b && digitsFine (a .digits) (a .count) ≡ true → (a .count ≤ 20) × (a .count ≤ length (a .digits)) × (a .plan ≤ 6)
       numbered b p w = omega (arith, p (and-left b _ w), digits-room (a .digits) (a .count) (and-right b _ w))
@@ -215,44 +220,51 @@ module _ (a : Association) (v : association .valid a ≡ true) where
   public-contents =
       omega (arith, length-append (fullNumber 0x0a (a .plan)) (digitsElement 0x12 a), small-length 0x0a (a .plan) (omega (arith, association-plan)), digits-length 0x12)
 
-  public-element : 7 + a .count ≡ length (lead 0xa1 (5 + a .count) ++ publicOctets)
-  public-element =
-      omega (arith, length-append (lead 0xa1 (5 + a .count)) publicOctets, lead-length-short 0xa1 (5 + a .count) (omega (arith, association-count)), public-contents)
+  public-element : (tag : ℕ) → 7 + a .count ≡ length (lead tag (5 + a .count) ++ publicOctets)
+  public-element tag =
+      omega (arith, length-append (lead tag (5 + a .count)) publicOctets, lead-length-short tag (5 + a .count) (omega (arith, association-count)), public-contents)
 
-  module _ (e : a .kind ≡ 3) where
-    public-octets : association .write a ≡ lead 0xa0 (7 + a .count) ++ (lead 0xa1 (5 + a .count) ++ publicOctets)
-    unfolding association party sort publicParty canonical over pair prim only
-    public-octets =
-        rw (ne-eqb (a .kind) 1 (λ z. omega arith), ne-eqb (a .kind) 0 (λ z. omega arith))
-        (cons-write 0xa0 _ a
-        ∙ rw (eq-eqb (a .kind) 3 e)
-        (ap (element 0xa0) (cons-write 0xa1 _ a
-        ∙ ap (element 0xa1) (ap₂ (λ (x y : List ℕ). x ++ y) (number-write 0x0a 0 6 (a .plan)) (digits-write 0x12))
-        ∙ element-as 0xa1 (5 + a .count) publicOctets public-contents)
-        ∙ element-as 0xa0 (7 + a .count) (lead 0xa1 (5 + a .count) ++ publicOctets) public-element))
+  module _ (k0 : a .kind ≡ 0 → ⊥) (k1 : a .kind ≡ 1 → ⊥) (e : isPlanned trunk (a .kind) ≡ true) where
+    -- written as its tag alone would be
+    planned-write : (partyNumber trunk) .write a ≡ (planned (planTag (a .kind)) 3) .write a
+    unfolding partyNumber sort planned cons canonical over
+    planned-write =
+        tested (eqb (a .kind) 3) (λ h. rw (h, eqb-true (a .kind) 3 h)) (λ h. let w : trunk && eqb (a .kind) 4 ≡ true = rw h at e in
+        rw (h, and-left trunk _ w, and-right trunk _ w))
 
-    pub public-length : a .count + 9 ≡ length (association .write a)
+    module _ {tag : ℕ} (t : tag ≡ planTag (a .kind)) where
+      public-octets : (association trunk) .write a ≡ lead 0xa0 (7 + a .count) ++ (lead tag (5 + a .count) ++ publicOctets)
+      unfolding association party sort planned canonical over pair prim only
+      public-octets =
+          rw (ne-eqb (a .kind) 1 k1, ne-eqb (a .kind) 0 k0)
+          (cons-write 0xa0 _ a
+          ∙ (ap (element 0xa0) (planned-write ∙ ap (λ (k : ℕ). (planned k 3) .write a) (sym t) ∙ cons-write tag _ a
+          ∙ ap (element tag) (ap₂ (λ (x y : List ℕ). x ++ y) (number-write 0x0a 0 6 (a .plan)) (digits-write 0x12))
+          ∙ element-as tag (5 + a .count) publicOctets public-contents)
+          ∙ element-as 0xa0 (7 + a .count) (lead tag (5 + a .count) ++ publicOctets) (public-element tag)))
+
+    pub public-length : a .count + 9 ≡ length ((association trunk) .write a)
     public-length =
         omega (
           arith,
-          ap length public-octets,
-          length-append (lead 0xa0 (7 + a .count)) (lead 0xa1 (5 + a .count) ++ publicOctets),
+          ap length (public-octets refl),
+          length-append (lead 0xa0 (7 + a .count)) (lead (planTag (a .kind)) (5 + a .count) ++ publicOctets),
           lead-length-short 0xa0 (7 + a .count) (omega (arith, association-count)),
-          public-element,
+          public-element (planTag (a .kind)),
         )
 
-    module _ {l : List ℕ} {x : ℕ} (r : Room l x (association .write a)) where
-      pub public-1 : Room l x (lead 0xa0 (7 + a .count))
-      public-1 = room-head _ (room-as r public-octets)
+    pub public-1 : {l : List ℕ} {x : ℕ} → Room l x ((association trunk) .write a) → Room l x (lead 0xa0 (7 + a .count))
+    public-1 r = room-head _ (room-as r (public-octets refl))
 
+    module _ {tag : ℕ} (tg : tag ≡ planTag (a .kind)) {l : List ℕ} {x : ℕ} (r : Room l x ((association trunk) .write a)) where
       module _ {m : List ℕ} {y : ℕ} (p : Wrote l m x (lead 0xa0 (7 + a .count)) y) where
-        public-rest : Room m y (lead 0xa1 (5 + a .count) ++ publicOctets)
-        public-rest = room-2 public-octets r p
+        public-rest : Room m y (lead tag (5 + a .count) ++ publicOctets)
+        public-rest = room-2 (public-octets tg) r p
 
-        pub public-2 : Room m y (lead 0xa1 (5 + a .count))
+        pub public-2 : Room m y (lead tag (5 + a .count))
         public-2 = room-head publicOctets public-rest
 
-        module _ {n : List ℕ} {z : ℕ} (q : Wrote m n y (lead 0xa1 (5 + a .count)) z) where
+        module _ {n : List ℕ} {z : ℕ} (q : Wrote m n y (lead tag (5 + a .count)) z) where
           pub public-3 : Room n z (fullNumber 0x0a (a .plan))
           public-3 = room-head (digitsElement 0x12 a) (room-tail q public-rest)
 
@@ -260,21 +272,30 @@ module _ (a : Association) (v : association .valid a ≡ true) where
             pub public-4 : Room o w (digitsElement 0x12 a)
             public-4 = room-tail t (room-tail q public-rest)
 
-            pub public-all : {k : List ℕ} {d : ℕ} → Wrote o k w (digitsElement 0x12 a) d → Wrote l k x (association .write a) d
-            public-all u = wrote-three public-octets p q (wrote-both t u)
+            pub public-all : {k : List ℕ} {d : ℕ} → Wrote o k w (digitsElement 0x12 a) d → Wrote l k x ((association trunk) .write a) d
+            public-all u = wrote-three (public-octets tg) p q (wrote-both t u)
 
   -- ---- a number without
 
-  module _ (k0 : a .kind ≡ 0 → ⊥) (k1 : a .kind ≡ 1 → ⊥) (k3 : a .kind ≡ 3 → ⊥) where
-    pub plain-octets : association .write a ≡ lead 0xa0 (2 + a .count) ++ digitsElement 0x80 a
+  module _ (k0 : a .kind ≡ 0 → ⊥) (k1 : a .kind ≡ 1 → ⊥) (k3 : isPlanned trunk (a .kind) ≡ false) where
+    plain-write : (partyNumber trunk) .write a ≡ plainParty .write a
+    unfolding partyNumber sort
+    plain-write =
+        tested (eqb (a .kind) 3) (λ h. absurd (true≢false (sym (ap (λ (b : Bool). b || (trunk && eqb (a .kind) 4)) h) ∙ k3)))
+        (λ h. rw h (go trunk (sym (ap (λ (b : Bool). b || (trunk && eqb (a .kind) 4)) h) ∙ k3)))
+      where
+        go : (t : Bool) → t && eqb (a .kind) 4 ≡ false → (pickRun t (sort 0xa5 (ofKind 4) (planned 0xa5 4) plainParty) plainParty) .write a ≡ plainParty .write a
+        go true z = rw z
+        go false z = refl
+
+    pub plain-octets : (association trunk) .write a ≡ lead 0xa0 (2 + a .count) ++ digitsElement 0x80 a
     unfolding association party sort plainParty canonical over
     plain-octets =
         rw (ne-eqb (a .kind) 1 k1, ne-eqb (a .kind) 0 k0)
         (cons-write 0xa0 _ a
-        ∙ rw (ne-eqb (a .kind) 3 k3)
-        (ap (element 0xa0) (digits-write 0x80) ∙ element-as 0xa0 (2 + a .count) (digitsElement 0x80 a) (digits-length 0x80)))
+        ∙ (ap (element 0xa0) (plain-write ∙ digits-write 0x80) ∙ element-as 0xa0 (2 + a .count) (digitsElement 0x80 a) (digits-length 0x80)))
 
-    pub plain-length : a .count + 4 ≡ length (association .write a)
+    pub plain-length : a .count + 4 ≡ length ((association trunk) .write a)
     plain-length =
         omega (
           arith,
@@ -284,5 +305,5 @@ module _ (a : Association) (v : association .valid a ≡ true) where
           digits-length 0x80,
         )
 
-    pub plain-1 : {l : List ℕ} {x : ℕ} → Room l x (association .write a) → Room l x (lead 0xa0 (2 + a .count))
+    pub plain-1 : {l : List ℕ} {x : ℕ} → Room l x ((association trunk) .write a) → Room l x (lead 0xa0 (2 + a .count))
     plain-1 r = room-head _ (room-as r plain-octets)

@@ -7,10 +7,11 @@ use Rattle.read_lists.proofs.charge_into.Tie as tie
 pub charge-into-spec : {M : Type 1} → statement M
 charge-into-spec =
     tie.close
-    (tie.spec (search needs) (λ c κs. search needs)
+    (tie.spec (search needs) (search needs) (λ c κs. search needs)
     (λ c.
-    let a = c .before .before .before in
-    rw (figure-of _ (sym (a .before .before .is-tariff .ensures) ∙ not-true _ (a .before .if1 .taken))) (c .figure-at .ensures))
+    let e = c .before .before in
+    let f = e .before .before in
+    rw (figure-of _ (sym (f .before .before .is-tariff .ensures) ∙ not-true _ (f .before .if1 .taken)), ← f .form-of .ensures) (c .figure-at .ensures))
     (search needs) (λ c κs. search needs)
     (λ c.
     let a = c .before .before .before in

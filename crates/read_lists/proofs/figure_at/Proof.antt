@@ -1,9 +1,9 @@
 -- Each return by the answers that led to it.
-use Rattle.prelude.proofs.Prelude.{needs, arith, _≡_, refl, sym, _∙_, _≤_, length}
+use Rattle.prelude.proofs.Prelude.{needs, arith, _≡_, refl, sym, _∙_, _≤_, length, Bool}
 use Rattle.coding.{specs.Shown.shown, proofs.Reading.reading, proofs.Reading.step, proofs.Reading.shut}
 use Rattle.types.specs.{Arguments.noCharge, Stored.storedCharge}
 use Rattle.read_figures.{specs.Beside.Unassociated, proofs.Answers.storing, proofs.Answers.goes}
-use Rattle.read_lists.specs.Readers.{figureOf}
+use Rattle.read_lists.specs.Readers.{figureOf, isTrunk}
 use Rattle.read_lengths.proofs.Answers.{passed}
 use Rattle.read_lists.proofs.{Stores.none-stored, Stores.association-stored, Steps.ended, Steps.parties, Steps.parties-none, Steps.figure-read, figure_at.Statement.statement}
 use Rattle.read_lists.proofs.figure_at.Tie as tie
@@ -17,10 +17,10 @@ settled : (c : tie.Else3) →
     let g = e .before .before .args in
     let w = p .settled-at .last .1 .1 .1 .1 in
     let o = e .frame-at .result in
-    (shown noCharge (parties (storedCharge (w .1 .1 .0) (w .0) (w .1 .0)) (g .s .now) (p .settled-at .result .next) (o .value .stop) (o .next))
+    ((b : Bool) → b ≡ isTrunk (g .operation) → shown noCharge (parties b (storedCharge (w .1 .1 .0) (w .0) (w .1 .0)) (g .s .now) (p .settled-at .result .next) (o .value .stop) (o .next))
     ≡ shown noCharge ((figureOf (g .operation)) .read (g .s .now) (g .at) (g .end)))
     × Unassociated (w .1 .1 .0) × (o .value .stop ≤ length (g .s .now))
-settled c = (rw figure-read (search (passed, goes, step, refl) depth 8), search, omega arith)
+settled c = (λ b e. rw e (rw figure-read (search (passed, goes, step, refl) depth 8)), search, omega arith)
 
 pub figure-at-spec : {M : Type 1} → statement M
 figure-at-spec =
@@ -39,25 +39,28 @@ figure-at-spec =
     (λ c.
     let k = c .before .before .before in
     let m = settled (k .before) in
-    none-stored _ _ _ (c .reached .ensures) (m .1) (parties-none (storedCharge _ _ _) _ _ _ _ (c .before .if4 .taken)) ∙ m .0)
-    (λ c κs. let k = c .before .before .before in let m = settled (k .before) in (m .2, m .1)) (search needs)
+    none-stored _ _ _ (c .reached .ensures) (m .1) (parties-none _ (storedCharge _ _ _) _ _ _ _ (c .before .if4 .taken)) ∙ m .0 _ refl)
+    (search needs) (λ c κs. let e = c .before .before in let k = e .before .before in let m = settled (k .before) in (m .2, m .1)) (search needs)
     (λ c.
     let a = c .before .before .before in
-    let k = a .before .before .before in
+    let i = a .before .before in
+    let k = i .before .before in
     let m = settled (k .before .before) in
-    search (storing, reading) ∙ m .0)
+    search (storing, reading) ∙ m .0 _ (i .is-trunk .ensures))
     (search needs)
     (λ c.
     let l = c .before .before .before in
     let a = l .before .before .before in
-    let k = a .before .before .before in
+    let i = a .before .before in
+    let k = i .before .before in
     let m = settled (k .before .before) in
-    search (storing, reading) depth 8 fits 4000 ∙ m .0)
+    search (storing, reading) depth 8 fits 4000 ∙ m .0 _ (i .is-trunk .ensures))
     (search needs)
     (λ c.
     let l = c .before .before .before in
     let a = l .before .before .before in
-    let k = a .before .before .before in
+    let i = a .before .before in
+    let k = i .before .before in
     let m = settled (k .before .before) in
     association-stored _ _ _ (c .reached2 .ensures) _ (a .association-at .ensures .1)
-    (goes _ _ _ _ _ (a .association-at .ensures .0) (l .before .if5 .left) (shut _ _ _ _ _ (c .before .if6 .left))) ∙ m .0))
+    (goes _ _ _ _ _ (a .association-at .ensures .0) (l .before .if5 .left) (shut _ _ _ _ _ (c .before .if6 .left))) ∙ m .0 _ (i .is-trunk .ensures)))

@@ -1,0 +1,3 @@
+pub mod Arcs
+pub mod Tiles
+pub mod Copied
