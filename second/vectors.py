@@ -3,6 +3,7 @@
 python3 vectors.py [COUNT]: COUNT generated components for the self-checks.
 """
 
+import os
 import random
 import re
 import sys
@@ -11,6 +12,7 @@ import answer
 import aoc
 import inputs
 import price
+import trunks
 import why
 from aoc import D, E, S
 
@@ -621,6 +623,51 @@ def line_program():
     check("255 octets", aoc.line_program(b" ".join([b"A1"] * 255)), "refused 3\n")
 
 
+def trunk_cases():
+    """The cases of the readings of 02's request 1; then what their octets become when they are damaged."""
+    shown = lambda given: given.hex(" ").upper()
+    taken = []
+    with open(os.path.join(os.path.dirname(__file__), "trunk_cases.txt"), encoding="utf-8") as lines:
+        rows = [line.rstrip("\n").split(" | ") for line in lines if not line.startswith("#")]
+    for name, given, wanted, *reply in rows:
+        given = octets(given)
+        if name[0] == "E":
+            number, profile, starts = trunks.element(given)
+            check(name, str(number) if number else " ".join((f"{profile:02X}", *map(str, starts))), wanted)
+            continue
+        profile, given = given[0], given[1:]
+        number, offset, found = trunks.locate(profile, given)
+        if number:
+            answer = str(9 if number in range(40, 46) else number)
+        else:
+            write = trunks.write if profile == trunks.PRIVATE else lambda record: aoc.write(record, 254)
+            written = write(found)[1]
+            answer = "same" if written == given else shown(written)
+        check(name, answer, wanted)
+        number, sent = trunks.reply(profile, given)
+        check(name + " reply", ("-" if number else shown(sent) or "none",), tuple(reply))
+        if profile == trunks.PRIVATE:
+            taken.append(given)
+    rng = random.Random(2025)
+    for _ in range(20000):
+        given = bytearray(rng.choice(taken))
+        for _ in range(rng.randrange(3)):
+            if given:
+                given[rng.randrange(len(given))] = rng.choice((0, 1, 2, 5, 6, 0x0A, 0x30, 0x80, 0x81, 0xA1, 0xA2, 0xFF, rng.randrange(256)))
+        if rng.random() < 0.2:
+            del given[rng.randrange(len(given) + 1):]
+        given = bytes(given)
+        number, offset, found = trunks.locate(trunks.PRIVATE, given)
+        if number:
+            inside = 2 <= offset <= len(given) if number in range(40, 46) else number in range(1, 9) and offset == 0
+            check("a trunk's refusal 1 to 8, or 40 to 45 with an offset", (inside, found), (True, None))
+            continue
+        number, written = trunks.write(found)
+        check("a trunk's component written", (number, len(written) <= len(given)), (0, True))
+        check("a trunk's component read back", trunks.locate(trunks.PRIVATE, written), (0, 0, found))
+        check("a trunk's component in memory", len(trunks.pack(found)), 660)
+
+
 def generated(count):
     """Records made, laid out and read back; and whatever is read, written and read back."""
     rng = random.Random(2024)
@@ -664,6 +711,7 @@ def main():
     passes()
     prices()
     line_program()
+    trunk_cases()
     generated(count)
     print(f"{passed} passed, {failed} failed")
     sys.exit(1 if failed else 0)
