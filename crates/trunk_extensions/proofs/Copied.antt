@@ -1,13 +1,13 @@
 -- Octets copied into an extension's places.
 use Rattle.prelude.proofs.Prelude.{ℕ, _+_, _-_, _≤_, _≡_, refl, sym, ap, _∙_, List, [], _∷_, _++_, append-nil, Bool, true, arith, length, set}
 use Rattle.coding.{specs.Reader.part, specs.Codec.pad, proofs.Parts.part-length}
-use Rattle.coding.{specs.Reader.Ans, specs.Reader.Fault, specs.Reader.Ans.got, specs.Reader.Ans.halt, specs.Shown.shown, specs.Kept.keeping, proofs.Reading.some-code}
+use Rattle.coding.{specs.Reader.Ans, specs.Reader.Reader, specs.Reader.Fault, specs.Reader.Ans.got, specs.Reader.Ans.halt, specs.Shown.shown, specs.Kept.keeping, proofs.Reading.some-code}
 use Rattle.types.proofs.Places.{Ends}
 use Rattle.coding.{specs.Reader.after, specs.Reader.opened, specs.Kept.judgedAlone, specs.Kept.asReceived, specs.Codec.canonical, specs.Codec.over, proofs.Reading.flat, proofs.Reading.stay}
 use Rattle.trunks.specs.declared.Extension.{Extension}
-use Rattle.trunks.specs.Extensions.{extensionBy, extensionAt, inOne}
+use Rattle.trunks.specs.Extensions.{extensionBy, extensionAt}
 use Rattle.read_figures.proofs.Texts.{Passed}
-use Rattle.trunk_extensions.specs.Stored.{extensionIn}
+use Rattle.trunks.specs.Stored.{extensionIn}
 
 abbrev pub any : ℕ → Bool
 any x = true
@@ -43,12 +43,12 @@ keeps-in xs start next (got u n') q k0 = refl
 keeps-in xs start next (halt w p') q k0 = absurd (some-code w (sym (ap (λ (t : ℕ × ℕ × Unit {0} × ℕ). t .0) q) ∙ k0))
 
 -- an extension read in the code's steps
-pub extension-read : (tag kind : ℕ) (s : List ℕ) (at end : ℕ) →
-    (extensionAt tag kind inOne) .read s at end ≡
+pub extension-read : (tag kind : ℕ) (judge : Reader (Unit {0})) (s : List ℕ) (at end : ℕ) →
+    (extensionAt tag kind judge) .read s at end ≡
     after (opened tag s at end) (λ x next.
-    after (keeping (part s (x .start) (x .stop)) (x .start) next (judgedAlone 242 inOne (part s (x .start) (x .stop)))) (λ xs n. got (extensionBy kind xs) n))
+    after (keeping (part s (x .start) (x .stop)) (x .start) next (judgedAlone 242 judge (part s (x .start) (x .stop)))) (λ xs n. got (extensionBy kind xs) n))
 unfolding extensionAt canonical over asReceived
-extension-read tag kind s at end = simp flat
+extension-read tag kind judge s at end = simp flat
 
 module _ (xs : List ℕ) (start next kind : ℕ) (r : Ans (Unit {0})) (y : Extension) {k p n : ℕ} (q : (k, p, tt, n) ≡ shown tt r) where
   pub outs : (k ≡ 0 → ⊥) → (k, start + p, y, 0) ≡ shown y (after (keeping xs start next r) (λ xs n. got (extensionBy kind xs) n))

@@ -48,6 +48,9 @@ module _ (s : List ℕ) (start stop k : ℕ) (l : stop ≤ length s) {b : Bool} 
 pub value-low : (k v : ℕ) {r : Bool} → r ≡ oneOf (knownIn k) v → r ≡ true → v < 1017
 value-low k v q h = omega (arith, known-low k v (sym q ∙ h))
 
+pub value-is : (k v : ℕ) {r : Bool} → r ≡ oneOf (knownIn k) v → r ≡ true → oneOf (knownIn k) v ≡ true
+value-is k v q h = sym q ∙ h
+
 pub ruleset valuing = (value-padded, value-long, value-negative, value-known, value-unknown)
 
 -- ---- the operations are those from 59 to 65

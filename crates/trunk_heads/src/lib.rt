@@ -1,5 +1,6 @@
 // What stands at the head of a trunk's component: the component's own element, and its operation or error value.
 ghost use mathlib.Core.Path.{_≡_};
+ghost use mathlib.Core.Bool.{true};
 ghost use Prim.Native.Nat.{_+_, _≤_, _<_};
 ghost use lib.ListN.{length};
 ghost use Rattle.coding.specs.Reader.{part, enteredAny};
@@ -83,6 +84,7 @@ fn value_in(s: &[u8], start: usize, stop: usize, frame: u8) -> read_elements::Ve
     requires { ⌜ (start ≤ stop) × (stop ≤ length (now s)) ⌝ }
     ensures { λ r. ⌜ (r .fault, r .value) ≡ verdict 0 (listing (unknownIn frame) (knownIn frame) (part (now (s .entry)) start stop)) ⌝ }
     ensures bounded { λ r. ⌜ r .value < 1017 ⌝ }
+    ensures known { λ r. ⌜ (r .fault ≡ 0 → oneOf (knownIn frame) (r .value) ≡ true) ⌝ }
 {
     if !read_elements::is_shortest(s, start, stop) {
         return read_elements::Verdict {
@@ -112,6 +114,7 @@ pub fn value_at(s: &[u8], at: usize, end: usize, frame: u8) -> read_elements::Nu
     requires { ⌜ end ≤ length (now s) ⌝ }
     ensures { λ r. ⌜ (r .fault, r .place, r .value, r .next) ≡ shown 0 ((value (unknownIn frame) (knownIn frame)) .read (now (s .entry)) at end) ⌝ }
     ensures bounded { λ r. ⌜ r .value < 1017 ⌝ }
+    ensures known { λ r. ⌜ (r .fault ≡ 0 → oneOf (knownIn frame) (r .value) ≡ true) ⌝ }
 {
     if read_lengths::is_tag(s, at, end, 0x06) {
         let fault = unknown(frame);

@@ -18,7 +18,7 @@ extension-at-spec =
     let e = j .before .before in
     let o = e .before .before in
     rw extension-read
-    (refused _ _ (c .halted2 .ensures) (t .if2 .taken) (step _ _ _ _ (o .open-at .ensures .0) (e .if1 .left) (outs _ _ _ _ _ _ (j .judged-one .ensures .0) (t .if2 .taken)))))
+    (refused _ _ (c .halted2 .ensures) (t .if2 .taken) (step _ _ _ _ (o .open-at .ensures .0) (e .if1 .left) (outs _ _ _ _ _ _ (j .judged .ensures .0) (t .if2 .taken)))))
     (λ c κs.
     let j = c .before .before .before in
     let e = j .before .before in
@@ -26,11 +26,11 @@ extension-at-spec =
     let i = o .open-at .ensures .1 in
     let a = o .before .before in
     let l = part-length (a .args .s .now) (o .open-at .result .value .start) (o .open-at .result .value .stop) (omega (arith, i .1, a .pre .0)) in
-    ((i .0, omega (arith, i .1, a .pre .0), omega (arith, l, j .judged-one .ensures .1 .1 (c .before .if2 .left))), a .pre .1)) (search needs)
+    ((i .0, omega (arith, i .1, a .pre .0), omega (arith, l, j .judged .ensures .1 .1 (c .before .if2 .left))), a .pre .1)) (search needs)
     (λ c.
     let l = c .before .before .before in
     let j = l .before .before in
     let e = j .before .before in
     let o = e .before .before in
     rw extension-read
-    (arrived _ _ (c .reached .ensures) (step _ _ _ _ (o .open-at .ensures .0) (e .if1 .left) (ins _ _ _ _ _ _ (j .judged-one .ensures .0) (l .if2 .left) _ (c .before .keep-extension .ensures))))))
+    (arrived _ _ (c .reached .ensures) (step _ _ _ _ (o .open-at .ensures .0) (e .if1 .left) (ins _ _ _ _ _ _ (j .judged .ensures .0) (l .if2 .left) _ (c .before .keep-extension .ensures))))))
