@@ -1,0 +1,4 @@
+pub mod Leads
+pub mod Marked
+pub mod Frames
+pub mod Whole
