@@ -22,7 +22,7 @@ if not own:
     function = re.search(r"^fn \w+::([\w:]+): no proof", text, re.M) or re.search(r"^fn \w+::([\w:]+): (?!proved)", text, re.M)
     if not need or not function:
         sys.exit(f"{sys.argv[1]}: no error")
-    print(f"`{function[1]}` | `{need[1]}` | not found by search")
+    print(f"`{function[1]}`: `{need[1]}` | not found")
     sys.exit()
 place, need, says = own[0].groups()
 place = re.sub(r"^proofs/(?:(\w+)/)?(\w+)/Proof\.antt$", lambda m: (m[1] + "::" if m[1] else "") + m[2], place)
@@ -35,22 +35,22 @@ values = re.search(r"(?:goal|part) fails, at ((?:[^.]|\.(?=\S)){1,160})\. ", say
 if sides:
     what = f"`{sides[-1][0]}` against `{sides[-1][1]}`"
 elif "omega" in head:
-    what = f"fails at {values[1]}" if values and "argsV" not in values[1] and "\n" not in values[1] else "numbers for which it fails"
+    what = f"fails at {values[1]}" if values and "argsV" not in values[1] and "\n" not in values[1] else "numbers"
 elif "does not close" in says or "`search`: no proof" in head:
-    what = "not found by search"
+    what = "not found"
 elif "two ends are equal" in says or "last argument" in head:
-    what = "two sides that are not equal"
+    what = "unequal"
 elif "differ" in head or "expected type" in says:
-    what = "two types that differ"
+    what = "types differ"
 else:
     what = head[:80].replace("|", "\\|")
-print(f"`{place}` | `{need}` | {what}")
+print(f"`{place}`: `{need}` | {what}")
 PYTHON
 }
 
 table() {
-    echo '| Edit | The wrong program | Where it stops | The need | What the log shows |'
-    echo '|---|---|---|---|---|'
+    echo '| Edit | The wrong program | Where it stops: the need | What the log shows |'
+    echo '|---|---|---|---|'
     wrong=
     for edit in crates/*/must-fail/*.edit; do
         crate=${edit#crates/} crate=${crate%%/*} name=$(basename "$edit" .edit)
