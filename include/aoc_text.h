@@ -162,6 +162,16 @@ static inline void aoc_put_words(aoc_text *text, const char *words)
         aoc_put_character(text, *words++);
 }
 
+/* The null at the end; before it ".." where the text is cut. */
+static inline size_t aoc_end_text(aoc_text *text)
+{
+    if (text->room)
+        text->to[text->length < text->room ? text->length : text->room - 1] = 0;
+    for (size_t i = 2; text->length >= text->room && i <= 3 && i <= text->room; i++)
+        text->to[text->room - i] = '.';
+    return text->length;
+}
+
 static inline void aoc_put_octets(aoc_text *text, const uint8_t *octets, size_t count, size_t most)
 {
     for (size_t i = 0; i < count && i < most; i++)
@@ -340,29 +350,21 @@ AOC_INLINE size_t aoc_print_charge(char *buffer, size_t room, const aoc_charge *
         aoc_put_words(&text, aoc_billing_text(charge->billing));
     }
     aoc_put_association(&text, &charge->association);
-    if (room)
-        buffer[text.length < room ? text.length : room - 1] = 0;
-    for (size_t i = 2; text.length >= room && i <= 3 && i <= room; i++)
-        buffer[room - i] = '.';
-    return text.length;
+    return aoc_end_text(&text);
 }
 
 AOC_INLINE size_t aoc_print_currency(char *buffer, size_t room, const aoc_currency *currency)
 {
     aoc_text text = {buffer, room, 0};
     aoc_put_octets(&text, currency->octets, currency->count, AOC_LIMIT_CURRENCY_OCTETS);
-    if (room)
-        buffer[text.length < room ? text.length : room - 1] = 0;
-    return text.length;
+    return aoc_end_text(&text);
 }
 
 AOC_INLINE size_t aoc_print_money(char *buffer, size_t room, const aoc_money *money)
 {
     aoc_text text = {buffer, room, 0};
     aoc_put_money(&text, money);
-    if (room)
-        buffer[text.length < room ? text.length : room - 1] = 0;
-    return text.length;
+    return aoc_end_text(&text);
 }
 
 #ifdef __cplusplus

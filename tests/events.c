@@ -231,18 +231,28 @@ static void test_words(void)
     CHECK(!differ(aoc_operation_text(AOC_OPERATION_E_CURRENCY), "aOCECurrency"), "words");
 }
 
+/* Whether the first of a text stand in the room, ".." last where it is cut, and a null behind them. */
+static bool printed(const char *buffer, size_t room, const char *text, size_t whole)
+{
+    size_t fits = whole < room ? whole : room ? room - 1 : 0;
+    for (size_t i = 0; i < fits; i++)
+        if (buffer[i] != (whole >= room && i + 3 >= room ? '.' : text[i]))
+            return false;
+    return !room || !buffer[fits];
+}
+
 static void test_amounts(void)
 {
     static const aoc_money money = {{10, {'A', 'B', 'C', 'D', 'E', 'F', 'G', 'H', 'I', 1}}, AOC_MULTIPLIER_TENTH, 15};
     static const char text[] = "ABCDEFGHI? 1.500";
     char *buffer;
     for (size_t room = 0; room < 20; room++) {
-        size_t fits = room > 16 ? 16 : room ? room - 1 : 0, first = fits < 10 ? fits : 10;
+        size_t fits = room > 16 ? 16 : room ? room - 1 : 0;
         buffer = (char *)make_room(room);
-        CHECK(aoc_print_money(buffer, room, &money) == 16 && !memcmp(buffer, text, fits) && (!room || !buffer[fits]), "an amount");
+        CHECK(aoc_print_money(buffer, room, &money) == 16 && printed(buffer, room, text, 16), "an amount");
         CHECK(room <= fits + 1 || all(buffer + fits + 1, room - fits - 1, MARK), "an amount");
         buffer = (char *)make_room(room);
-        CHECK(aoc_print_currency(buffer, room, &money.currency) == 10 && !memcmp(buffer, text, first) && (!room || !buffer[first]), "a currency");
+        CHECK(aoc_print_currency(buffer, room, &money.currency) == 10 && printed(buffer, room, text, 10), "a currency");
     }
     aoc_currency hostile;
     memset(&hostile, 0xFF, sizeof hostile);
