@@ -1,7 +1,7 @@
 #!/bin/sh
 # sh docs/costs.sh          prints, for each crate, the lines of definitions, code and proof, its must-fail edits, and the seconds of its
-#                           check, as the table of docs/COSTS.md. Seconds are those of target/log; where there is no log, and for
-#                           memory, which no log has, what the table of docs/COSTS.md says now is kept.
+#                           check, as the table of docs/COSTS.md. Seconds are those of target/log; where there is no log, what the table of
+#                           docs/COSTS.md says now is kept.
 # sh docs/costs.sh write    puts that table into docs/COSTS.md.
 # sh docs/costs.sh files    prints the lines of each file of definitions.
 cd "$(dirname "$0")/.." || exit 2
@@ -28,20 +28,15 @@ seconds() {
     echo "${s:--}"
 }
 
-memory() {
-    m=$(kept "$1" 8)
-    echo "${m:--}"
-}
-
 table() {
-    echo '| Crate | Definitions | Code | Proof | Edits | Seconds | Memory (GB) |'
-    echo '|---|---|---|---|---|---|---|'
+    echo '| Crate | Definitions | Code | Proof | Edits | Seconds |'
+    echo '|---|---|---|---|---|---|'
     crates | while read -r name; do
         d=crates/$name
         edits=$(find "$d/must-fail" -name '*.edit' 2>/dev/null | wc -l | tr -d ' ')
-        echo "| \`$name\` | $(lines "$d/specs" antt) | $(lines "$d/src" rt) | $(lines "$d/proofs" antt) | $edits | $(seconds "$name") | $(memory "$name") |"
+        echo "| \`$name\` | $(lines "$d/specs" antt) | $(lines "$d/src" rt) | $(lines "$d/proofs" antt) | $edits | $(seconds "$name") |"
     done | awk -F'|' '{ print; a += $3; b += $4; c += $5; d += $6; e += $7; if ($7 !~ /[0-9]/) open = 1 }
-        END { printf "| all | %d | %d | %d | %d | %s | |\n", a, b, c, d, open ? "-" : e }'
+        END { printf "| all | %d | %d | %d | %d | %s |\n", a, b, c, d, open ? "-" : e }'
 }
 
 case $1 in
