@@ -9,7 +9,7 @@ void pri_set_error(void (*say)(struct pri *, char *));
 const unsigned char *rose_decode(struct pri *, const unsigned char *from, const unsigned char *end, void *record);
 unsigned char *rose_encode(struct pri *, unsigned char *from, unsigned char *end, const void *record);
 
-enum { USER_SIDE = 2, ETSI = 5 };
+enum { USER_SIDE = 2, ETSI = 5, QSIG = 10 };
 
 static struct pri *control;
 static uint64_t record[2048];
@@ -29,7 +29,11 @@ void start_side(void)
 {
     pri_set_message(quiet);
     pri_set_error(quiet);
+#ifdef TRUNKS
+    control = pri_new_cb(0, USER_SIDE, QSIG, no_line, no_line, NULL);
+#else
     control = pri_new_cb(0, USER_SIDE, ETSI, no_line, no_line, NULL);
+#endif
 }
 
 int rewrite(const uint8_t *octets, size_t length, uint8_t *buffer, size_t room)

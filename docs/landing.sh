@@ -212,17 +212,15 @@ def main():
     states = ("added", "changed", "removed")
     files_of = collections.Counter(state.values())
 
-    print("### In all\n")
-    table(
-        ["", "Added", "Changed", "Removed", "Stayed", "Lines added", "Lines removed"],
-        [
-            ["Definitions (`specs/`)", *definitions.count(), lines["specs", 0], lines["specs", 1]],
-            ["Promises (`src/`)", *promises.count(), lines["src", 0], lines["src", 1]],
-            ["Theorems' statements", *statements.count(), "", ""],
-            ["Proof files (`proofs/`)", *(files_of[s] for s in states), len(now) - files_of["added"] - files_of["changed"], lines["proofs", 0], lines["proofs", 1]],
-            ["Must-fail edits", *edits.count(), lines["must-fail", 0], lines["must-fail", 1]],
-        ],
-    )
+    counts = {
+        "definitions": (definitions.count(), "specs"),
+        "promises": (promises.count(), "src"),
+        "theorems' statements": (statements.count(), None),
+        "proof files": ([*(files_of[s] for s in states), len(now) - files_of["added"] - files_of["changed"]], "proofs"),
+        "must-fail edits": (edits.count(), "must-fail"),
+    }
+    print("In all, added, changed, removed, stayed (lines added, removed): " + "; ".join(
+        f"{what} " + ", ".join(map(str, count)) + (f" ({lines[of, 0]}, {lines[of, 1]})" if of else "") for what, (count, of) in counts.items()) + ".")
     if names:
         print("\nCrates renamed: " + ", ".join(f"`{a}` is `{b}`" for a, b in sorted(names.items())) + ".")
     section("Definitions", definitions, "definitions")

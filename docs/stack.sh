@@ -19,7 +19,7 @@ import re, sys
 
 APART = {"memcpy", "memmove", "memset"}
 # the search for an end marker goes on past two of at most 254 octets at each turn
-DEEP = {"read_lengths::find_end": 128}
+DEEP = {"read_lengths::find_end": 128, "write_elements::put_digits": 5}
 frames, calls, name, at_call = {}, {}, None, None
 depth = deepest = 0
 for line in open(sys.argv[1]):
@@ -73,14 +73,17 @@ def most(name, above=()):
     return max([frames[name]] + below) + (max(itself) * (DEEP[name] - 1) if itself else 0)
 
 
-print("| Function | Octets |\n|---|---|")
+taking = {}
 for name in sorted(frames):
     if name.startswith("aoc_"):
-        print(f"| `{name}` | {most(name) + 8:,} |")
+        taking.setdefault(most(name) + 8, []).append(f"`{name}`")
+print("| Functions | Octets |\n|---|---|")
+for octets, names in sorted(taking.items(), reverse=True):
+    print(f"| {', '.join(names)} | {octets:,} |")
 END
 case $1 in
 write)
-    awk -v file="$work/table" '/^\| Function \| Octets \|/ { while ((getline l < file) > 0) print l; skip = 1 } skip && !/^\|/ { skip = 0 } !skip' "$page" >"$work/page" &&
+    awk -v file="$work/table" '/^\| Functions \| Octets \|/ { while ((getline l < file) > 0) print l; skip = 1 } skip && !/^\|/ { skip = 0 } !skip' "$page" >"$work/page" &&
         cat "$work/page" >"$page"
     ;;
 *) cat "$work/table" ;;

@@ -1,241 +1,16 @@
-/* For a line engineer: the octets of standard input as a person reads them, by the element names of ETS 300 182-1, or the refusal in
- * words with the octet that it names. With --one-line each component is one line, for grep.
+/* For a line engineer: the octets of standard input as a person reads them, by the element names of ETS 300 182-1 (a public line) and of
+ * ECMA-212 (a trunk, QSIG), or the refusal in words with the octet that it names. With --one-line each component is one line, for grep.
  *
- * Taken are: a component (A1 to A4), a Facility element (1C), a layer 3 message (08), and a LAPD frame around one.
+ * Taken are: a component of a public line (A1 to A4); a component of either family behind its profile octet (91 or 9F); a Facility
+ * element (1C), whose own profile octet says which; a layer 3 message (08), and a LAPD frame around one.
  *   As hex, one of them to a line: A1 1A, a11a, 0xA1, 0x1A, A1:1A, A1-1A, \xa1\x1a; behind a time or other words of a log.
  *   As a dump over some lines: that of tshark -x, hexdump -C, xxd, od -Ax -tx1.
  * A # begins a comment. A line that is none of these is told with its number and why, and nothing of it is explained.
  *
  * What it tells of components comes from the library; its words are tested by tests/explain.sh and not proved.
  * Status: 0; 1 where a line was not taken or no octets came; 2 where the input cannot be read or the output cannot be written. */
-#include "aoc_text.h"
-#include <stdio.h>
+#include "explain_records.h"
 #include <string.h>
-
-#define NAME(names, number) ((number) < sizeof (names) / sizeof *(names) ? (names)[number] : "?")
-
-static void put(int depth, const char *name)
-{
-    printf("%*s%s", 2 * depth, "", name);
-}
-
-static void put_name(int depth, const char *name)
-{
-    put(depth, name);
-    puts("");
-}
-
-static void put_line(int depth, const char *name, const char *value)
-{
-    put(depth, name);
-    printf(" %s\n", value);
-}
-
-static void put_number(int depth, const char *name, long number)
-{
-    put(depth, name);
-    printf(" %ld\n", number);
-}
-
-static void put_text(int depth, const char *name, const uint8_t *octets, size_t count)
-{
-    put(depth, name);
-    fputs(" \"", stdout);
-    for (size_t i = 0; i < count; i++)
-        putchar(octets[i] >= 0x20 && octets[i] < 0x7F ? octets[i] : '?');
-    puts("\"");
-}
-
-/* ------------------------------------------------------------------ the types of the standard */
-
-static const char *const multipliers[] = {"oneThousandth", "oneHundredth", "oneTenth", "one", "ten", "hundred", "thousand"};
-static const char *const scales[] = {"oneHundredthSecond", "oneTenthSecond", "oneSecond", "tenSeconds", "oneMinute", "oneHour", "twentyFourHours"};
-static const char *const items[] = {"basicCommunication", "callAttempt", "callSetup", "userToUserInfo", "operationOfSupplementaryServ"};
-static const char *const types[] = {"continuousCharging", "stepFunction"};
-static const char *const volumes[] = {"octet", "segment", "message"};
-static const char *const totals[] = {"subTotal", "total"};
-static const char *const cases[] = {"chargingInformationAtCallSetup", "chargingDuringACall", "chargingAtTheEndOfACall"};
-static const char *const billings[] = {"normalCharging", "reverseCharging", "creditCardCharging", "callForwardingUnconditional",
-                                       "callForwardingBusy", "callForwardingNoReply", "callDeflection", "callTransfer"};
-static const char *const operations[] = {"chargingRequest", "aOCSCurrency", "aOCSSpecialArr", "aOCDCurrency",
-                                         "aOCDChargingUnit", "aOCECurrency", "aOCEChargingUnit"};
-
-static void put_money(int depth, const char *currency, const char *amount, const aoc_money *money)
-{
-    put_text(depth, currency, money->currency.octets, money->currency.count);
-    put(depth, amount);
-    uint64_t thousandths = aoc_thousandths(money->number, money->multiplier);
-    printf(" %lu x %s, that is %lu.%03lu\n", (unsigned long)money->number, NAME(multipliers, money->multiplier),
-           (unsigned long)(thousandths / 1000), (unsigned long)(thousandths % 1000));
-}
-
-static void put_time(int depth, const char *name, uint32_t time, uint8_t scale)
-{
-    put(depth, name);
-    printf(" %lu x %s\n", (unsigned long)time, NAME(scales, scale));
-}
-
-static void put_rate(int depth, aoc_rate_entry rate)
-{
-    put_line(depth, "chargedItem", NAME(items, rate.item));
-    switch (rate.kind) {
-    case AOC_RATE_DURATION:
-        put_name(depth, "durationCurrency");
-        put_money(depth + 1, "dCurrency", "dAmount", &rate.money);
-        put_line(depth + 1, "dChargingType", NAME(types, rate.detail));
-        put_time(depth + 1, "dTime", rate.time, rate.scale);
-        if (rate.stepped)
-            put_time(depth + 1, "dGranularity", rate.step, rate.step_scale);
-        break;
-    case AOC_RATE_FLAT:
-        put_name(depth, "flatRateCurrency");
-        put_money(depth + 1, "fRCurrency", "fRAmount", &rate.money);
-        break;
-    case AOC_RATE_VOLUME:
-        put_name(depth, "volumeRateCurrency");
-        put_money(depth + 1, "vRCurrency", "vRAmount", &rate.money);
-        put_line(depth + 1, "vRVolumeUnit", NAME(volumes, rate.detail));
-        break;
-    case AOC_RATE_CODE:
-        put_number(depth, "specialChargingCode", rate.detail);
-        break;
-    case AOC_RATE_FREE:
-        put_name(depth, "freeOfCharge");
-        break;
-    default:
-        put_name(depth, "currencyInfoNotAvailable");
-        break;
-    }
-}
-
-static void put_unit(int depth, aoc_unit_entry unit)
-{
-    if (unit.known)
-        put_number(depth, "recordedNumberOfUnits", (long)unit.number);
-    else
-        put_name(depth, "notAvailable");
-    if (unit.type)
-        put_number(depth, "recordedTypeOfUnits", unit.type);
-}
-
-static void put_association(int depth, const aoc_association *a)
-{
-    if (a->kind == AOC_ASSOCIATION_NONE)
-        return;
-    put_name(depth, "chargingAssociation");
-    if (a->kind == AOC_ASSOCIATION_IDENTIFIER) {
-        put_number(depth + 1, "chargeIdentifier", a->id < 0x8000 ? (long)a->id : (long)a->id - 0x10000);
-        return;
-    }
-    if (a->kind == AOC_ASSOCIATION_PLANNED_NUMBER) {
-        put_name(depth + 1, "publicPartyNumber");
-        put_number(depth + 2, "publicTypeOfNumber", a->plan);
-        put_text(depth + 2, "publicNumberDigits", a->digits, a->count);
-        return;
-    }
-    put_text(depth + 1, "unknownPartyNumber", a->digits, a->count);
-}
-
-/* The argument of an invoke, or the result of a chargingRequest. */
-static void put_charge(int depth, const aoc_record *record)
-{
-    const aoc_charge *c = &record->charge;
-    int during = record->operation == AOC_OPERATION_D_CURRENCY || record->operation == AOC_OPERATION_D_UNITS;
-    switch (c->kind) {
-    case AOC_CHARGE_FREE:
-        put_name(depth, "freeOfCharge");
-        break;
-    case AOC_CHARGE_MONEY:
-        put_name(depth, "recordedCurrency");
-        put_money(depth + 1, "rCurrency", "rAmount", &c->money);
-        break;
-    case AOC_CHARGE_UNITS:
-        put_name(depth, "recordedUnitsList");
-        for (size_t i = 0; i < c->count; i++)
-            put_unit(depth + 1, aoc_unit_at(c, i));
-        break;
-    case AOC_CHARGE_RATES:
-        put_name(depth, "aOCSCurrencyInfoList");
-        for (size_t i = 0; i < c->count; i++)
-            put_rate(depth + 1, aoc_rate_at(c, i));
-        break;
-    case AOC_CHARGE_ARRANGEMENT:
-        put_number(depth, "aOCSSpecialArrInfo", c->arrangement);
-        break;
-    default:
-        put_name(depth, record->frame == AOC_FRAME_RESULT ? "chargingInfoFollows" : "chargeNotAvailable");
-        return;
-    }
-    if (during && c->kind != AOC_CHARGE_FREE)
-        put_line(depth, "typeOfChargingInfo", NAME(totals, c->total));
-    if (c->billed)
-        put_line(depth, during ? "aOCDBillingId" : "aOCEBillingId", NAME(billings, c->billing));
-    put_association(depth, &c->association);
-}
-
-/* ------------------------------------------------------------------ components */
-
-static const char *error_name(uint8_t error)
-{
-    switch (error) {
-    case AOC_ERROR_NOT_SUBSCRIBED: return "notSubscribed";
-    case AOC_ERROR_NOT_AVAILABLE: return "notAvailable";
-    case AOC_ERROR_NOT_IMPLEMENTED: return "notImplemented";
-    case AOC_ERROR_INVALID_CALL_STATE: return "invalidCallState";
-    default: return "noChargingInfoAvailable";
-    }
-}
-
-static const char *const frames[] = {"?", "invoke", "returnResult", "returnError", "reject"};
-static const char *const problems[] = {"generalProblem", "invokeProblem", "returnResultProblem", "returnErrorProblem"};
-
-static void explain_record(const aoc_record *r)
-{
-    put_name(0, NAME(frames, r->frame));
-    if (r->unnamed)
-        put_line(1, "invokeIdentifier", "NULL");
-    else
-        put_number(1, "invokeIdentifier", r->id < 0x8000 ? (long)r->id : (long)r->id - 0x10000);
-    switch (r->frame) {
-    case AOC_FRAME_ERROR:
-        put_line(1, "error", error_name(r->error));
-        return;
-    case AOC_FRAME_REJECT:
-        put_number(1, NAME(problems, r->problem - 0x80u), r->detail);
-        return;
-    default:
-        put_line(1, "operation", NAME(operations, r->operation - 30u));
-        if (r->frame == AOC_FRAME_INVOKE && r->operation == AOC_OPERATION_CHARGING_REQUEST)
-            put_line(1, "chargingCase", NAME(cases, r->detail));
-        else
-            put_charge(1, r);
-    }
-}
-
-/* The same in one line: frame, identifier, operation, and the charge in words. */
-static void record_in_line(const aoc_record *r)
-{
-    char text[AOC_LIMIT_CHARGE_TEXT];
-    printf("%s ", NAME(frames, r->frame));
-    if (r->unnamed)
-        printf("NULL ");
-    else
-        printf("%ld ", r->id < 0x8000 ? (long)r->id : (long)r->id - 0x10000);
-    if (r->frame == AOC_FRAME_ERROR) {
-        puts(error_name(r->error));
-    } else if (r->frame == AOC_FRAME_REJECT) {
-        printf("%s %u\n", NAME(problems, r->problem - 0x80u), r->detail);
-    } else {
-        printf("%s ", NAME(operations, r->operation - 30u));
-        aoc_print_charge(text, sizeof text, &r->charge);
-        if (r->frame == AOC_FRAME_INVOKE && r->operation == AOC_OPERATION_CHARGING_REQUEST)
-            puts(NAME(cases, r->detail));
-        else if (r->charge.kind == AOC_CHARGE_NONE)
-            puts(r->frame == AOC_FRAME_RESULT ? "chargingInfoFollows" : "chargeNotAvailable");
-        else
-            puts(text);
-    }
-}
 
 /* The octets around one, which stands in brackets; nothing does where an element is missing. */
 static void put_around(const uint8_t *octets, size_t n, size_t at, int missing)
@@ -278,15 +53,34 @@ static void not_taken(unsigned long line, const char *why, const char *what)
     left++;
 }
 
-static void explain_component(const struct source *source, const uint8_t *octets, size_t n)
+static void explain_accepted(const aoc_either *answer)
 {
-    aoc_answer answer;
+    if (answer->family == AOC_FAMILY_TRUNK)
+        (in_line ? trunk_in_line : explain_trunk)(&answer->trunk);
+    else
+        (in_line ? record_in_line : explain_record)(&answer->record);
+}
+
+/* Those of a trunk's components that speak to the exchange and not to its users. */
+static const char *for_exchange(uint8_t profile, uint8_t first)
+{
+    return profile != AOC_PROFILE_TRUNK ? NULL : first == 0x8B ? "interpretation" : first == 0x92 ? "networkProtocolProfile" : NULL;
+}
+
+static void explain_component(const struct source *source, uint8_t profile, const uint8_t *octets, size_t n)
+{
+    aoc_either answer;
+    const char *other = n ? for_exchange(profile, octets[0]) : NULL;
     put_source(source);
-    if (aoc_read(octets, n, &answer) == AOC_ACCEPTED) {
-        if (in_line)
-            record_in_line(&answer.record);
-        else
-            explain_record(&answer.record);
+    if (aoc_read_by(profile, octets, n, &answer) == AOC_ACCEPTED) {
+        explain_accepted(&answer);
+        return;
+    }
+    if (other) {
+        printf("%s, for the exchange alone:", other);
+        for (size_t i = 0; i < n; i++)
+            printf(" %02X", octets[i]);
+        puts("");
         return;
     }
     printf("refused %u: %s", (unsigned)answer.refusal, aoc_refusal_text(answer.refusal));
@@ -299,12 +93,12 @@ static void explain_component(const struct source *source, const uint8_t *octets
 
 static void explain_element(const struct source *source, const uint8_t *octets, size_t n)
 {
-    aoc_answer answer;
+    aoc_either answer;
     size_t place = AOC_FIRST_PLACE, from = place;
-    for (; aoc_next(octets, n, &place, &answer); from = place) {
+    for (; aoc_next_by(octets, n, &place, &answer); from = place) {
         if (!in_line)
             printf("component at offset %lu of the element\n", (unsigned long)from);
-        explain_component(source, octets + from, place - from);
+        explain_component(source, octets[2], octets + from, place - from);
     }
     if (answer.refusal == AOC_ACCEPTED)
         return;
@@ -399,13 +193,15 @@ static void explain_octets(unsigned long line, const uint8_t *octets, size_t n)
         printf("LAPD frame, its message at offset %lu\n", (unsigned long)head);
     snprintf(first, sizeof first, "%02X", octets[0]);
     if (octets[0] >= 0xA1 && octets[0] <= 0xA4)
-        explain_component(&source, octets, n);
+        explain_component(&source, AOC_PROFILE_LINE, octets, n);
+    else if (octets[0] == AOC_PROFILE_LINE || octets[0] == AOC_PROFILE_TRUNK)
+        explain_component(&source, octets[0], octets + 1, n - 1);
     else if (octets[0] == 0x1C)
         explain_element(&source, octets, n);
     else if (head || octets[0] == 0x08)
         explain_message(source, octets + head, n - head);
     else
-        not_taken(line, "a component begins with A1 to A4, an element with 1C, a message with 08 or a LAPD head; this begins with ", first);
+        not_taken(line, "a component begins with A1 to A4, or with its profile octet 91 or 9F; an element with 1C, a message with 08 or a LAPD head; this begins with ", first);
 }
 
 /* ------------------------------------------------------------------ lines */

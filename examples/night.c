@@ -226,8 +226,14 @@ static void take_element(struct call *call, const char *time, const uint8_t *oct
 {
     size_t place = AOC_FIRST_PLACE, from = place;
     aoc_answer answer;
-    for (; aoc_next(octets, n, &place, &answer); from = place)
-        take_component(call, time, octets + from, place - from);
+    bool of_trunk = false;
+    for (; aoc_next(octets, n, &place, &answer); from = place) {
+        of_trunk = answer.refusal == AOC_REFUSED_OTHER_PROFILE;
+        if (!of_trunk)
+            take_component(call, time, octets + from, place - from);
+    }
+    if (of_trunk)
+        note(time, call, "an element of a trunk, which no account takes", "\n");
     if (aoc_is_refusal(answer.refusal))
         note(time, call, aoc_refusal_text(answer.refusal), "\n");
 }

@@ -65,6 +65,8 @@ static void facility(struct call *call, const uint8_t *octets, size_t length)
     aoc_answer answer;
     size_t place = AOC_FIRST_PLACE, from = place;
     for (; aoc_next(octets, length, &place, &answer); from = place) {
+        if (answer.refusal == AOC_REFUSED_OTHER_PROFILE)
+            continue;           /* of a trunk, which no account takes */
         aoc_outcome outcome = take(call, aoc_event_of(AOC_EVENT_COMPONENT), octets + from, place - from);
         if (aoc_is_refusal(outcome.number) && outcome.number != AOC_REFUSED_WRONG_PHASE) {
             uint8_t reject[AOC_LIMIT_REPLY_OCTETS];

@@ -20,8 +20,8 @@
 #include <stdint.h>
 #include <string.h>
 
-#define AOC_VERSION 20500       /* 2.5.0: ten thousand times the first number, a hundred times the second, the third */
-#define AOC_VERSION_TEXT "2.5.0"
+#define AOC_VERSION 30000       /* 3.0.0: ten thousand times the first number, a hundred times the second, the third */
+#define AOC_VERSION_TEXT "3.0.0"
 
 #ifdef __cplusplus
 extern "C" {
@@ -48,7 +48,7 @@ extern "C" {
     ROW(AOC_REFUSED_CUT, 1, "the octets end too early")                                                \
     ROW(AOC_REFUSED_LENGTH_FORM, 2, "a length octet of 83 to FF, or of 80 on a primitive element")     \
     ROW(AOC_REFUSED_TOO_LONG, 3, "over 254 octets")                                                    \
-    ROW(AOC_REFUSED_UNKNOWN_COMPONENT, 4, "the first octet is not A1 to A4")                           \
+    ROW(AOC_REFUSED_UNKNOWN_COMPONENT, 4, "the first octet is not A1 to A4, nor AA of a trunk")        \
     ROW(AOC_REFUSED_TRAILING, 5, "octets after the component")                                         \
     ROW(AOC_REFUSED_BAD_FRAME, 6, "a failure outside the argument or result")                          \
     ROW(AOC_REFUSED_UNKNOWN_OPERATION, 7, "an unknown operation")                                      \
@@ -60,6 +60,7 @@ extern "C" {
     ROW(AOC_REFUSED_WRONG_PHASE, 14, "an event that is not allowed in this phase")                     \
     ROW(AOC_REFUSED_BAD_ELEMENT, 15, "a malformed Facility element")                                   \
     ROW(AOC_REFUSED_BAD_PLACE, 16, "a place where no component begins")                                \
+    ROW(AOC_REFUSED_OTHER_PROFILE, 17, "a profile octet whose family is not read")                     \
     ROW(AOC_REFUSED_IN_LIST, 34, "an event of the list is refused")                                    \
     ROW(AOC_REFUSED_IN_USE, 35, "a Setup for a call reference that is held")                           \
     ROW(AOC_REFUSED_FULL, 36, "64 calls are held")                                                     \
@@ -134,16 +135,27 @@ typedef enum { AOC_EVENTS(AOC_ROW_NAME) } aoc_event_kind;
 
 typedef enum { AOC_SERVICES(AOC_ROW_NAME) } aoc_service;
 
-/* A record's `frame`. The words of frames, operations and errors are the names of ETS 300 182-1 and of the standards it cites. */
+/* The families of components, and the profile octet of each: the third octet of the Facility element that a component came in. */
+#define AOC_FAMILIES(ROW)                                                                              \
+    ROW(AOC_FAMILY_NONE, 0, "no family")                                                               \
+    ROW(AOC_FAMILY_LINE, 1, "a public line (ETS 300 182-1)")                                           \
+    ROW(AOC_FAMILY_TRUNK, 2, "a trunk between private exchanges (ECMA-212)")
+
+typedef enum { AOC_FAMILIES(AOC_ROW_NAME) } aoc_family;
+enum { AOC_PROFILE_LINE = 0x91, AOC_PROFILE_TRUNK = 0x9F };
+
+/* A record's `frame`; AOC_FRAME_EXTENSION is a trunk's alone. The words of frames, operations and errors are the names of
+ * ETS 300 182-1, of ECMA-212 and of the standards they cite. */
 #define AOC_FRAMES(ROW)                                                                                \
     ROW(AOC_FRAME_INVOKE, 1, "invoke")                                                                 \
     ROW(AOC_FRAME_RESULT, 2, "returnResult")                                                           \
     ROW(AOC_FRAME_ERROR, 3, "returnError")                                                             \
-    ROW(AOC_FRAME_REJECT, 4, "reject")
+    ROW(AOC_FRAME_REJECT, 4, "reject")                                                                 \
+    ROW(AOC_FRAME_EXTENSION, 10, "networkFacilityExtension")
 
 typedef enum { AOC_FRAMES(AOC_ROW_NAME) } aoc_frame;
 
-/* A record's `operation`. */
+/* A record's `operation`: up to 36 of a public line, from 59 on of a trunk. */
 #define AOC_OPERATIONS(ROW)                                                                            \
     ROW(AOC_OPERATION_CHARGING_REQUEST, 30, "chargingRequest")                                         \
     ROW(AOC_OPERATION_S_CURRENCY, 31, "aOCSCurrency")                                                  \
@@ -151,20 +163,30 @@ typedef enum { AOC_FRAMES(AOC_ROW_NAME) } aoc_frame;
     ROW(AOC_OPERATION_D_CURRENCY, 33, "aOCDCurrency")                                                  \
     ROW(AOC_OPERATION_D_UNITS, 34, "aOCDChargingUnit")                                                 \
     ROW(AOC_OPERATION_E_CURRENCY, 35, "aOCECurrency")                                                  \
-    ROW(AOC_OPERATION_E_UNITS, 36, "aOCEChargingUnit")
+    ROW(AOC_OPERATION_E_UNITS, 36, "aOCEChargingUnit")                                                 \
+    ROW(AOC_OPERATION_CHARGE_REQUEST, 59, "chargeRequest")                                             \
+    ROW(AOC_OPERATION_GET_FINAL_CHARGE, 60, "getFinalCharge")                                          \
+    ROW(AOC_OPERATION_FINAL, 61, "aocFinal")                                                           \
+    ROW(AOC_OPERATION_INTERIM, 62, "aocInterim")                                                       \
+    ROW(AOC_OPERATION_RATE, 63, "aocRate")                                                             \
+    ROW(AOC_OPERATION_COMPLETE, 64, "aocComplete")                                                     \
+    ROW(AOC_OPERATION_DIVERSION, 65, "aocDivChargeReq")
 
 typedef enum { AOC_OPERATIONS(AOC_ROW_NAME) } aoc_operation;
 
 /* What an AOC_OPERATION_CHARGING_REQUEST asks for: the `detail` of its invoke. Not the numbers of the services. */
 typedef enum { AOC_CHARGING_CASE_S = 0, AOC_CHARGING_CASE_D = 1, AOC_CHARGING_CASE_E = 2 } aoc_charging_case;
 
-/* A record's `error`. */
+/* A record's `error`: 0, 3, 4, 7 and 26 of a public line, 3, 10, 1008 and 1016 of a trunk. */
 #define AOC_ERRORS(ROW)                                                                                \
     ROW(AOC_ERROR_NOT_SUBSCRIBED, 0, "notSubscribed")                                                  \
     ROW(AOC_ERROR_NOT_AVAILABLE, 3, "notAvailable")                                                    \
     ROW(AOC_ERROR_NOT_IMPLEMENTED, 4, "notImplemented")                                                \
     ROW(AOC_ERROR_INVALID_CALL_STATE, 7, "invalidCallState")                                           \
-    ROW(AOC_ERROR_NO_CHARGING_INFO, 26, "noChargingInfoAvailable")
+    ROW(AOC_ERROR_INTERACTION, 10, "supplementaryServiceInteractionNotAllowed")                        \
+    ROW(AOC_ERROR_NO_CHARGING_INFO, 26, "noChargingInfoAvailable")                                     \
+    ROW(AOC_ERROR_UNSPECIFIED, 1008, "unspecified")                                                    \
+    ROW(AOC_ERROR_FREE, 1016, "freeOfCharge")
 
 typedef enum { AOC_ERRORS(AOC_ROW_NAME) } aoc_error;
 
@@ -264,7 +286,8 @@ typedef enum {
     AOC_RATE_VOLUME = 3,
     AOC_RATE_CODE = 4,          /* `detail` is the code, 1 to 10 */
     AOC_RATE_FREE = 5,
-    AOC_RATE_UNKNOWN = 6
+    AOC_RATE_UNKNOWN = 6,
+    AOC_RATE_FREE_FROM_BEGINNING = 7    /* of a trunk */
 } aoc_rate_kind;
 typedef enum { AOC_DURATION_CONTINUOUS = 0, AOC_DURATION_STEPS = 1 } aoc_duration;
 
@@ -275,12 +298,13 @@ typedef enum { AOC_DURATION_CONTINUOUS = 0, AOC_DURATION_STEPS = 1 } aoc_duratio
 
 typedef enum { AOC_VOLUMES(AOC_ROW_NAME) } aoc_volume;
 
-/* An association's `kind`, and the `plan` of AOC_ASSOCIATION_PLANNED_NUMBER. */
+/* An association's `kind`, and the `plan` of AOC_ASSOCIATION_PLANNED_NUMBER and AOC_ASSOCIATION_PRIVATE_NUMBER. */
 typedef enum {
     AOC_ASSOCIATION_NONE = 0,
     AOC_ASSOCIATION_IDENTIFIER = 1,
     AOC_ASSOCIATION_NUMBER = 2,
-    AOC_ASSOCIATION_PLANNED_NUMBER = 3
+    AOC_ASSOCIATION_PLANNED_NUMBER = 3,
+    AOC_ASSOCIATION_PRIVATE_NUMBER = 4  /* of a trunk: a number of a private plan */
 } aoc_association_kind;
 
 #define AOC_PLANS(ROW)                                                                                 \
@@ -293,6 +317,28 @@ typedef enum {
 
 typedef enum { AOC_PLANS(AOC_ROW_NAME) } aoc_plan;
 
+/* What a trunk's record has beside: the `modes` of an AOC_OPERATION_CHARGE_REQUEST invoke, and the `detail` of its result; the
+ * `detail` of an AOC_OPERATION_COMPLETE result, and of an AOC_OPERATION_DIVERSION invoke; `detail` (source) and `entity`
+ * (destination) of an AOC_FRAME_EXTENSION; and `extended`. */
+typedef enum {
+    AOC_MODE_RATE = 0,
+    AOC_MODE_RATE_INTERIM = 1,
+    AOC_MODE_RATE_FINAL = 2,
+    AOC_MODE_INTERIM = 3,
+    AOC_MODE_FINAL = 4,
+    AOC_MODE_INTERIM_FINAL = 5,
+    AOC_MODE_RATE_INTERIM_FINAL = 6
+} aoc_mode;
+typedef enum { AOC_OPTION_FREE = 0, AOC_OPTION_CONTINUE = 1, AOC_OPTION_STOP = 2 } aoc_option;
+typedef enum {
+    AOC_DIVERSION_UNCONDITIONAL = 0,
+    AOC_DIVERSION_BUSY = 1,
+    AOC_DIVERSION_NO_REPLY = 2,
+    AOC_DIVERSION_DEFLECTION = 3
+} aoc_diversion;
+typedef enum { AOC_ENTITY_END = 0, AOC_ENTITY_ANY = 1 } aoc_entity;
+typedef enum { AOC_EXTENDED_NOT = 0, AOC_EXTENDED_ONCE = 1, AOC_EXTENDED_LIST = 2 } aoc_extended;
+
 /* Limits. */
 enum {
     AOC_LIMIT_COMPONENT_OCTETS = 254,
@@ -304,6 +350,8 @@ enum {
     AOC_LIMIT_RATES = 10,
     AOC_LIMIT_CURRENCY_OCTETS = 10,
     AOC_LIMIT_DIGITS = 20,
+    AOC_LIMIT_MODES = 7,
+    AOC_LIMIT_EXTENSION_OCTETS = 242,
     AOC_LIMIT_CHARGE_TEXT = 1200,       /* room for the whole text of any charge: see aoc_print_charge */
     AOC_LIMIT_NUMBER = 16777215,        /* of an amount, units, a time */
     AOC_LIMIT_MONTH_FIGURES = 4096,
@@ -315,7 +363,7 @@ enum {
 
 /* ------------------------------------------------------------------ structs */
 
-/* 1 to 10 octets, each below 80 (hex); the places past the count are zero. */
+/* 1 to 10 octets, each below 80 (hex); the places past the count are zero. Of a trunk none too: the private network's own. */
 typedef struct {
     uint8_t count;
     uint8_t octets[AOC_LIMIT_CURRENCY_OCTETS];
@@ -406,6 +454,40 @@ typedef struct {
     uint32_t offset;            /* with 40 to 45, which octet, the first as 0; else 0 */
     aoc_record record;
 } aoc_answer;
+
+/* A component of a trunk. All that is not used is zero, and `zero` always.
+ * user: the charged user of AOC_OPERATION_COMPLETE, the diverting user of AOC_OPERATION_DIVERSION, the source address of an
+ * AOC_FRAME_EXTENSION: no AOC_ASSOCIATION_IDENTIFIER. charge: AOC_CHARGE_NONE, AOC_CHARGE_FREE or AOC_CHARGE_MONEY of
+ * AOC_OPERATION_FINAL and AOC_OPERATION_INTERIM, AOC_CHARGE_NONE or AOC_CHARGE_RATES of AOC_OPERATION_RATE; its association is that
+ * of AOC_OPERATION_FINAL, AOC_OPERATION_COMPLETE and AOC_OPERATION_DIVERSION, and the destination address of an
+ * AOC_FRAME_EXTENSION. An extension's contents are kept octet for octet as they were received. */
+typedef struct {
+    uint8_t frame;
+    uint8_t unnamed;            /* 1: a reject with NULL in place of the identifier */
+    uint16_t id;
+    uint16_t error;
+    uint8_t operation;
+    uint8_t problem;
+    uint8_t asked;              /* how many modes */
+    uint8_t modes[AOC_LIMIT_MODES];
+    aoc_association user;
+    uint8_t detail;             /* see aoc_mode and its neighbours; or of a reject's problem */
+    uint8_t entity;
+    uint8_t zero[4];
+    uint8_t extended;           /* aoc_extended */
+    uint8_t extent;             /* how many octets of extension */
+    uint8_t extension[AOC_LIMIT_EXTENSION_OCTETS];
+    aoc_charge charge;
+} aoc_trunk;
+
+/* A component of one family or the other: the record of the other one is zero. */
+typedef struct {
+    uint32_t refusal;           /* AOC_ACCEPTED, AOC_REFUSED_OTHER_PROFILE, 1 to 8, or 40 to 45 */
+    uint32_t offset;            /* with 40 to 45, which octet, the first as 0; else 0 */
+    uint32_t family;            /* aoc_family: that of the profile octet, accepted or not */
+    aoc_record record;
+    aoc_trunk trunk;
+} aoc_either;
 
 typedef struct {
     uint32_t refusal;
@@ -503,6 +585,7 @@ aoc_written aoc_reply(const uint8_t *octets, size_t length, uint8_t *buffer, siz
  * component that is refused does not stop the pass. The first begins at AOC_FIRST_PLACE.
  * It returns false, with the place as it was and a zero record, at the end (AOC_ACCEPTED), for a malformed element
  * (AOC_REFUSED_BAD_ELEMENT, whatever the place) and for a place where no component begins (AOC_REFUSED_BAD_PLACE).
+ * Each component of an element of a trunk (profile octet 9F) is AOC_REFUSED_OTHER_PROFILE: aoc_next_by reads both families.
  *
  *     size_t place = AOC_FIRST_PLACE, from = place;
  *     for (; aoc_next(element, length, &place, &answer); from = place) { .. element + from, place - from are its octets .. } */
@@ -517,6 +600,31 @@ aoc_written aoc_write_element(const uint8_t *octets, size_t length, uint8_t *buf
 /* Inline. Writes the request for a service, with its identifier, as aoc_write does: an AOC_OPERATION_CHARGING_REQUEST invoke.
  * AOC_REFUSED_BAD_RECORD for a number that is no service. */
 AOC_INLINE aoc_written aoc_request(uint8_t service, uint16_t id, uint8_t *buffer, size_t room);
+
+/* ------------------------------------------------------------------ components of trunks, by their profile octet */
+
+/* A component that comes over QSIG, from another private exchange, is read with the third octet of its element: 91 reads it as
+ * aoc_read does, 9F by ECMA-212's table. The account of a call takes those of 91 only. */
+
+/* Inline, over a proved function. As aoc_read, with the family that the profile octet names; AOC_REFUSED_OTHER_PROFILE, before all
+ * else, for another octet than AOC_PROFILE_LINE and AOC_PROFILE_TRUNK. */
+AOC_INLINE aoc_refusal aoc_read_by(uint8_t profile, const uint8_t *octets, size_t length, aoc_either *answer);
+
+/* Inline, over a proved function. As aoc_next, with the family that the element's own third octet names. */
+AOC_INLINE bool aoc_next_by(const uint8_t *octets, size_t length, size_t *place, aoc_either *answer);
+
+/* Inline, over a proved function. As aoc_write, of the record of the family that the profile octet names; the other record is not
+ * looked at. AOC_REFUSED_OTHER_PROFILE, before all else, for another octet. */
+AOC_INLINE aoc_written aoc_write_by(uint8_t profile, const aoc_either *either, uint8_t *buffer, size_t room);
+
+/* Proved. As aoc_reply: AOC_REFUSED_OTHER_PROFILE and nothing written for another profile octet, before all else; and with
+ * AOC_PROFILE_TRUNK nothing to send for a network facility extension (first octet AA) that is AOC_REFUSED_BAD_FRAME. The reject goes
+ * back behind 1C, its length and the profile octet that was received.
+ * Two kinds of component speak to the exchange and not to its users: those whose first octet is 8B (interpretation) or 92 (network
+ * protocol profile), both AOC_REFUSED_UNKNOWN_COMPONENT. A HOST PASSES OVER THEM AND SENDS NO REJECT FOR THEM, though this
+ * function, which goes by the letter, gives one. And where 8B 01 00 (discard) stands in an element, no reject is sent for
+ * AOC_REFUSED_UNKNOWN_OPERATION in it either. */
+aoc_written aoc_reply_by(uint8_t profile, const uint8_t *octets, size_t length, uint8_t *buffer, size_t room);
 
 /* ------------------------------------------------------------------ values */
 

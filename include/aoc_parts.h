@@ -45,6 +45,16 @@ typedef struct {
     aoc_refusal_at answer;
 } aoc_next_answer;
 
+/* The same with a family, for what is read by its profile octet. */
+typedef struct {
+    uint32_t refusal, offset, family;
+} aoc_judged;
+
+typedef struct {
+    size_t after, ended;
+    aoc_judged answer;
+} aoc_next_by_answer;
+
 /* A front as numbers. */
 typedef struct {
     uint8_t frame, unnamed;
@@ -68,6 +78,20 @@ aoc_written aoc_write_from(aoc_front front, aoc_outline outline, uint32_t number
                            const uint8_t (*digits)[20], const uint32_t (*numbers)[32], const uint8_t (*rows)[192],
                            uint8_t *buffer, size_t room);
 
+/* Proved. What aoc_read_by, aoc_next_by and aoc_write_by say, over the parts of both records. A trunk's first 48 octets are its lead, with four
+ * that are zero; then 244 of its extension; then a charge's three. */
+aoc_judged aoc_read_by_into(uint8_t profile, const uint8_t *octets, size_t length, uint8_t (*front)[8], uint8_t (*figure)[48],
+                            uint32_t (*numbers)[32], uint8_t (*rows)[192], uint8_t (*lead)[48], uint8_t (*extension)[244],
+                            uint8_t (*trunk_figure)[48], uint32_t (*trunk_numbers)[32], uint8_t (*trunk_rows)[192]);
+aoc_next_by_answer aoc_next_by_into(const uint8_t *octets, size_t length, size_t place, uint8_t (*front)[8], uint8_t (*figure)[48],
+                                    uint32_t (*numbers)[32], uint8_t (*rows)[192], uint8_t (*lead)[48], uint8_t (*extension)[244],
+                                    uint8_t (*trunk_figure)[48], uint32_t (*trunk_numbers)[32], uint8_t (*trunk_rows)[192]);
+
+aoc_written aoc_write_by_from(uint8_t profile, const uint8_t (*front)[8], const uint8_t (*figure)[48], const uint32_t (*numbers)[32],
+                              const uint8_t (*rows)[192], const uint8_t (*lead)[48], const uint8_t (*extension)[244],
+                              const uint8_t (*trunk_figure)[48], const uint32_t (*trunk_numbers)[32],
+                              const uint8_t (*trunk_rows)[192], uint8_t *buffer, size_t room);
+
 AOC_INLINE aoc_refusal aoc_read(const uint8_t *octets, size_t length, aoc_answer *answer)
 {
     aoc_mention_layout();
@@ -84,6 +108,34 @@ AOC_INLINE bool aoc_next(const uint8_t *octets, size_t length, size_t *place, ao
     aoc_charge *charge = &answer->record.charge;
     aoc_next_answer next = aoc_next_into(octets, length, *place, AOC_POINT_TO(uint8_t(*)[8], &answer->record),
                                          AOC_POINT_TO(uint8_t(*)[48], charge), &charge->numbers, &charge->octets);
+    memcpy(answer, &next.answer, sizeof next.answer);
+    if (next.after == 0)
+        return false;
+    *place = next.after;
+    return true;
+}
+
+AOC_INLINE aoc_refusal aoc_read_by(uint8_t profile, const uint8_t *octets, size_t length, aoc_either *answer)
+{
+    aoc_mention_layout();
+    aoc_charge *c = &answer->record.charge, *t = &answer->trunk.charge;
+    aoc_judged a = aoc_read_by_into(profile, octets, length, AOC_POINT_TO(uint8_t(*)[8], &answer->record),
+                                    AOC_POINT_TO(uint8_t(*)[48], c), &c->numbers, &c->octets,
+                                    AOC_POINT_TO(uint8_t(*)[48], &answer->trunk), AOC_POINT_TO(uint8_t(*)[244], &answer->trunk.extended),
+                                    AOC_POINT_TO(uint8_t(*)[48], t), &t->numbers, &t->octets);
+    memcpy(answer, &a, sizeof a);
+    return AOC_TO(aoc_refusal, a.refusal);
+}
+
+AOC_INLINE bool aoc_next_by(const uint8_t *octets, size_t length, size_t *place, aoc_either *answer)
+{
+    aoc_mention_layout();
+    aoc_charge *c = &answer->record.charge, *t = &answer->trunk.charge;
+    aoc_next_by_answer next = aoc_next_by_into(octets, length, *place, AOC_POINT_TO(uint8_t(*)[8], &answer->record),
+                                               AOC_POINT_TO(uint8_t(*)[48], c), &c->numbers, &c->octets,
+                                               AOC_POINT_TO(uint8_t(*)[48], &answer->trunk),
+                                               AOC_POINT_TO(uint8_t(*)[244], &answer->trunk.extended),
+                                               AOC_POINT_TO(uint8_t(*)[48], t), &t->numbers, &t->octets);
     memcpy(answer, &next.answer, sizeof next.answer);
     if (next.after == 0)
         return false;
@@ -110,6 +162,16 @@ AOC_INLINE aoc_written aoc_write(const aoc_record *record, uint8_t *buffer, size
     o.words[1] = c->kind | AOC_TO(uint64_t, c->total) << 8 | AOC_TO(uint64_t, c->billed) << 16 |
                  AOC_TO(uint64_t, c->billing) << 24 | AOC_TO(uint64_t, c->arrangement) << 32 | AOC_TO(uint64_t, c->count) << 40;
     return aoc_write_from(front, o.outline, m->number, &m->currency.octets, &a->digits, &c->numbers, &c->octets, buffer, room);
+}
+
+AOC_INLINE aoc_written aoc_write_by(uint8_t profile, const aoc_either *either, uint8_t *buffer, size_t room)
+{
+    aoc_mention_layout();
+    const aoc_charge *c = &either->record.charge, *t = &either->trunk.charge;
+    return aoc_write_by_from(profile, AOC_POINT_TO(const uint8_t(*)[8], &either->record), AOC_POINT_TO(const uint8_t(*)[48], c),
+                             &c->numbers, &c->octets, AOC_POINT_TO(const uint8_t(*)[48], &either->trunk),
+                             AOC_POINT_TO(const uint8_t(*)[244], &either->trunk.extended), AOC_POINT_TO(const uint8_t(*)[48], t),
+                             &t->numbers, &t->octets, buffer, room);
 }
 
 AOC_INLINE aoc_written aoc_request(uint8_t service, uint16_t id, uint8_t *buffer, size_t room)
@@ -311,6 +373,13 @@ AOC_LAYOUT(offsetof(aoc_record, detail) == 7 && offsetof(aoc_record, charge) == 
 AOC_LAYOUT(sizeof(aoc_answer) == 384 && offsetof(aoc_answer, offset) == 4 && offsetof(aoc_answer, record) == 8);
 AOC_LAYOUT(sizeof(aoc_refusal_at) == 8 && offsetof(aoc_refusal_at, offset) == offsetof(aoc_answer, offset));
 AOC_LAYOUT(sizeof(aoc_next_answer) == 24 && offsetof(aoc_next_answer, answer) == 16);
+AOC_LAYOUT(sizeof(aoc_trunk) == 660 && offsetof(aoc_trunk, id) == 2 && offsetof(aoc_trunk, error) == 4);
+AOC_LAYOUT(offsetof(aoc_trunk, operation) == 6 && offsetof(aoc_trunk, asked) == 8 && offsetof(aoc_trunk, user) == 16);
+AOC_LAYOUT(offsetof(aoc_trunk, detail) == 42 && offsetof(aoc_trunk, zero) == 44 && offsetof(aoc_trunk, extended) == 48);
+AOC_LAYOUT(offsetof(aoc_trunk, extension) == 50 && offsetof(aoc_trunk, charge) == 292);
+AOC_LAYOUT(sizeof(aoc_either) == 1048 && offsetof(aoc_either, record) == 12 && offsetof(aoc_either, trunk) == 388);
+AOC_LAYOUT(sizeof(aoc_judged) == 12 && offsetof(aoc_judged, family) == offsetof(aoc_either, family));
+AOC_LAYOUT(sizeof(aoc_next_by_answer) == 32 && offsetof(aoc_next_by_answer, answer) == 16);
 AOC_LAYOUT(sizeof(aoc_front) == 8 && offsetof(aoc_front, id) == offsetof(aoc_record, id));
 AOC_LAYOUT(offsetof(aoc_front, operation) == offsetof(aoc_record, operation));
 AOC_LAYOUT(sizeof(aoc_outline) == 14 && offsetof(aoc_outline, currency) == 4 && offsetof(aoc_outline, kind) == 8);

@@ -100,6 +100,14 @@ AOC_INLINE const char *aoc_service_text(uint32_t service)
     }
 }
 
+AOC_INLINE const char *aoc_family_text(uint32_t family)
+{
+    switch (family) {
+        AOC_FAMILIES(AOC_ROW_WORDS)
+    default: return "no family of this library";
+    }
+}
+
 AOC_INLINE const char *aoc_frame_text(uint32_t frame)
 {
     switch (frame) {
@@ -207,7 +215,8 @@ static inline void aoc_put_signed(aoc_text *text, uint16_t id)
 static inline void aoc_put_money(aoc_text *text, const aoc_money *money)
 {
     aoc_put_octets(text, money->currency.octets, money->currency.count, AOC_LIMIT_CURRENCY_OCTETS);
-    aoc_put_character(text, ' ');
+    if (money->currency.count)
+        aoc_put_character(text, ' ');
     aoc_put_number(text, aoc_thousandths(money->number, money->multiplier), 3);
 }
 
@@ -282,6 +291,9 @@ static inline void aoc_put_rate(aoc_text *text, const aoc_rate_entry *rate)
     case AOC_RATE_FREE:
         aoc_put_words(text, "free");
         break;
+    case AOC_RATE_FREE_FROM_BEGINNING:
+        aoc_put_words(text, "free from the beginning");
+        break;
     default:
         aoc_put_words(text, "not available");
         break;
@@ -311,6 +323,9 @@ static inline void aoc_put_association(aoc_text *text, const aoc_association *as
         aoc_put_words(text, ", of ");
         aoc_put_words(text, aoc_plan_text(association->plan));
         aoc_put_words(text, " number ");
+        break;
+    case AOC_ASSOCIATION_PRIVATE_NUMBER:
+        aoc_put_words(text, ", of private number ");
         break;
     default:
         aoc_put_words(text, ", of number ");

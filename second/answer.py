@@ -20,11 +20,17 @@ B <reference> <event>;.. switchboard      of each operation: number,service of a
                          number,figure of a reading, the figure being the account
 F <rows> <hex>           exchange         <number> <rule> <event>
 G <rows> <hex>           plain engine     <number> outcome,service;...;phase,rate,running,closing,its service,marks,pending,identifiers
+Q <profile> <hex>        read by profile  <number> <offset> <family> <packed record of it>
+K <place> <hex>          a place of an element of either family <number> <offset> <family> <the place after> <1 at the end> <packed record of it>
+U <profile> <room> <hex> reject by profile <number> <count> <hex>
+O <profile> <room> <packed record of its family> write by profile <number> <count> <hex>
 X <room> <room> <pairs> <hex> a trace     <number> <message> <rows> <hex>, then the plain engine's answers on them as G has them
 
 Events: S <id>,<id>,<id> Setup, C Connect, X Clear, L Released, P Suspend, U Resume, M<hex> Component. On a switchboard also
 K a collection, V a reading, O<number> an event of a kind that is none's.
 
+A profile octet is two hex digits. A family is 1 for document 01's, 2 for the trunks', 0 for none: that of the profile octet, whether the
+component is refused or not. No record is no octets.
 A row's six numbers are four hex digits each, a pair's two are eight. Hex is small and without spaces. An empty last field leaves the space before it.
 A figure is - where all of it is zero, else a checksum of its octets; after `python3 answer.py octets` it is the octets themselves.
 """
@@ -40,6 +46,7 @@ import month
 import plain
 import price
 import trace
+import trunks
 import why
 
 NO_RECORD = "00" * 376
@@ -212,6 +219,37 @@ def answer_plain(rest):
     return "48" if events is None else f"0 {engine(events)}"
 
 
+FAMILIES = {trunks.PUBLIC: "1", trunks.PRIVATE: "2"}
+
+
+def packed_by(profile, record):
+    return "" if record is None else (trunks.pack if profile == trunks.PRIVATE else aoc.pack)(record).hex()
+
+
+def answer_read_by(rest):
+    profile, _, octets = rest.partition(" ")
+    number, offset, record = trunks.locate(int(profile, 16), bytes.fromhex(octets))
+    return f"{number} {offset} {FAMILIES.get(int(profile, 16), '0')} {packed_by(int(profile, 16), record)}"
+
+
+def answer_next_by(rest):
+    place, _, octets = rest.partition(" ")
+    number, offset, profile, record, after, ended = trunks.step_through(bytes.fromhex(octets), int(place))
+    return f"{number} {offset} {FAMILIES[profile] if after else '0'} {after} {int(ended)} {packed_by(profile, record)}"
+
+
+def answer_reply_by(rest):
+    profile, room, octets = rest.split(" ")
+    number, octets = trunks.reply(int(profile, 16), bytes.fromhex(octets), int(room))
+    return f"{number} {len(octets)} {octets.hex()}"
+
+
+def answer_write_by(rest):
+    profile, room, packed = rest.split(" ")
+    number, octets = trunks.write_by(int(profile, 16), bytes.fromhex(packed), int(room))
+    return f"{number} {len(octets)} {octets.hex()}"
+
+
 def answer_trace(rest):
     row_room, out_room, pairs, octets = rest.split(" ")
     numbers = [int(pairs[i:i + 8], 16) for i in range(0, len(pairs), 8)]
@@ -222,7 +260,8 @@ def answer_trace(rest):
 ANSWERS = {"R": answer_read, "W": answer_write, "E": answer_element, "J": answer_reply,
            "T": answer_thousandths, "N": answer_next, "A": answer_account, "D": answer_account, "Y": answer_why,
            "F": answer_fault, "P": answer_price, "M": answer_month, "Z": answer_held, "B": answer_board,
-           "G": answer_plain, "X": answer_trace, "L": answer_write_element}
+           "G": answer_plain, "X": answer_trace, "L": answer_write_element,
+           "Q": answer_read_by, "K": answer_next_by, "U": answer_reply_by, "O": answer_write_by}
 
 
 def answer(line):

@@ -1,16 +1,19 @@
 """The Facility element, read, gone through and written, and the reject in reply to a component: documents 01 and 02."""
 
-from coding import (BAD_ELEMENT, BAD_FRAME, BAD_PLACE, MISSING, NO_ROOM, UNKNOWN_COMPONENT, UNKNOWN_ERROR,
+from coding import (BAD_ELEMENT, BAD_FRAME, BAD_PLACE, MISSING, NO_ROOM, OTHER_PROFILE, UNKNOWN_COMPONENT, UNKNOWN_ERROR,
                     UNKNOWN_OPERATION, Refused, contents, of_component)
 from reading import identifier, locate, read
 from records import REJECT, Record
 from writing import write
 
 
+PROFILES = LINE, TRUNK = 0x91, 0x9F
+
+
 def element(octets):
     """(0, the components' starts) or (15, [])."""
     end = len(octets)
-    if end < 4 or octets[0] != 0x1C or octets[1] != end - 2 or octets[2] != 0x91:
+    if end < 4 or octets[0] != 0x1C or octets[1] != end - 2 or octets[2] not in PROFILES:
         return BAD_ELEMENT, []
     starts, place = [], 3
     while place < end:
@@ -24,7 +27,10 @@ def element(octets):
 
 
 def step_through(octets, place):
-    """What stands at a place of an element: (number, offset, record or None, the place after it, whether it is the end)."""
+    """What stands at a place of an element: (number, offset, record or None, the place after it, whether it is the end).
+
+    A component of a trunk's element is 17: only document 01's family is read here.
+    """
     number, starts = element(octets)
     if number:
         return number, 0, None, 0, False
@@ -33,7 +39,8 @@ def step_through(octets, place):
     if place not in starts:
         return BAD_PLACE, 0, None, 0, False
     after = (starts + [len(octets)])[starts.index(place) + 1]
-    return (*locate(octets[place:after]), after, False)
+    found = locate(octets[place:after]) if octets[2] == LINE else (OTHER_PROFILE, 0, None)
+    return (*found, after, False)
 
 
 def write_element(octets, room):

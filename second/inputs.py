@@ -1,6 +1,6 @@
 """Test inputs for the comparison, the same for the same seed.
 
-python3 inputs.py SEED COUNT prints COUNT lines of the text protocol (see answer.py).
+python3 inputs.py SEED COUNT prints COUNT lines of the text protocol (see answer.py); with `trunks` behind it, lines of the trunks' family.
 
 The files make_*.py make them; here is the mix.
 """
@@ -9,6 +9,7 @@ import random
 import sys
 from itertools import count as counting
 
+import make_trunks
 from make_accounts import held_input
 from make_calls import account_input, board_input, dropped_input, fault_input, why_input
 from make_damage import long_component, nested, noise, spoil, strange_code, sweep
@@ -72,11 +73,27 @@ def lines(seed, count):
             yield account_input(rng, (0, 1, 2, 3, 4, 5, 6, 7, 8, 9, 10, 11, 12, 9, 10, 11, 12)[next(turn) % 17])
 
 
+def trunk_lines(seed, count):
+    rng = random.Random(seed)
+    octets, records = make_trunks.octet_source(rng), make_trunks.fields_in_turn(rng)
+    for _ in range(count):
+        kind = rng.choices("QKUO", (50, 10, 12, 40))[0]
+        if kind == "Q":
+            yield f"Q {make_trunks.any_profile(rng):02x} {next(octets).hex()}"
+        elif kind == "K":
+            element = make_trunks.trunk_element(rng)
+            yield f"K {make_trunks.place_in(rng, element)} {element.hex()}"
+        elif kind == "U":
+            yield f"U {make_trunks.any_profile(rng):02x} {rng.choice((254, 254, rng.randint(0, 10)))} {next(octets).hex()}"
+        else:
+            yield make_trunks.writer_input(rng, records)
+
+
 def main():
-    if len(sys.argv) != 3:
-        sys.exit("usage: python3 inputs.py SEED COUNT")
+    if len(sys.argv) not in (3, 4) or sys.argv[3:] not in ([], ["trunks"]):
+        sys.exit("usage: python3 inputs.py SEED COUNT [trunks]")
     try:
-        for line in lines(int(sys.argv[1]), int(sys.argv[2])):
+        for line in (trunk_lines if sys.argv[3:] else lines)(int(sys.argv[1]), int(sys.argv[2])):
             sys.stdout.write(line + "\n")
     except BrokenPipeError:
         sys.stderr.close()

@@ -134,7 +134,7 @@ def many(rng, node, parent):
     if node.limit and node.parts:
         size = node.limit + rng.choice((-1, 0, 1, 1, 2))
         # Short entries, so that a full list stays under 254 octets.
-        entry = Node(0x30, [num(0x0A, 0, 0, 4), Node(0x84)] if node.limit == 10 else [Node(0x05)])
+        entry = Node(0x30, [num(0x0A, 0, 0, 4), Node(0x84)] if node.limit == 10 else [Node(0x05)]) if node.limit != 7 else num(0x0A, 0, 0, 6)
         node.parts = [entry.copy() for _ in range(size)]
         if size > node.limit and rng.random() < 0.5:
             # What follows the limit is not looked at.

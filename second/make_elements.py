@@ -30,14 +30,15 @@ def facility(rng):
         if len(tiles) + len(tile) > 254 and rng.random() < 0.95:
             break
         tiles += tile
-    octets = bytes((0x1C, (len(tiles) + 1) & 0xFF, 0x91)) + tiles
+    profile = 0x91 if rng.random() < 0.93 else rng.choice((0x9F, 0x9F, 0x1F, 0x90))
+    octets = bytes((0x1C, (len(tiles) + 1) & 0xFF, profile)) + tiles
     chance = rng.random()
     if chance < 0.25:
         octets = rng.choice((cut, add, remove, change, nudge, trail))(rng, octets)
     elif chance < 0.5 and len(octets) > 3:
         # Damage among the tiles under a length that agrees.
         inner = rng.choice((cut, add, remove, change, nudge, trail))(rng, octets[3:])
-        octets = bytes((0x1C, (len(inner) + 1) & 0xFF, 0x91)) + inner
+        octets = bytes((0x1C, (len(inner) + 1) & 0xFF, profile)) + inner
     return octets
 
 

@@ -12,8 +12,7 @@ from aoc import (AMOUNT, BAD_CONTENTS, BAD_FRAME, CUT, DIGITS, DIGITS_MAX, FREE,
                  TOO_LONG, TRAILING, UNEXPECTED, UNKNOWN_COMPONENT, UNKNOWN_ERROR, UNKNOWN_OPERATION, Association, Charge, Figure, Refused,
                  contents, empty, expect, finish, integer, need, no_tag, of_argument, of_component, of_frame, peek, put, put_integer, put_range)
 
-PUBLIC, PRIVATE = 0x91, 0x9F  # the profile octets
-WRONG_PROFILE = 17
+PUBLIC, PRIVATE = aoc.PROFILES
 INVOKE, RESULT, ERROR, REJECT, EXTENSION = 1, 2, 3, 4, 10
 CHARGE_REQUEST, GET_FINAL, FINAL, INTERIM, RATE, COMPLETE, DIVERSION = range(59, 66)
 ERRORS = (3, 10, 1008, 1016)
@@ -51,6 +50,21 @@ def pack(t):
             + bytes((t.detail, t.entity)) + bytes(4)
             + bytes((t.extended, len(t.extension))) + t.extension.ljust(KEPT_MAX, b"\0")
             + aoc.pack_charge(t.charge))
+
+
+def unpack(octets):
+    """The component of its octets in memory; None where it has something in a place that is not used.
+
+    Four octets are no field's: all that is not used is zero.
+    """
+    if any(octets[44:48]):
+        return None
+    v = struct.unpack("<BBHHBB8sHHBB20sBB4xBB242s", octets[:292])
+    modes, count, kept = v[6], v[15], v[16]
+    if modes[0] > MODES_MAX or any(modes[1 + modes[0]:]) or count > KEPT_MAX or any(kept[count:]):
+        return None
+    user = Association(*v[7:11], list(v[11]))
+    return Trunk(*v[:6], modes[1:1 + modes[0]], user, v[12], v[13], v[14], kept[:count], aoc.unpack_charge(octets[292:]))
 
 
 # ---------------------------------------------------------------- reading
@@ -382,7 +396,7 @@ def locate(profile, octets):
     if profile == PUBLIC:
         return aoc.locate(octets)
     if profile != PRIVATE:
-        return WRONG_PROFILE, 0, None
+        return aoc.OTHER_PROFILE, 0, None
     try:
         return 0, 0, component(octets)
     except Refused as refusal:
@@ -546,6 +560,7 @@ def octets_of(t):
 def write(t, room=LONGEST):
     """(0, octets), or 10, 11 or 12 and none."""
     try:
+        need(t is not None)
         octets = octets_of(t)
     except aoc.BadRecord:
         return aoc.BAD_RECORD, b""
@@ -556,20 +571,40 @@ def write(t, room=LONGEST):
     return 0, octets
 
 
+def write_by(profile, packed, room):
+    """A record in memory, of the family that the profile octet names: 17 for another octet, before all else."""
+    if profile == PUBLIC:
+        return aoc.write(aoc.unpack(packed), room)
+    return write(unpack(packed), room) if profile == PRIVATE else (aoc.OTHER_PROFILE, b"")
+
+
 # ---------------------------------------------------------------- element and reply
 
 def element(octets):
     """(0, the profile octet, the components' starts), or (15, 0, [])."""
-    profile = octets[2] if len(octets) > 2 else 0
-    number, starts = aoc.element(octets[:2] + bytes((PUBLIC,)) + octets[3:]) if profile in (PUBLIC, PRIVATE) else (aoc.BAD_ELEMENT, [])
-    return number, 0 if number else profile, starts
+    number, starts = aoc.element(octets)
+    return number, 0 if number else octets[2], starts
+
+
+def step_through(octets, place):
+    """What stands at a place of an element: (number, offset, the profile octet, record or None, the place after it, whether it is the end)."""
+    number, profile, starts = element(octets)
+    if number:
+        return number, 0, 0, None, 0, False
+    if place == len(octets):
+        return 0, 0, profile, None, 0, True
+    if place not in starts:
+        return aoc.BAD_PLACE, 0, 0, None, 0, False
+    after = (starts + [len(octets)])[starts.index(place) + 1]
+    number, offset, found = locate(profile, octets[place:after])
+    return number, offset, profile, found, after, False
 
 
 def reply(profile, octets, room=LONGEST):
     """The reject due for a component: 0 and its octets, none where none is due; or 17, or 12."""
     number, _, _ = locate(profile, octets)
-    if number == WRONG_PROFILE:
-        return WRONG_PROFILE, b""
+    if number == aoc.OTHER_PROFILE:
+        return aoc.OTHER_PROFILE, b""
     if profile == PUBLIC:
         return aoc.reply(octets, room)
     first = octets[:1]
@@ -590,3 +625,17 @@ def reply(profile, octets, room=LONGEST):
         answer.unnamed, answer.problem = 1, 0x80
         answer.detail = {UNKNOWN_COMPONENT: 0, BAD_FRAME: 1}.get(number, 2)
     return write(answer, room)
+
+
+# ---------------------------------------------------------------- lines
+
+def answer_line(line):
+    """One line of the line program for both families: the profile octet, then the component."""
+    octets = aoc.octets_of_line(line)
+    if not octets:
+        return "bad line"
+    profile, octets = octets[0], octets[1:]
+    number, _, record = locate(profile, octets)
+    if number:
+        return f"refused {number}"
+    return (write if profile == PRIVATE else aoc.write)(record, LONGEST)[1].hex(" ").upper()

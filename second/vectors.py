@@ -551,7 +551,8 @@ PASSED = (
     (PASSED_WHOLE, 28, "A1 0A 02 01 04 02 01 23 30 02 81 00", 40), (PASSED_WHOLE, 40, "end", 0), (PASSED_WHOLE, 0, "16", 0),
     (PASSED_WHOLE, 2, "16", 0), (PASSED_WHOLE, 5, "16", 0), (PASSED_WHOLE, 14, "16", 0), (PASSED_WHOLE, 41, "16", 0),
     (PASSED_WHOLE, 65535, "16", 0), (PASSED_BROKEN, 28, "42@10", 40), (PASSED_BROKEN, 3, "A1 09 02 01 05 02 01 1E 0A 01 01", 16),
-    (PASSED_UNTILED, 3, "15", 0), (PASSED_UNTILED, 41, "15", 0), ("1C 01 91", 3, "15", 0), ("", 0, "15", 0),
+    (PASSED_WHOLE.replace("91", "9F"), 3, "17", 16), (PASSED_WHOLE.replace("91", "9F"), 40, "end", 0), (PASSED_WHOLE.replace("91", "9F"), 4, "16", 0),
+    (PASSED_WHOLE.replace("91", "9E"), 3, "15", 0), (PASSED_UNTILED, 3, "15", 0), (PASSED_UNTILED, 41, "15", 0), ("1C 01 91", 3, "15", 0), ("", 0, "15", 0),
 )
 
 
@@ -577,7 +578,7 @@ def passes():
             seen.append((place, got[:3]))
             place = got[3]
         parts = zip(starts, starts[1:] + [len(given)])
-        check("going through", seen, [(a, aoc.locate(given[a:b])) for a, b in parts])
+        check("going through", seen, [(a, aoc.locate(given[a:b]) if given[2] == 0x91 else (17, 0, None)) for a, b in parts])
         check("its end", got[0] if number else got, number or (0, 0, None, 0, True))
 
 

@@ -351,6 +351,71 @@ static void answer_held(const char *rest)
         fputs(" changed by reading", stdout);
 }
 
+/* What was read of either family: its own record, and of the other nothing. */
+static void put_either(const aoc_either *a)
+{
+    bool line = a->family == AOC_FAMILY_LINE && a->refusal == AOC_ACCEPTED, trunk = a->family == AOC_FAMILY_TRUNK && a->refusal == AOC_ACCEPTED;
+    if (line)
+        put_hex(&a->record, sizeof a->record);
+    if (trunk)
+        put_hex(&a->trunk, sizeof a->trunk);
+    if ((!line && !all(&a->record, sizeof a->record, 0)) || (!trunk && !all(&a->trunk, sizeof a->trunk, 0)))
+        fputs(" not zero", stdout);
+}
+
+static void answer_read_by(const char *rest)
+{
+    char *next;
+    uint8_t profile = (uint8_t)strtoul(rest, &next, 16);
+    aoc_either a;
+    memset(&a, MARK, sizeof a);
+    aoc_read_by(profile, octets, unhex(next + 1, octets), &a);
+    printf("%u %u %u ", (unsigned)a.refusal, (unsigned)a.offset, (unsigned)a.family);
+    put_either(&a);
+}
+
+static void answer_next_by(const char *rest)
+{
+    char *next;
+    size_t from = strtoul(rest, &next, 10), place = from, n = unhex(next + 1, octets);
+    aoc_either a;
+    memset(&a, MARK, sizeof a);
+    bool found = aoc_next_by(octets, n, &place, &a);
+    printf("%u %u %u %u %d ", (unsigned)a.refusal, (unsigned)a.offset, found ? (unsigned)a.family : 0, found ? (unsigned)place : 0,
+           !found && a.refusal == AOC_ACCEPTED);
+    if (found)
+        put_either(&a);
+    else if (place != from || !all(&a.record, sizeof a.record, 0) || !all(&a.trunk, sizeof a.trunk, 0))
+        fputs(" moved", stdout);
+}
+
+static void answer_reply_by(const char *rest)
+{
+    char *next;
+    uint8_t profile = (uint8_t)strtoul(rest, &next, 16);
+    size_t room = strtoul(next, &next, 10);
+    size_t n = unhex(next + 1, octets);
+    memset(buffer, MARK, room + 2 * GUARD);
+    answer_written(aoc_reply_by(profile, octets, n, buffer + GUARD, room), room);
+}
+
+/* A record of one family in an answer that is zero but for it. */
+static void answer_write_by(const char *rest)
+{
+    char *next;
+    uint8_t profile = (uint8_t)strtoul(rest, &next, 16);
+    size_t room = strtoul(next, &next, 10), n = unhex(next + 1, octets);
+    aoc_either a;
+    memset(&a, 0, sizeof a);
+    if (n != sizeof a.record && n != sizeof a.trunk) {
+        fputs("not a record", stdout);
+        return;
+    }
+    memcpy(n == sizeof a.record ? (void *)&a.record : (void *)&a.trunk, octets, n);
+    memset(buffer, MARK, room + 2 * GUARD);
+    answer_written(aoc_write_by(profile, &a, buffer + GUARD, room), room);
+}
+
 static uint16_t rows[WIDEST / 4];
 
 /* An event list: how many numbers its rows have, and how many octets. */
@@ -562,6 +627,18 @@ int main(int count, char **arguments)
             break;
         case 'L':
             answer_write_element(line + 2);
+            break;
+        case 'Q':
+            answer_read_by(line + 2);
+            break;
+        case 'K':
+            answer_next_by(line + 2);
+            break;
+        case 'U':
+            answer_reply_by(line + 2);
+            break;
+        case 'O':
+            answer_write_by(line + 2);
             break;
         default:
             fputs("not a line", stdout);

@@ -219,14 +219,14 @@ static int differ(const char *volatile a, const char *volatile b)
 static void test_words(void)
 {
     int events = 0, services = 0, frames = 0, operations = 0, errors = 0;
-    for (uint32_t n = 0; n < 300; n++) {
+    for (uint32_t n = 0; n < 1100; n++) {
         events += differ(aoc_event_text(n), "no event of this library");
         services += differ(aoc_service_text(n), "no service of this library");
         frames += differ(aoc_frame_text(n), "no frame of this library");
         operations += differ(aoc_operation_text(n), "no operation of this library");
         errors += differ(aoc_error_text(n), "no error of this library");
     }
-    CHECK(events == 7 && services == 4 && frames == 4 && operations == 7 && errors == 5, "tables");
+    CHECK(events == 7 && services == 4 && frames == 5 && operations == 14 && errors == 8, "tables");
     CHECK(!differ(aoc_service_text(AOC_SERVICE_E), "charges at the end"), "words");
     CHECK(!differ(aoc_operation_text(AOC_OPERATION_E_CURRENCY), "aOCECurrency"), "words");
 }

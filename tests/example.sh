@@ -48,6 +48,11 @@ printf '%s\n' '1 9 1 connect' '2 9 1 setup D' '3 9 1 facility 1C 05 91' | night 
 has out '^1  room 9  call 1  connect refused: an event that is not allowed in this phase$' 'an event out of order'
 has out '^3  room 9  call 1  a malformed Facility element$' 'a malformed element'
 
+# an element of a trunk is none of the call's, and draws no reject
+printf '%s\n' '1 9 1 setup D' '2 9 1 facility 1C 15 9F AA 06 80 01 00 82 01 00 A1 0A 02 01 01 02 01 3D 30 02 81 00' | night >"$work/out" || wrong 'a status for a trunk'
+has out '^2  room 9  call 1  an element of a trunk, which no account takes$' 'an element of a trunk'
+! grep -q 'sent back' "$work/out" || wrong 'a reject for a trunk'
+
 # evidence: events that were refused are not judged, and are counted in the number of the one that is told
 printf '%s\n' '1 9 1 setup' '2 9 1 setup' '3 9 1 facility 1C 08 91 A1 05 02 01 01 02 00' '4 9 1 connect' \
     '5 9 1 facility 1C 1D 91 A1 1A 02 01 64 02 01 21 30 12 A1 0D 81 03 45 55 52 A2 06 81 01 0C 82 01 02 82 01 00' \

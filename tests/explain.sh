@@ -44,6 +44,24 @@ means "08 01 81 45 1C 1E 91 $octets" 'refused: not a message to its exact end'
 means "$octets $octets" 'refused 5: octets after the component'
 means '1C 01 91' 'refused 15: a malformed Facility element'
 
+# of a trunk: by the profile octet ahead of a component, or by the element's own
+trunk='A1 17 02 01 01 02 01 3D 30 0F 30 0D A1 0B 81 01 45 A2 06 81 01 0F 82 01 02'
+means "9F $trunk" 'invoke 1 aocFinal E 1.500'
+means "9f${trunk##A1}" 'refused 4: the first octet is not A1 to A4, nor AA of a trunk'
+means "91 $trunk" 'refused 7: an unknown operation'
+means "$trunk" 'refused 7: an unknown operation'
+means "91 $octets" "$answer"
+means "9F $octets" 'refused 7: an unknown operation'
+means "1C 1A 9F $trunk" 'invoke 1 aocFinal E 1.500'
+means "08 01 81 62 1C 1A 9F $trunk" 'FACILITY: invoke 1 aocFinal E 1.500'
+means "1C 1A 91 $trunk" 'refused 7: an unknown operation'
+means "1C 1A 9E $trunk" 'refused 15: a malformed Facility element'
+means '9F AA 06 80 01 01 82 01 00' 'networkFacilityExtension anyTypeOfPINX to endPINX'
+means '9F AA 00' 'refused 6: a failure outside the argument or result'
+means '9F 92 01 05' 'networkProtocolProfile, for the exchange alone: 92 01 05'
+means '91 8B 01 00' 'refused 4: the first octet is not A1 to A4, nor AA of a trunk'
+means '9F' 'refused 1: the octets end too early'
+
 # dumps, as printed by tshark -x, hexdump -C, xxd, od -Ax -tx1
 cat >"$work/tshark" <<'END'
 0000  a1 1a 02 01 0b 02 01 23 30 12 30 10 a1 0e 81 03   .......#0.0.....

@@ -22,7 +22,7 @@ static void must(bool fact, const char *what)
 /* A copy in memory of its own length, so that a sanitizer sees each octet that is read past its end. */
 static uint8_t *copied(const uint8_t *octets, size_t length)
 {
-    uint8_t *copy = malloc(length ? length : 1);
+    uint8_t *copy = calloc(length ? length : 1, 1);
     MUST(copy != NULL);
     if (length)
         memcpy(copy, octets, length);
@@ -63,13 +63,50 @@ static void component(const uint8_t *octets, size_t length)
     free(buffer);
 }
 
+/* A component of either family, or of none, by its profile octet: what is read is one family's, and the other record is zero. */
+static void by_profile(uint8_t profile, const uint8_t *octets, size_t length)
+{
+    aoc_either answer;
+    aoc_answer alone;
+    uint8_t reject[AOC_LIMIT_REPLY_OCTETS];
+    memset(&answer, 0xFF, sizeof answer);
+    aoc_refusal refusal = aoc_read_by(profile, octets, length, &answer);
+    aoc_written reply = aoc_reply_by(profile, octets, length, reject, sizeof reject);
+    bool line = profile == AOC_PROFILE_LINE, trunk = profile == AOC_PROFILE_TRUNK;
+    MUST(refusal == answer.refusal && answer.family == (line ? AOC_FAMILY_LINE : trunk ? AOC_FAMILY_TRUNK : AOC_FAMILY_NONE));
+    MUST((refusal == AOC_REFUSED_OTHER_PROFILE) == (!line && !trunk) && (reply.refusal == AOC_ACCEPTED) == (line || trunk));
+    MUST((line && !refusal) || is_zero(&answer.record, sizeof answer.record));
+    MUST((trunk && !refusal) || is_zero(&answer.trunk, sizeof answer.trunk));
+    if (line)
+        MUST(aoc_read(octets, length, &alone) == refusal && alone.offset == answer.offset &&
+             !memcmp(&alone.record, &answer.record, sizeof alone.record));
+    if (trunk) {
+        bool quiet = !refusal || (length && (octets[0] == 0xA4 || (octets[0] == 0xAA && refusal == AOC_REFUSED_BAD_FRAME)));
+        MUST((reply.count > 0) == !quiet && is_zero(answer.trunk.zero, sizeof answer.trunk.zero));
+        MUST(!reply.count || aoc_read(reject, reply.count, &alone) == AOC_ACCEPTED);
+    }
+    if (!refusal) {
+        uint8_t *buffer = malloc(AOC_LIMIT_COMPONENT_OCTETS);
+        aoc_either back;
+        MUST(buffer != NULL);
+        aoc_written written = aoc_write_by(profile, &answer, buffer, AOC_LIMIT_COMPONENT_OCTETS);
+        MUST(written.refusal == AOC_ACCEPTED && written.count <= length && aoc_read_by(profile, buffer, written.count, &back) == AOC_ACCEPTED);
+        MUST(!memcmp(&answer, &back, sizeof back) && aoc_write_by(profile, &answer, buffer, written.count - 1).refusal == AOC_REFUSED_NO_ROOM);
+        free(buffer);
+    }
+}
+
 /* Going through an element, and the element that is written round its components. */
 static void element(const uint8_t *octets, size_t length)
 {
     aoc_answer answer;
     size_t place = AOC_FIRST_PLACE, from = place, count = 0;
     for (; aoc_next(octets, length, &place, &answer); from = place) {
+        aoc_either either;
+        size_t other = from;
         MUST(place > from && place <= length && ++count <= AOC_LIMIT_COMPONENTS);
+        MUST(aoc_next_by(octets, length, &other, &either) && other == place);
+        MUST(octets[2] == AOC_PROFILE_LINE ? either.refusal == answer.refusal : answer.refusal == AOC_REFUSED_OTHER_PROFILE);
         component(octets + from, place - from);
     }
     MUST(answer.refusal == AOC_ACCEPTED || answer.refusal == AOC_REFUSED_BAD_ELEMENT);
@@ -77,7 +114,9 @@ static void element(const uint8_t *octets, size_t length)
     MUST(buffer != NULL);
     if (answer.refusal == AOC_ACCEPTED) {
         aoc_written written = aoc_write_element(octets + 3, length - 3, buffer, AOC_LIMIT_ELEMENT_OCTETS);
-        MUST(written.refusal == AOC_ACCEPTED && written.count == length && !memcmp(buffer, octets, length));
+        /* what is written is a public line's */
+        MUST(written.refusal == AOC_ACCEPTED && written.count == length && !memcmp(buffer, octets, 2) && buffer[2] == AOC_PROFILE_LINE);
+        MUST(!memcmp(buffer + 3, octets + 3, length - 3));
     }
     aoc_written written = aoc_write_element(octets, length, buffer, AOC_LIMIT_ELEMENT_OCTETS);
     MUST(written.refusal ? written.refusal == AOC_REFUSED_BAD_ELEMENT && written.count == 0 : written.count == length + 3);
@@ -145,6 +184,10 @@ int LLVMFuzzerTestOneInput(const uint8_t *octets, size_t length)
 {
     uint8_t *copy = copied(octets, length);
     component(copy, length);
+    by_profile(AOC_PROFILE_LINE, copy, length);
+    by_profile(AOC_PROFILE_TRUNK, copy, length);
+    if (length)
+        by_profile(copy[0], copy + 1, length - 1);
     element(copy, length);
     events(copy, length);
     memory(copy, length);
@@ -173,6 +216,9 @@ static size_t input(uint8_t *to)
         "\x0B\xA1\x09\x02\x01\x03\x02\x01\x1E\x0A\x01\x02",
         "\x08\xA3\x06\x02\x01\x03\x02\x01\x1A",
         "\x08\xA4\x06\x02\x01\x03\x81\x01\x02",
+        "\x1E\xA1\x1C\x02\x01\x01\x02\x01\x3D\x30\x14\x30\x12\xA1\x0D\x81\x03" "EUR\xA2\x06\x81\x01\x32\x82\x01\x01\x82\x01\x00",
+        "\x11\xA1\x0F\x02\x01\x05\x02\x01\x3C\xA1\x07\x06\x03\x2B\x0C\x02\x05\x00",
+        "\x08\xAA\x06\x80\x01\x00\x82\x01\x00",
         "\x10\xA1\x80\x02\x01\x04\x02\x01\x23\x30\x80\x81\x00\x00\x00\x00\x00",
     };
     uint64_t way = chance();
@@ -193,7 +239,7 @@ static size_t input(uint8_t *to)
     for (size_t changes = chance() % 4; changes > 0; changes--)
         to[chance() % length] = (uint8_t)(chance() % 2 ? chance() : chance() % 8);
     if (way % 4 == 1)
-        to[0] = 0x1C, to[1] = (uint8_t)(length - 2), to[2] = 0x91;
+        to[0] = 0x1C, to[1] = (uint8_t)(length - 2), to[2] = chance() % 3 ? AOC_PROFILE_LINE : AOC_PROFILE_TRUNK;
     return length;
 }
 

@@ -606,11 +606,13 @@ static void test_element(void)
     CHECK(s.count == 2 && s.starts[0] == 3 && s.starts[1] == 5, "00 00 where nothing is open");
     s = element_hex("1C 07 91 FF 80 00 00 00 00");
     CHECK(s.count == 2 && s.starts[0] == 3 && s.starts[1] == 7, "00 00 after an end marker");
+    s = element_hex("1C 05 9F A1 00 AA 00");
+    CHECK(s.refusal == AOC_ACCEPTED && s.count == 2 && s.starts[1] == 5, "an element of a trunk");
     static const char *const bad[] = {
         "1C", "1C 01", "1C 01 91", "1D 03 91 A1 00", "1C 03 92 A1 00", "1C 04 91 A1 00", "1C 02 91 A1 00", "1C 02 91 A1",
         "1C 04 91 A1 80 00", "1C 05 91 81 80 00 00", "1C 05 91 A1 80 05 83", "1C 07 91 30 80 30 80 00 00",
         "1C 03 91 A1 01", "1C 03 91 A1 80", "1C 06 91 A1 83 00 00 00", "1C 03 91 A1 FF",
-        "1C 03 91 A1 81", "1C 04 91 A1 82 00", "1C 04 91 A1 00 A1", "1C 81 03 91 A1 00", "1C 03 9F A1 00",
+        "1C 03 91 A1 81", "1C 04 91 A1 82 00", "1C 04 91 A1 00 A1", "1C 81 03 91 A1 00", "1C 03 9E A1 00",
     };
     for (size_t i = 0; i < sizeof bad / sizeof *bad; i++)
         CHECK(bad_element(element_hex(bad[i])), bad[i]);

@@ -58,6 +58,17 @@ static void test_components()
     CHECK(aoc_next(element, sizeof element, &place, &answer) && place == 5);
     CHECK(aoc_next(element, sizeof element, &place, &answer) && place == sizeof element);
     CHECK(!aoc_next(element, sizeof element, &place, &answer) && answer.refusal == AOC_ACCEPTED);
+
+    // a final charge of a trunk, free; by its profile octet, and in an element of its own
+    static const uint8_t trunk[] = {0x1C, 0x0D, 0x9F, 0xA1, 0x0A, 0x02, 0x01, 0x01, 0x02, 0x01, 0x3D, 0x30, 0x02, 0x81, 0x00};
+    aoc_either either;
+    CHECK(aoc_read_by(AOC_PROFILE_TRUNK, trunk + 3, sizeof trunk - 3, &either) == AOC_ACCEPTED);
+    CHECK(either.family == AOC_FAMILY_TRUNK && either.trunk.operation == AOC_OPERATION_FINAL && either.trunk.charge.kind == AOC_CHARGE_FREE);
+    CHECK(aoc_read_by(AOC_PROFILE_LINE, trunk + 3, sizeof trunk - 3, &either) == AOC_REFUSED_UNKNOWN_OPERATION);
+    CHECK(aoc_reply_by(0x90, trunk + 3, 1, buffer, sizeof buffer).refusal == AOC_REFUSED_OTHER_PROFILE);
+    place = AOC_FIRST_PLACE;
+    CHECK(aoc_next_by(trunk, sizeof trunk, &place, &either) && place == sizeof trunk && either.trunk.id == 1);
+    CHECK(!aoc_next_by(trunk, sizeof trunk, &place, &either) && either.refusal == AOC_ACCEPTED);
 }
 
 static void test_call()

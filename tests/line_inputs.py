@@ -1,13 +1,14 @@
-"""Lines for the line program: python3 tests/line_inputs.py SEED INPUTS TEXT ANSWERS
+"""Lines for a line program: python3 tests/line_inputs.py SEED INPUTS TEXT ANSWERS [trunks]
 
-Each component of INPUTS (the lines of second/inputs.py that begin with R) becomes a line of TEXT, some with a fault of
-style in it, some overlong; ANSWERS is what the second program prints for TEXT. The last line has no LF."""
+Each component of INPUTS (the lines of second/inputs.py that begin with R, or of trunks those with Q and the profile octet) becomes a line of TEXT,
+some with a fault of style in it, some overlong; ANSWERS is what the second program prints for TEXT. The last line has no LF."""
 
 import random
 import sys
 
 sys.path.insert(0, "second")
 import aoc
+import trunks
 
 ODD = (b" ", b"  ", b"\t", b"\0", b"\r", b"\xFF", b"g", b"G", b"x", b":", b"@", b"`", b"/", b"0", b"a", b"F")
 
@@ -46,16 +47,17 @@ def styled(rng, octets):
 
 
 def main():
-    seed, inputs, text, answers = sys.argv[1:]
+    seed, inputs, text, answers, *of = sys.argv[1:]
+    kind, last, answer = ("Q", b"9F A1 0A 02 01 01 02 01 3D 30 02 81 00", trunks.answer_line) if of else ("R", b"A1 08 02 01 03 02 01 21 81 00", aoc.answer_line)
     rng = random.Random(seed)
     with open(inputs) as f:
-        lines = [styled(rng, bytes.fromhex(line[2:])) for line in f if line[0] == "R"]
+        lines = [styled(rng, bytes.fromhex(line[2:])) for line in f if line[0] == kind]
     rng.shuffle(lines)
-    whole = b"\n".join(lines + [b"A1 08 02 01 03 02 01 21 81 00"])
+    whole = b"\n".join(lines + [last])
     with open(text, "wb") as f:
         f.write(whole)
     with open(answers, "w") as f:
-        f.write(aoc.line_program(whole))
+        f.write(aoc.line_program(whole, answer))
 
 
 main()

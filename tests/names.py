@@ -4,7 +4,7 @@ import os
 import re
 import sys
 
-ROW = re.compile(r"^\| `([a-z_]+/specs/[A-Za-z]+\.antt)` \|")
+ROW = re.compile(r"^`([a-z_]+/specs/[A-Za-z]+\.antt)` \|")
 # a definition at the margin, or one step in where a section's parameters stand before it
 MARGIN = re.compile(r"^(?:abbrev |unfoldable )?(?:pub )?(?:data |record )?([^\s:(){}|=,-][^\s:(){}=,]*)(?: [({].*)? :(?: |$)")
 SECTION = re.compile(r"^  (?:abbrev|unfoldable) (?:pub )?([^\s:(){}]+) :(?: |$)")

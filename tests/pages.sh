@@ -1,5 +1,5 @@
 #!/bin/sh
-# The pages say what the tree has: what each crate stands on, the lines of each file of definitions, which of them are to be believed,
+# The pages say what the tree has: its crates, the lines of each file of definitions, which of them are to be believed,
 # the exports, the sizes, the must-fail edits, the theorems, the names in backticks and their files, what is quoted of definitions, what
 # public statements cite, the landings' notes, the links.
 cd "$(dirname "$0")/.." || exit 2
@@ -15,7 +15,19 @@ wrong = []
 
 def text(path):
     with open(path, encoding="utf-8") as file:
-        return file.read()
+        whole = file.read()
+    return barred(whole) if path.endswith(".md") else whole
+
+
+def barred(page):
+    """A page whose tables all have a bar at both ends of a row."""
+    lines = page.split("\n")
+    for i in [i for i, line in enumerate(lines) if re.fullmatch(r"---(?:\|---)+", line)]:
+        last = i
+        while last + 1 < len(lines) and " | " in lines[last + 1]:
+            last += 1
+        lines[i - 1:last + 1] = [f"|{line}|" if line.startswith("---") else f"| {line} |" for line in lines[i - 1:last + 1]]
+    return "\n".join(lines)
 
 
 def tell(page, what):
@@ -27,23 +39,12 @@ def differ(page, what, said, true):
         tell(page, f"{what}: {name} is {'not there' if name in said else 'not named'}")
 
 
-ARCHITECTURE, TRUST, CONTRACTS = "docs/ARCHITECTURE.md", "docs/TRUST.md", "docs/CONTRACTS.md"
+ARCHITECTURE, TRUST, CONTRACTS, EDITS = "docs/ARCHITECTURE.md", "docs/TRUST.md", "docs/CONTRACTS.md", "docs/EDITS.md"
 
-# ---- what a crate stands on
-stands = {}
-for line in text("crates.txt").splitlines():
-    if ":" in line.split("#")[0]:
-        name, below = line.split("#")[0].split(":")
-        stands[name.strip()] = [b for b in below.split() if b != "prelude"]  # every crate stands on it
-said = {}
-for line in text(ARCHITECTURE).splitlines():
-    cells = [cell.strip() for cell in line.split("|")]
-    if len(cells) == 6 and re.fullmatch(r"`[a-z_]+`", cells[2]):
-        said[cells[2].strip("`")] = re.findall(r"`([a-z_]+)`", cells[4])
-differ(ARCHITECTURE, "crate", said, stands)
-for name in stands:
-    if said.get(name, stands[name]) != stands[name]:
-        tell(ARCHITECTURE, f"{name} stands on {' '.join(stands[name]) or 'nothing'}")
+# ---- each crate is told of once
+crates = [line.split(":")[0] for line in text("crates.txt").splitlines() if ":" in line.split("#")[0]]
+told = re.findall(r"^\|[^|]*\| `([a-z_]+)` \|[^|]*\|$", text(ARCHITECTURE).split("## Layers")[1].split("###")[0], re.M)
+differ(ARCHITECTURE, "crate", told, crates)
 
 # ---- the files of definitions: those to be believed, with their lines, and those that only help
 files = {path[len("crates/"):] for path in glob.glob("crates/*/specs/*.antt") if not path.endswith("/Lib.antt")}
@@ -82,9 +83,9 @@ for names, numbers in re.findall(r"^\| (`aoc_\w+`(?:, `aoc_\w+`)*) \| ([\d, ]+) 
 
 # ---- the stack that is enough for any function, and the kit that the project is proved with
 enough = int(re.search(r"^(\d+) KB are enough for any function", text("docs/HOST.md"), re.M)[1])
-for name, octets in re.findall(r"^\| `(aoc_\w+)` \| ([\d,]+) \|$", text("docs/HOST.md").split("## Stack")[1].split("\n## ")[0], re.M):
+for names, octets in re.findall(r"^\| (`aoc_\w+`(?:, `aoc_\w+`)*) \| ([\d,]+) \|$", text("docs/HOST.md").split("## Stack")[1].split("\n## ")[0], re.M):
     if int(octets.replace(",", "")) > 1024 * enough:
-        tell("docs/HOST.md", f"{name} takes more than {enough} KB of stack")
+        tell("docs/HOST.md", f"{names}: more than {enough} KB of stack")
 try:
     kit = subprocess.run(["rt", "version"], capture_output=True, text=True).stdout.strip()
     if kit not in text("README.md"):
@@ -94,8 +95,13 @@ except FileNotFoundError:
 
 # ---- the must-fail edits
 edits = {"/".join((path.split("/")[1], path.split("/")[3][: -len(".edit")])) for path in glob.glob("crates/*/must-fail/*.edit")}
-named = {name for name in re.findall(r"`([a-z_]+/[a-z_0-9]+)`", text(CONTRACTS)) if name.split("/")[1] not in ("src", "specs", "proofs")}
-differ(CONTRACTS, "edit", named, edits)
+differ(EDITS, "edit", set(re.findall(r"^- `([a-z_]+/[a-z_0-9]+)`", text(EDITS), re.M)), edits)
+headed = re.findall(r"`([a-z_]+)(?:::|`)", " ".join(re.findall(r"^## .*", text(CONTRACTS), re.M)))
+for crate in set(re.findall(r"^## `([a-z_]+)`", text(EDITS), re.M)) - set(headed) - {"aoc", "lines"}:
+    tell(EDITS, f"{crate} has no section in CONTRACTS.md")
+for edit in set(re.findall(r"`([a-z_]+/[a-z_0-9]+)`", text(CONTRACTS))) - edits:
+    if edit.split("/")[1] not in ("src", "specs", "proofs"):
+        tell(CONTRACTS, f"no edit {edit}")
 
 # ---- each theorem that CONTRACTS names stands in the file that it names
 folder = file = None
@@ -112,7 +118,7 @@ for line in text(CONTRACTS).split("## Theorems", 1)[1].splitlines():
                 tell(CONTRACTS, f"no {name} in {path}")
 
 # ---- names in backticks
-code = {crate: "\n".join(text(path) for path in glob.glob(f"crates/{crate}/src/**/*.rt", recursive=True)) for crate in stands}
+code = {crate: "\n".join(text(path) for path in glob.glob(f"crates/{crate}/src/**/*.rt", recursive=True)) for crate in crates}
 words = set()
 for pattern in ("crates/**/*.rt", "crates/**/*.antt", "include/*", "tests/*", "second/*.py", "examples/*", "bench/*", "tools/*", "docs/*.sh"):
     for path in glob.glob(pattern, recursive=True):
@@ -180,6 +186,9 @@ for row in text(ARCHITECTURE).split("## What is public")[1].split("\n## ")[0].sp
         crate = name.split("::")[0] if "::" in name else crate
         public.setdefault(crate, set()).add(name.split("::")[-1])
 for crate, functions in public.items():
+    if crate not in code:
+        tell(ARCHITECTURE, f"no crate {crate}")
+        continue
     cited = re.findall(r"ghost use Rattle·([a-z_]+)(?:·specs)?\.specs\.([A-Za-z]+)(?:\.[A-Za-z]+)?\.\{([^}]*)\}", code[crate])
     stand = {name.strip(): f"{of}/specs/{file}.antt" for of, file, names in cited for name in names.split(",")}
     for head in re.finditer(r"pub (?:extern \"C\" )?fn (\w+)\((?:.|\n)*?\n\s*\{\n", code[crate]):
@@ -212,6 +221,6 @@ for page in pages:
             tell(page, f"no file {path}")
 
 print("\n".join(wrong), end="\n" if wrong else "")
-print(f"pages: {len(pages)}, {len(stands)} crates, {len(files)} files of definitions, {len(edits)} edits, {len(exports)} exports; {len(wrong)} wrong")
+print(f"pages: {len(pages)}, {len(crates)} crates, {len(files)} files of definitions, {len(edits)} edits, {len(exports)} exports; {len(wrong)} wrong")
 sys.exit(1 if wrong or len(believed) < 20 or len(edits) < 100 else 0)
 PYTHON

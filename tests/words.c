@@ -87,6 +87,21 @@ static void test_charges(void)
     }
 }
 
+/* What only a trunk's charge has. */
+static void test_trunks(void)
+{
+    aoc_charge money = charge_of("D amount, subtotal"), rate = charge_of("result, rates");
+    memset(&money.money.currency, 0, sizeof money.money.currency);
+    money.association.kind = AOC_ASSOCIATION_PRIVATE_NUMBER;
+    money.association.count = 2;
+    memcpy(money.association.digits, "67", 2);
+    check_printed(&money, "0.500, of private number 67", "the private network's currency, a private number");
+    rate.rates[0].kind = AOC_RATE_FREE_FROM_BEGINNING;
+    check_printed(&rate, "communication free from the beginning", "free from the beginning");
+    CHECK(!strcmp(aoc_family_text(AOC_FAMILY_TRUNK), "a trunk between private exchanges (ECMA-212)"), "families");
+    CHECK(strcmp(aoc_family_text(AOC_FAMILY_LINE), aoc_family_text(3)) && strcmp(aoc_family_text(0), aoc_family_text(3)), "families");
+}
+
 /* The longest texts that there are fit in the room that the header names: lists at their limits, numbers of ten digits. */
 static void test_longest(void)
 {
@@ -201,6 +216,7 @@ int main(void)
 {
     make_edges();
     test_charges();
+    test_trunks();
     test_longest();
     test_nonsense();
     test_words();

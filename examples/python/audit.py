@@ -7,7 +7,7 @@ import sys
 import aoc
 
 KINDS = {"connect": 2, "clear": 3, "released": 4, "suspend": 6, "resume": 7}
-SETUP, COMPONENT, FIRST_PLACE, ROW_NUMBERS = 1, 5, 3, 6
+SETUP, COMPONENT, FIRST_PLACE, ROW_NUMBERS, OTHER_PROFILE = 1, 5, 3, 6, 17
 
 
 class Call:
@@ -27,7 +27,8 @@ class Call:
         place, answer = aoc.SIZE(FIRST_PLACE), aoc.Answer()
         start = place.value
         while self.lib.aoc_next(element, len(element), place, answer):
-            self.take(self.lib.aoc_event_of(COMPONENT), element[start:place.value])
+            if answer.refusal != OTHER_PROFILE:
+                self.take(self.lib.aoc_event_of(COMPONENT), element[start:place.value])
             start = place.value
         if answer.refusal:
             print(self.lib.aoc_refusal_text(answer.refusal).decode(), file=sys.stderr)

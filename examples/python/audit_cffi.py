@@ -5,7 +5,7 @@ the archive, so the inline functions need no linker's name, and a struct's field
 import importlib
 import sys
 
-from audit import COMPONENT, FIRST_PLACE, ROW_NUMBERS, audit
+from audit import COMPONENT, FIRST_PLACE, OTHER_PROFILE, ROW_NUMBERS, audit
 from cffi import FFI
 
 DECLARATIONS = """
@@ -59,7 +59,8 @@ class Call:
         place, answer = ffi.new("size_t *", FIRST_PLACE), ffi.new("aoc_answer *")
         start = place[0]
         while lib.aoc_next(element, len(element), place, answer):
-            self.take(lib.aoc_event_of(COMPONENT), element[start:place[0]])
+            if answer.refusal != OTHER_PROFILE:
+                self.take(lib.aoc_event_of(COMPONENT), element[start:place[0]])
             start = place[0]
         if answer.refusal:
             print(ffi.string(lib.aoc_refusal_text(answer.refusal)).decode(), file=sys.stderr)

@@ -83,6 +83,7 @@ extern "C" {
 
 const COMPONENT: u8 = 5;
 const FIRST_PLACE: usize = 3;
+const OTHER_PROFILE: u32 = 17; // of a trunk, which no account takes
 
 /// Words of the library, which are never null and live as long as the program.
 fn words(text: *const c_char) -> &'static str {
@@ -117,7 +118,9 @@ impl Call {
         let mut place = FIRST_PLACE;
         let mut start = place;
         while unsafe { aoc_next(element.as_ptr(), element.len(), &mut place, &mut answer) } {
-            self.take(unsafe { aoc_event_of(COMPONENT) }, &element[start..place]);
+            if answer.refusal != OTHER_PROFILE {
+                self.take(unsafe { aoc_event_of(COMPONENT) }, &element[start..place]);
+            }
             start = place;
         }
         if answer.refusal != 0 {

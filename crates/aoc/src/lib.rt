@@ -14,7 +14,14 @@ ghost use Rattle.read.specs.Whole.{wholeAnswer};
 ghost use Rattle.write.specs.Handed.{handed};
 ghost use Rattle.write.specs.Outcome.{writeOf, leftOf};
 ghost use Rattle.reply.specs.Reply.{replyOf, replyLeft};
-ghost use Rattle.pass.specs.Pass.{passOf, wholeNext};
+ghost use Rattle.pass.specs.Pass.{passWith, passOf, wholeNext};
+ghost use Rattle.trunk_bodies.specs.Parts.{Spare};
+ghost use Rattle.profile.specs.Profile.{readBy, families, eitherIn, nextIn};
+ghost use Rattle.profile.specs.Replies.{replyProfile, leftProfile};
+ghost use Rattle.types.specs.Stored.{recordIn, storedCharge};
+ghost use Rattle.trunks.specs.Stored.{trunkIn};
+ghost use Rattle.trunk_write.specs.Outcome.{spareZero};
+ghost use Rattle.profile_writer.specs.Writes.{writeProfile, writeProfileLeft};
 ghost use Rattle.values.specs.Amounts.{powers};
 ghost use Rattle.values.specs.Identifiers.{nextOf, oneUp};
 ghost use Rattle.values.specs.Sets.{emptySet, isService, has, with};
@@ -38,9 +45,9 @@ ghost use Rattle.element_writer.specs.Round.{elementInto};
 // What the header says as AOC_VERSION, of the archive that a host is linked with.
 #[no_mangle]
 pub extern "C" fn aoc_version() -> u32
-    ensures { λ r. ⌜ r ≡ 20500 ⌝ }
+    ensures { λ r. ⌜ r ≡ 30000 ⌝ }
 {
-    20500
+    30000
 }
 
 // The number in its name is the layout's. The header's inline functions mention it, so that an archive with another layout is not linked.
@@ -107,6 +114,112 @@ pub extern "C" fn aoc_next_into(
     ensures { λ r. ⌜ wholeNext r (now (front .exit)) (now (figure .exit)) (now (numbers .exit)) (now (rows .exit)) ≡ passOf (now (octets .entry)) place ⌝ }
 {
     pass::next_into(octets, place, front, figure, numbers, rows)
+}
+
+// ---- components with their profile octet: public lines and trunks
+
+#[no_mangle]
+pub extern "C" fn aoc_read_by_into(
+    profile: u8,
+    octets: &[u8],
+    front: &mut [u8; 8],
+    figure: &mut [u8; 48],
+    numbers: &mut [u32; 32],
+    rows: &mut [u8; 192],
+    lead: &mut [u8; 48],
+    lent: &mut [u8; 244],
+    trunk_figure: &mut [u8; 48],
+    trunk_numbers: &mut [u32; 32],
+    trunk_rows: &mut [u8; 192],
+) -> profile::Judged
+    ensures { λ r. ⌜ eitherIn r (now (front .exit)) (now (figure .exit)) (now (numbers .exit)) (now (rows .exit)) (now (lead .exit)) (now (lent .exit)) (now («trunk_figure» .exit)) (now («trunk_numbers» .exit)) (now («trunk_rows» .exit)) ≡ readBy profile (now (octets .entry)) ⌝ }
+    ensures spare { λ _. ⌜ Spare (now (lead .exit)) ⌝ }
+{
+    profile::read_by(
+        profile,
+        octets,
+        front,
+        figure,
+        numbers,
+        rows,
+        lead,
+        lent,
+        trunk_figure,
+        trunk_numbers,
+        trunk_rows,
+    )
+}
+
+#[no_mangle]
+pub extern "C" fn aoc_next_by_into(
+    octets: &[u8],
+    place: usize,
+    front: &mut [u8; 8],
+    figure: &mut [u8; 48],
+    numbers: &mut [u32; 32],
+    rows: &mut [u8; 192],
+    lead: &mut [u8; 48],
+    lent: &mut [u8; 244],
+    trunk_figure: &mut [u8; 48],
+    trunk_numbers: &mut [u32; 32],
+    trunk_rows: &mut [u8; 192],
+) -> profile::NextBy
+    ensures { λ r. ⌜ nextIn r (now (front .exit)) (now (figure .exit)) (now (numbers .exit)) (now (rows .exit)) (now (lead .exit)) (now (lent .exit)) (now («trunk_figure» .exit)) (now («trunk_numbers» .exit)) (now («trunk_rows» .exit)) ≡ passWith families (now (octets .entry)) place ⌝ }
+    ensures spare { λ _. ⌜ Spare (now (lead .exit)) ⌝ }
+{
+    profile::next_by(
+        octets,
+        place,
+        front,
+        figure,
+        numbers,
+        rows,
+        lead,
+        lent,
+        trunk_figure,
+        trunk_numbers,
+        trunk_rows,
+    )
+}
+
+#[no_mangle]
+pub extern "C" fn aoc_write_by_from(
+    profile: u8,
+    front: &[u8; 8],
+    figure: &[u8; 48],
+    numbers: &[u32; 32],
+    rows: &[u8; 192],
+    lead: &[u8; 48],
+    lent: &[u8; 244],
+    trunk_figure: &[u8; 48],
+    trunk_numbers: &[u32; 32],
+    trunk_rows: &[u8; 192],
+    buf: &mut [u8],
+) -> write::Written
+    ensures { λ w. ⌜ w ≡ writeProfile profile (recordIn (now (front .entry)) (now (figure .entry)) (now (numbers .entry)) (now (rows .entry))) (spareZero (now (lead .entry))) (trunkIn (now (lead .entry)) (now (lent .entry)) (storedCharge (now («trunk_figure» .entry)) (now («trunk_numbers» .entry)) (now («trunk_rows» .entry)))) (length (now (buf .entry))) ⌝ }
+    ensures left { λ w. ⌜ now (buf .exit) ≡ writeProfileLeft profile (recordIn (now (front .entry)) (now (figure .entry)) (now (numbers .entry)) (now (rows .entry))) (spareZero (now (lead .entry))) (trunkIn (now (lead .entry)) (now (lent .entry)) (storedCharge (now («trunk_figure» .entry)) (now («trunk_numbers» .entry)) (now («trunk_rows» .entry)))) (now (buf .entry)) ⌝ }
+{
+    profile_writer::write_by(
+        profile,
+        front,
+        figure,
+        numbers,
+        rows,
+        lead,
+        lent,
+        trunk_figure,
+        trunk_numbers,
+        trunk_rows,
+        buf,
+    )
+}
+
+#[no_mangle]
+pub extern "C" fn aoc_reply_by(profile: u8, octets: &[u8], buf: &mut [u8]) -> write::Written
+    ensures { λ r. ⌜ r ≡ replyProfile profile (now (octets .entry)) (length (now (buf .entry))) ⌝ }
+    ensures left { λ r. ⌜ now (buf .exit) ≡ leftProfile profile (now (octets .entry)) (now (buf .entry)) ⌝ }
+{
+    profile::reply_by(profile, octets, buf)
 }
 
 // ---- values

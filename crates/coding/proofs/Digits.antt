@@ -1,12 +1,17 @@
 -- Numbers and their octets, over any number of octets.
 use Rattle.prelude.proofs.Prelude.{ℕ, zero, suc, _+_, _*_, _/_, _%_, _^_, _≤_, _<_, _≡_, refl, sym, ap, ap₂, _∙_, List, [], _∷_, Bool, true, false, cond, arith, pow-suc, mod-eq-of-lt}
-use Rattle.prelude.proofs.Prelude.{mul-le-mul-right, mul-add-div-right, digits-div, digits-lt, mod-mul, length, eqb, leb-true, eqb-false}
+use Rattle.prelude.proofs.Prelude.{mul-suc, mul-le-mul-right, pow-add, mul-add-div-right, digits-div, digits-lt, mod-mul, length, eqb, leb-true, eqb-false}
 use Rattle.coding.specs.{Reader.Fault, Reader.Ruling, Contents.numberFrom, Contents.shortest, Leaves.digits, Codec.Leaf}
 use Rattle.coding.proofs.{Basic.cond-case, Laws.Octets, Laws.LeafLaws}
 
 pub power-some : (k : ℕ) → 0 < 256 ^ k
 power-some zero = omega arith
 power-some (suc k) = omega (arith, pow-suc 256 k, power-some k)
+
+-- k octets have 8 k bits
+pub power-bits : (k : ℕ) → 256 ^ k ≡ 2 ^ (8 * k)
+power-bits zero = refl
+power-bits (suc k) = omega (arith, pow-suc 256 k, power-bits k, ap (λ (i : ℕ). 2 ^ i) (mul-suc 8 k), pow-add 2 (8 * k) 8)
 
 -- ---- the number of a list
 

@@ -2,7 +2,7 @@
 use Rattle.prelude.proofs.Prelude.{ℕ, arith, _≡_, refl, ap, sym, _∙_, Bool, true, false, cond, List, _<_, _≤_, le-ltb, lt-ltb, eq-eqb, ne-eqb}
 use Rattle.coding.specs.{Reader.Ans, Reader.Reader, Reader.Fault, Reader.code, Reader.after, Reader.ruled, Reader.Ruling, Reader.closed, Reader.choice, Reader.neither, Reader.tagged}
 use Rattle.coding.specs.{Reader.Ans.got, Reader.Ans.halt, Reader.Fault.missing, Reader.Fault.unexpected, Reader.Fault.cut, Reader.Fault.form, Reader.Fault.shortest}
-use Rattle.coding.specs.{Reader.Fault.contents, Reader.Fault.limit, Reader.Fault.named, Reader.Ruling.good, Reader.Ruling.bad, Shown.shown, Shown.verdict}
+use Rattle.coding.specs.{Reader.Fault.contents, Reader.Fault.limit, Reader.Fault.named, Reader.Ruling.good, Reader.Ruling.bad, Shown.shown, Shown.verdict, Codec.Run, Codec.pickRun}
 use Rattle.coding.proofs.Basic.{by-cases}
 
 -- no fault has the number 0
@@ -125,6 +125,14 @@ pub skips-in : {A B : Type 0} (z : B) (tag : ℕ) (this that : Reader A) (s : Li
     b ≡ tagged s at end tag → b ≡ false → t ≡ shown z (after (that s at end) f) → t ≡ shown z (after (choice tag this that s at end) f)
 unfolding choice
 skips-in z tag this that s at end f e h r = rw (← e, h) r
+
+-- one type or another, by a test that has been made
+module _ {A : Type 0} (y : A) (f g : Run A) (s : List ℕ) (at end : ℕ) {b : Bool} {t : ℕ × ℕ × A × ℕ} where
+  pub picks-run : b ≡ true → t ≡ shown y (f .read s at end) → t ≡ shown y ((pickRun b f g) .read s at end)
+  picks-run h r = rw h r
+
+  pub skips-run : b ≡ false → t ≡ shown y (g .read s at end) → t ≡ shown y ((pickRun b f g) .read s at end)
+  skips-run h r = rw h r
 
 -- nothing that may stand here
 pub lacks : {A : Type 0} (z : A) (s : List ℕ) (at end : ℕ) → end ≤ at → (40, end, z, 0) ≡ shown z (neither s at end)

@@ -17,7 +17,7 @@ pub by-sign : (P : ℤ → Type 0) (xs : List ℕ) → Octets xs → (negative x
 unfolding valueOf
 by-sign P xs os low high = by-test P (negative xs) _ _ (λ q. rw (lt-ltb (numberFrom 0 xs) (256 ^ length xs) (number-lt xs os)) (high q)) low
 
-half : (k : ℕ) → 256 ^ suc k / 2 ≡ 128 * 256 ^ k
+pub half : (k : ℕ) → 256 ^ suc k / 2 ≡ 128 * 256 ^ k
 half k = omega (arith, pow-suc 256 k)
 
 -- it is one of as many octets, and its pattern is the octets' own

@@ -1,9 +1,9 @@
 -- Elements of few octets as they are written, and the sizes that a writer adds up.
 use Rattle.prelude.proofs.Prelude.{ℕ, _+_, _/_, _%_, _≤_, _<_, _≡_, refl, ap, ap₂, _∙_, List, [], _∷_, _++_, Bool, true, arith, length, take, length-append, length-take-le, eqb, eqb-true}
 use Rattle.prelude.proofs.Prelude.{lt-ltb, le-ltb, le-leb, lt-leb}
-use Rattle.coding.specs.{Contents.shortest, Codec.lengthOctets, Codec.prim, Leaves.width, Leaves.digits, Leaves.nullLeaf, Leaves.shorten, Leaves.identifier, Leaves.string}
+use Rattle.coding.specs.{Contents.shortest, Codec.lengthOctets, Codec.prim, Leaves.digits, Leaves.nullLeaf, Leaves.shorten, Leaves.identifier, Leaves.string}
 use Rattle.coding.specs.{Written.Wrote, Written.lead, Written.fullNumber}
-use Rattle.coding.proofs.{Basic.by-test, Basic.both, Writing.lead-length-short, Writing.lead-length-long, Writing.prim-write, Writing.wrote-both}
+use Rattle.coding.proofs.{Basic.by-test, Basic.both, Number.width-1, Writing.lead-length-short, Writing.lead-length-long, Writing.prim-write, Writing.wrote-both}
 
 -- ---- tag and length octets
 
@@ -26,8 +26,8 @@ null-length tag = lead-length-short tag 0 (omega arith)
 -- ---- numbers of one octet
 
 pub small-number : (tag x : ℕ) → x < 128 → fullNumber tag x ≡ tag ∷ 1 ∷ x ∷ []
-unfolding fullNumber width lead lengthOctets digits
-small-number tag x h = let m : x / 1 % 256 ≡ x = omega arith in rw (lt-ltb x 0x80 h, m)
+unfolding fullNumber lead lengthOctets digits
+small-number tag x h = let m : x / 1 % 256 ≡ x = omega arith in rw (width-1 x h, m)
 
 pub small-length : (tag x : ℕ) → x < 128 → length (fullNumber tag x) ≡ 3
 small-length tag x h = ap length (small-number tag x h)

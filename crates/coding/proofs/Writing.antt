@@ -1,9 +1,10 @@
 -- Runs of stores: what several writes one after the other leave is one write of all their octets.
-use Rattle.prelude.proofs.Prelude.{ℕ, suc, _+_, _-_, _/_, _%_, _^_, _≤_, _<_, _≡_, refl, sym, ap, ap₂, _∙_, subst, List, [], _∷_, _++_, Bool, true, false, cond, arith, add-zero, add-suc}
+use Rattle.prelude.proofs.Prelude.{ℕ, suc, _+_, _-_, _*_, _/_, _%_, _^_, _≤_, _<_, _≡_, refl, sym, ap, ap₂, _∙_, subst, List, [], _∷_, _++_, Bool, true, false, cond, arith, add-zero, add-suc}
 use Rattle.prelude.proofs.Prelude.{suc-add, add-one, towards-suc, length, getD, set, drop, take, length-append, length-set, sets, take-suc, drop-cons, ltb, lt-ltb, le-ltb}
 use Rattle.coding.specs.{Reader.part, Contents.every, Codec.lengthOctets, Codec.Leaf, Codec.Run, Codec.prim, Codec.cons, Leaves.width, Leaves.digits, Leaves.number, Written.Wrote}
 use Rattle.coding.specs.{Written.Room, Written.lead, Written.fullNumber}
-use Rattle.coding.proofs.{Basic.picked, Basic.unpicked, Holds.tested, Number.length-digits}
+use Rattle.coding.proofs.{Basic.picked, Basic.unpicked, Holds.tested, Digits.power-bits, Number.length-digits}
+pub use Rattle.coding.proofs.Number.{width-range}
 
 pub sets-append : (xs ys l : List ℕ) (i : ℕ) → sets l i (xs ++ ys) ≡ sets (sets l i xs) (i + length xs) ys
 sets-append [] ys l i = ap (λ (j : ℕ). sets l j ys) (sym (add-zero i))
@@ -128,28 +129,19 @@ lead-length tag n = tested (ltb n 128) (λ q. rw q (omega arith)) (λ q. tested 
 
 -- ---- a number's octets
 
-pub digits-one : (n : ℕ) → n % 256 ∷ [] ≡ digits 1 n
+-- no octets of a number, and one more
+pub wrote-no-digit : (l : List ℕ) (a w n : ℕ) → w ≡ 0 → Wrote l l a (digits w n) a
 unfolding digits
-digits-one n = ap (λ (d : ℕ). d ∷ []) (omega arith)
+wrote-no-digit l a w n e = rw e (wrote-next (omega arith) (wrote-none l a))
 
--- one octet more of a number
-pub wrote-digit : {l m : List ℕ} {a r : ℕ} (k n : ℕ) → Wrote (set l a (n / 256 ^ k % 256)) m (a + 1) (digits k n) r → Wrote l m a (digits (suc k) n) r
+pub wrote-digit : {l m : List ℕ} {a r : ℕ} (k w n : ℕ) → w ≡ suc k → Wrote (set l a (n / 2 ^ (8 * k) % 256)) m (a + 1) (digits k n) r → Wrote l m a (digits w n) r
 unfolding digits
-wrote-digit k n p = wrote-cons p
-
-pub wrote-width : {l m : List ℕ} {a r : ℕ} (k w n : ℕ) → k ≡ w → Wrote l m a (digits k n) r → Wrote l m a (digits w n) r
-wrote-width {l} {m} {a} {r} k w n e p = subst (λ (j : ℕ). Wrote l m a (digits j n) r) e p
+wrote-digit k w n e p = rw (e, power-bits k) (wrote-cons p)
 
 -- lead and octets of a number whose width is w
 pub number-split : (tag n : ℕ) {w : ℕ} → w ≡ width n → Split (fullNumber tag n) (lead tag w) (digits w n)
 unfolding fullNumber
 number-split tag n e = record { parts = ap (λ (j : ℕ). lead tag j ++ digits j n) (sym e) }
-
-pub width-range : (n : ℕ) → (1 ≤ width n) × (width n ≤ 4)
-unfolding width
-width-range n =
-    tested (ltb n 0x80) (λ q. rw q (omega arith)) (λ q. tested (ltb n 0x8000) (λ r. rw (q, r) (omega arith)) (λ r.
-    tested (ltb n 0x800000) (λ t. rw (q, r, t) (omega arith)) (λ t. rw (q, r, t) (omega arith))))
 
 pub number-length : (tag n : ℕ) → length (fullNumber tag n) ≡ 2 + width n
 unfolding fullNumber

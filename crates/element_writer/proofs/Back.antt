@@ -3,9 +3,10 @@ use Rattle.prelude.proofs.Prelude.{ℕ, suc, _+_, _-_, _≤_, _<_, arith, _≡_
 use Rattle.prelude.proofs.Prelude.{length-append, take-append-seam, drop-append-seam, ltb, leb, eqb, ltb-true, eqb-true, lt-ltb, le-leb}
 use Rattle.coding.{specs.Reader.Ans, specs.Reader.part, specs.Reader.Ans.got, specs.Reader.Ans.halt, specs.Codec.pad, proofs.Basic.and-left, proofs.Basic.and-right}
 use Rattle.types.specs.Frames.{readOf}
-use Rattle.facility.{specs.Element.tiled, specs.Element.led, specs.Element.elementOf, specs.Parts.startsOf, specs.Parts.firstOr, specs.Parts.partsOf, specs.Parts.joined, specs.Parts.Tiles}
+use Rattle.facility.specs.Element.{tiled, isProfile, led, elementOf}
+use Rattle.facility.specs.Parts.{startsOf, firstOr, partsOf, joined, Tiles}
 use Rattle.facility.{specs.Parts.placesOf, proofs.Tiles.cut-all, proofs.Tiles.laid-all, proofs.Tiles.found, proofs.Tiles.places-count, proofs.Tiles.tiles, proofs.Tiles.answer-found}
-use Rattle.pass.{specs.Pass.Through, proofs.Through.through}
+use Rattle.pass.{specs.Pass.Through, specs.Pass.lines, proofs.Through.line-through}
 use Rattle.element_writer.specs.Round.{round, isFound, isTiled, elementHolds}
 
 -- ---- octets that an element can hold are components laid end to end, and the other way round
@@ -50,14 +51,14 @@ parts-laid pre (p ∷ ps) =
     rw (first-place pre p ps, this-part pre p (joined ps), rest)
 
 -- Going through the element that is written gives what each of the components gives by itself, in their order, and then the end.
-pub read-back : (ps : List (List ℕ)) → 0 < length ps → Tiles ps → Through (round (joined ps)) 3 (map readOf ps)
-unfolding round pad
+pub read-back : (ps : List (List ℕ)) → 0 < length ps → Tiles ps → Through lines (round (joined ps)) 3 (map readOf ps)
+unfolding round pad isProfile
 read-back ps h t =
     let s : List ℕ = 0x1c ∷ (1 + length (joined ps)) ∷ 0x91 ∷ joined ps in
-    let f = found ps h t in
+    let f = found 0x91 refl ps h t in
     let starts : startsOf (elementOf s) ≡ placesOf 3 ps = rw (f, ← places-count 3 ps) (take-append-seam (placesOf 3 ps) _) in
     let parts : partsOf s (startsOf (elementOf s)) ≡ ps = rw starts (parts-laid (0x1c ∷ (1 + length (joined ps)) ∷ 0x91 ∷ []) ps) in
-    subst (λ (qs : List (List ℕ)). Through s 3 (map readOf qs)) parts (through s (rw f refl))
+    subst (λ (qs : List (List ℕ)). Through lines s 3 (map readOf qs)) parts (line-through s (rw f refl) refl)
 
 -- ---- one form only
 
@@ -67,15 +68,14 @@ three (a ∷ []) h = absurd (omega arith)
 three (a ∷ b ∷ []) h = absurd (omega arith)
 three (a ∷ b ∷ c ∷ t) h = refl
 
-led-as : (t : List ℕ) → led t ≡ true → t ≡ round (drop 3 t)
+led-as : (t : List ℕ) → led t ≡ true → getD t 2 0 ≡ 0x91 → t ≡ round (drop 3 t)
 unfolding led round
-led-as t e =
+led-as t e last =
     let a = and-right (ltb 3 (length t)) _ e in
     let b = and-right (eqb (getD t 0 0) 0x1c) _ a in
     let long : 3 < length t = ltb-true 3 (length t) (and-left (ltb 3 (length t)) _ e) in
     let one : getD t 0 0 ≡ 0x1c = eqb-true (getD t 0 0) 0x1c (and-left (eqb (getD t 0 0) 0x1c) _ a) in
     let two : getD t 1 0 ≡ length t - 2 = eqb-true (getD t 1 0) (length t - 2) (and-left (eqb (getD t 1 0) (length t - 2)) _ b) in
-    let last : getD t 2 0 ≡ 0x91 = eqb-true (getD t 2 0) 0x91 (and-right (eqb (getD t 1 0) (length t - 2)) _ b) in
     let size : length t - 2 ≡ 1 + length (drop 3 t) = omega (arith, ap length (three t long)) in
     three t long ∙ rw (one, two, last, size)
 
@@ -83,6 +83,6 @@ was-led : (t : List ℕ) → elementOf t .number ≡ 0 → led t ≡ true
 unfolding elementOf
 was-led t e = answer-found (led t) (tiled (length t) t 3 (length t)) e .0
 
--- An accepted element that is cut into components is the one that is written round them: no other octets hold them, so none are fewer.
-pub only-form : (t : List ℕ) → elementOf t .number ≡ 0 → t ≡ round (joined (partsOf t (startsOf (elementOf t))))
-only-form t e = led-as t (was-led t e) ∙ ap round (sym (tiles t e .0))
+-- An accepted element of a public line that is cut into components is the one that is written round them: no other octets hold them there, so none are fewer.
+pub only-form : (t : List ℕ) → elementOf t .number ≡ 0 → getD t 2 0 ≡ 0x91 → t ≡ round (joined (partsOf t (startsOf (elementOf t))))
+only-form t e line = led-as t (was-led t e) line ∙ ap round (sym (tiles t e .0))

@@ -1,5 +1,6 @@
 -- The first events of a list in slices: one more, all of them, and where their octets lie.
-use Rattle.prelude.proofs.Prelude.{ℕ, zero, suc, _+_, _-_, _/_, _≤_, _<_, _≡_, refl, sym, _∙_, ap, List, [], _∷_, reverse, reverseAux, true, arith, length, take, drop, add-one, add-zero, zero-add, replicate, length-replicate}
+use Rattle.prelude.proofs.Prelude.{ℕ, zero, suc, _+_, _-_, _/_, _≤_, _<_, _≡_, refl, sym, _∙_, ap, List, [], _∷_, reverse, reverseAux, true, arith, length, take, drop, add-one, add-zero, zero-add}
+use Rattle.prelude.proofs.Prelude.{replicate, length-replicate}
 use Rattle.phases.specs.Phases.{Given}
 use Rattle.events.specs.Events.{countAt, addsUp, eventsFrom, eventsOf, Going}
 use Rattle.events.specs.Prefix.{placeAt, octetsAt, givenAt, before}

@@ -6,7 +6,7 @@ use Rattle.coding.{specs.declared.Extent.Extent, specs.Reader.Ans, specs.Reader
 use Rattle.coding.{specs.Codec.pad, proofs.Basic.Given, proofs.Basic.it, proofs.Basic.void, proofs.Basic.granted, proofs.Basic.known, proofs.Basic.choose, proofs.Basic.bind}
 use Rattle.coding.{proofs.Basic.picked, proofs.Basic.unpicked, proofs.Basic.followed, proofs.Basic.and-left, proofs.Header.read-element, proofs.Header.element-read}
 use Rattle.coding.{proofs.Header.element-range, proofs.Moved.Same, proofs.Moved.element-moved, proofs.Parts.part-length}
-use Rattle.facility.specs.Element.{tiled, led, startsFound, malformed, elementOf}
+use Rattle.facility.specs.Element.{tiled, isProfile, led, startsFound, malformed, elementOf}
 use Rattle.facility.specs.Parts.{startsOf, firstOr, partsOf, joined, Tile, Tiles, placesOf}
 
 -- ---- an accepted element is cut into components
@@ -127,19 +127,19 @@ pub places-count : (a : ℕ) (ps : List (List ℕ)) → length (placesOf a ps) �
 places-count a [] = refl
 places-count a (p ∷ ps) = ap suc (places-count (a + length p) ps)
 
-led-so : (xs : List ℕ) → 0 < length xs → led (0x1c ∷ (1 + length xs) ∷ 0x91 ∷ xs) ≡ true
+led-so : (profile : ℕ) → isProfile profile ≡ true → (xs : List ℕ) → 0 < length xs → led (0x1c ∷ (1 + length xs) ∷ profile ∷ xs) ≡ true
 unfolding led
-led-so xs h =
-    let long : 3 < length (0x1c ∷ (1 + length xs) ∷ 0x91 ∷ xs) = omega arith in
-    let same : 1 + length xs ≡ length (0x1c ∷ (1 + length xs) ∷ 0x91 ∷ xs) - 2 = omega arith in
-    simp (lt-ltb _ _ long, eq-eqb _ _ same)
+led-so profile ok xs h =
+    let long : 3 < length (0x1c ∷ (1 + length xs) ∷ profile ∷ xs) = omega arith in
+    let same : 1 + length xs ≡ length (0x1c ∷ (1 + length xs) ∷ profile ∷ xs) - 2 = omega arith in
+    simp (lt-ltb _ _ long, eq-eqb _ _ same, ok)
 
--- An element whose third octet is followed by components, one at least, is accepted, and its starts are where they begin.
-pub found : (ps : List (List ℕ)) → 0 < length ps → Tiles ps
-    → elementOf (0x1c ∷ (1 + length (joined ps)) ∷ 0x91 ∷ joined ps) ≡ record { number = 0; count = length ps; starts = pad 127 0 (placesOf 3 ps) }
+-- An element whose third octet, 91 or 9F, is followed by components, one at least, is accepted, and its starts are where they begin.
+pub found : (profile : ℕ) → isProfile profile ≡ true → (ps : List (List ℕ)) → 0 < length ps → Tiles ps
+    → elementOf (0x1c ∷ (1 + length (joined ps)) ∷ profile ∷ joined ps) ≡ record { number = 0; count = length ps; starts = pad 127 0 (placesOf 3 ps) }
 unfolding elementOf startsFound
-found ps h t =
+found profile ok ps h t =
     let n : ℕ = length (joined ps) in
-    let head : List ℕ = 0x1c ∷ (1 + n) ∷ 0x91 ∷ [] in
+    let head : List ℕ = 0x1c ∷ (1 + n) ∷ profile ∷ [] in
     let m = tiles-long ps t in
-    rw (led-so (joined ps) (omega arith), laid (length (head ++ joined ps)) head ps (omega arith) t, places-count 3 ps)
+    rw (led-so profile ok (joined ps) (omega arith), laid (length (head ++ joined ps)) head ps (omega arith) t, places-count 3 ps)

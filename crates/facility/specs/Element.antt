@@ -1,7 +1,7 @@
--- The Facility element: 1C, a one-octet length equal to the octets that follow it, 91, then components laid end to end.
+-- The Facility element: 1C, a one-octet length equal to the octets that follow it, 91 or 9F, then components laid end to end.
 use Prim.Native.Nat.{ℕ, zero, suc, _+_, _-_}
 use mathlib.Core.List.{List, [], _∷_}
-use mathlib.Core.Bool.{Bool, _&&_, cond}
+use mathlib.Core.Bool.{Bool, _&&_, _||_, cond}
 use lib.ListN.{length, getD}
 use lib.Dec.{ltb, eqb}
 use Rattle.coding.specs.Reader.{Reader, Ans, after, lengthAt}
@@ -20,9 +20,13 @@ tiled (suc turns) s at end =
     (after (lengthAt at s (at + 1) end) (λ contents next.
     after (tiled turns s next end) (λ starts last. got (at ∷ starts) last)))
 
+-- the profile octets: 91 of a public line, 9F of a trunk between private exchanges
+unfoldable pub isProfile : ℕ → Bool
+isProfile p = eqb p 0x91 || eqb p 0x9f
+
 -- the first three octets are right, and something comes after them
 unfoldable pub led : List ℕ → Bool
-led s = ltb 3 (length s) && (eqb (getD s 0 0) 0x1c && (eqb (getD s 1 0) (length s - 2) && eqb (getD s 2 0) 0x91))
+led s = ltb 3 (length s) && (eqb (getD s 0 0) 0x1c && (eqb (getD s 1 0) (length s - 2) && isProfile (getD s 2 0)))
 
 -- 15 and no starts
 abbrev pub malformed : Starts

@@ -3,7 +3,7 @@ ghost use mathlib.Core.Path.{_≡_};
 ghost use mathlib.Core.Bool.{true, false};
 ghost use Prim.Native.Nat.{_≤_, _<_};
 ghost use lib.ListN.{length};
-ghost use Rattle.facility.specs.Element.{elementOf, malformed, startsFound, tiled, led};
+ghost use Rattle.facility.specs.Element.{elementOf, malformed, startsFound, tiled, isProfile, led};
 
 // What reading an element answers. number: 0, or 15 for a malformed one; then all else is zero.
 // The components begin at the first count of starts, counted with the lead octet 1C as 0; the places past them are zero.
@@ -25,6 +25,16 @@ fn refused() -> Starts
     }
 }
 
+// Whether an element with this third octet is read: 91 of a public line, or 9F of a trunk.
+fn is_profile(octet: u8) -> bool
+    ensures { λ r. ⌜ r ≡ isProfile octet ⌝ }
+{
+    if octet == 0x91 {
+        return true;
+    }
+    octet == 0x9f
+}
+
 // Whether the first three octets are right and something comes after them.
 fn is_led(octets: &[u8]) -> bool
     ensures { λ r. ⌜ r ≡ led (now (octets .entry)) ⌝ }
@@ -39,7 +49,7 @@ fn is_led(octets: &[u8]) -> bool
     if read_lengths::wide(octets[1]) != octets.len() - 2 {
         return false;
     }
-    octets[2] == 0x91
+    is_profile(octets[2])
 }
 
 // The starts of the components, which begin after the third octet.

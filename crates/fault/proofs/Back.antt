@@ -4,7 +4,8 @@ use Rattle.phases.{specs.declared.Event.Event, specs.declared.Outcome.Outcome, 
 use Rattle.types.specs.{declared.Currency.Currency, declared.Record.Record, Frames.readOf}
 use Rattle.same_final.specs.{Currency.equalCurrency, Same.thousandths}
 use Rattle.account.{specs.History.Judged, specs.History.any, specs.History.last, specs.History.judged, specs.declared.Stepped.Stepped, proofs.Demand.step-stands}
-use Rattle.events.{specs.Events.rowAt, specs.Events.countAt, specs.Prefix.placeAt, specs.Prefix.octetsAt, specs.Prefix.givenAt, specs.Prefix.before, proofs.Prefix.before-start, proofs.Prefix.before-next, proofs.Prefix.part-at}
+use Rattle.events.{specs.Events.rowAt, specs.Events.countAt, specs.Prefix.placeAt, specs.Prefix.octetsAt, specs.Prefix.givenAt, specs.Prefix.before, proofs.Prefix.before-start}
+use Rattle.events.{proofs.Prefix.before-next, proofs.Prefix.part-at}
 use Rattle.fault_rules.specs.{Figures.invokesD, Breaking.moneyBy}
 use Rattle.fault.specs.{declared.State.State, declared.Last.Last, Rules.chargeBy, Rules.isCountedMoney, Rules.belowLast}
 use Rattle.fault.specs.Going.{noLast, lastNext, lastBy, judging, turnOf, stateBy, latestNext, latestBy, shortBy}

@@ -2,7 +2,7 @@
 use Rattle.prelude.proofs.Prelude.{ℕ, _≡_, refl, List, [], _∷_, map, Bool, true, false}
 use Rattle.coding.specs.Reader.{after, numberedAt, endless, marker, turn, searched, findEnd, spanned, lengthAt, extent, part}
 use Rattle.coding.specs.Codec.{pad}
-use Rattle.facility.specs.Element.{tiled, led, startsFound, elementOf}
+use Rattle.facility.specs.Element.{tiled, isProfile, led, startsFound, elementOf}
 use Rattle.phases.specs.Phases.{Given, Connect, Clear, Released}
 use Rattle.framing.specs.Framing.{Message, message, elementsFit, framed}
 use Rattle.messages.specs.Trace.{tilesOf, componentsFrom, componentsOf, setupBy, phaseEvent, componentEvent, messageEvents, traceFrom, traceEvents}
@@ -27,7 +27,7 @@ fromNetwork s = message (0x08 ∷ 0x01 ∷ 0x85 ∷ s) true
 abbrev pub case : List Message → List Bool → List Given → Case
 case m f e = record { messages = m; framed-all = f; events = e }
 
--- a CONNECT's components before Connect; only the first of the clearing messages gives Clear, RELEASE COMPLETE Released; a non-locking and a locking shift; a malformed element; another
+-- a CONNECT's components before Connect; only the first of the clearing messages gives Clear, RELEASE COMPLETE Released; a non-locking and a locking shift; a malformed element; a trunk's; another
 -- reference; one octet and two octets, one number; a message that is not framed
 abbrev pub cases : List Case
 cases =
@@ -37,6 +37,7 @@ cases =
     ∷ case (fromNetwork (0x62 ∷ 0x9e ∷ facility (facility [])) ∷ []) (true ∷ []) (componentEvent free ∷ [])
     ∷ case (fromNetwork (0x62 ∷ 0x96 ∷ 0x28 ∷ 0x00 ∷ facility []) ∷ fromNetwork (0x62 ∷ facility []) ∷ []) (true ∷ true ∷ []) (componentEvent free ∷ [])
     ∷ case (fromNetwork (0x62 ∷ 0x1c ∷ 0x00 ∷ 0x1c ∷ 0x03 ∷ 0x91 ∷ 0xa1 ∷ 0x01 ∷ facility []) ∷ []) (true ∷ []) (componentEvent free ∷ [])
+    ∷ case (fromNetwork (0x62 ∷ 0x1c ∷ 0x03 ∷ 0x9f ∷ 0xa1 ∷ 0x00 ∷ facility []) ∷ []) (true ∷ []) (componentEvent free ∷ [])
     ∷ case (fromUser (0x05 ∷ []) ∷ message (0x08 ∷ 0x01 ∷ 0x86 ∷ 0x07 ∷ []) true ∷ message (0x08 ∷ 0x02 ∷ 0x80 ∷ 0x05 ∷ 0x07 ∷ []) true ∷ []) (true ∷ true ∷ true ∷ [])
     (setupBy [] ∷ phaseEvent Connect ∷ [])
     ∷ case (fromNetwork (0x62 ∷ 0x28 ∷ []) ∷ message (0x08 ∷ 0x03 ∷ 0x01 ∷ 0x02 ∷ 0x03 ∷ 0x62 ∷ []) true ∷ message (0x08 ∷ 0x00 ∷ []) true ∷ message (0x08 ∷ 0x00 ∷ 0x62 ∷ []) true ∷ [])
@@ -47,5 +48,5 @@ abbrev tried : Case → Case
 tried c = record { messages = c .messages; framed-all = map (λ (m : Message). framed (m .octets)) (c .messages); events = traceEvents (c .messages) }
 
 pub cases-right : map tried cases ≡ cases
-unfolding traceEvents traceFrom messageEvents componentsOf componentsFrom tilesOf framed elementsFit part elementOf led tiled startsFound numberedAt endless marker turn searched findEnd spanned lengthAt extent after pad
+unfolding traceEvents traceFrom messageEvents componentsOf componentsFrom tilesOf framed elementsFit part elementOf led isProfile tiled startsFound numberedAt endless marker turn searched findEnd spanned lengthAt extent after pad
 cases-right = refl

@@ -4,10 +4,10 @@ use Rattle.coding.specs.{Contents.every, Codec.prim, Codec.cons, Codec.nothing,
 use Rattle.coding.specs.{Codec.shape, Codec.canonical, Codec.pad, Codec.padded, Leaves.number, Leaves.string, Leaves.nullLeaf, Leaves.integer, Leaves.identifier, Leaves.listing}
 use Rattle.coding.specs.{Leaves.listed, Leaves.only, Leaves.given, Rows.rows, Rows.table}
 use Rattle.types.specs.{declared.Association.Association, declared.Charge.Charge, declared.Units.Units, Charges.kept, Charges.noAssociation, Charges.byIdentifier, Charges.scaled}
-use Rattle.types.specs.{Charges.currencyLeaf, Charges.currency, Charges.money, Charges.digitsLeaf, Charges.identified, Charges.publicParty, Charges.plainParty, Charges.party}
+use Rattle.types.specs.{Charges.currencyLeaf, Charges.currency, Charges.money, Charges.digitsLeaf, Charges.identified, Charges.planned, Charges.partyNumber, Charges.plainParty, Charges.party}
 use Rattle.types.specs.{Charges.unassociated, Charges.association, Entries.unit, Entries.unitRows, Arguments.bare, Arguments.plain, Arguments.listFigure, Arguments.totalled}
 use Rattle.types.specs.{Arguments.associated, Arguments.sign, Arguments.inMoney, Arguments.inUnits, Arguments.during, Arguments.subtotals, Arguments.ending, Arguments.settled}
-use Rattle.types.specs.{Arguments.finals, Arguments.rates, Arguments.arrangement, Arguments.available, Arguments.chargeOf}
+use Rattle.types.specs.{Arguments.withAssociation, Arguments.finals, Arguments.rates, Arguments.arrangement, Arguments.available, Arguments.chargeOf}
 use Rattle.same_final.specs.Currency.{trimmed, equalCurrency}
 use Rattle.closing.specs.Range.{inRange}
 use Rattle.month_rows.specs.{declared.Row.Row, Rows.zeroRow, Rows.rowOf, Rows.raise, Sums.sumUnits, Sums.countAbsent}
@@ -131,6 +131,6 @@ wanted =
 pub cases-right : map (λ (l : List Posted). (numbersOf emptyMonth l, addAll emptyMonth l)) tried ≡ wanted
 unfolding
     tried wanted addOf rowOf raise sumUnits countAbsent equalCurrency trimmed inRange every prim cons nothing pair alt over maybe some·more leafOver marked sort shape canonical pad padded
-    number string nullLeaf integer identifier listing listed only given rows table scaled currencyLeaf currency money digitsLeaf identified publicParty plainParty party
-    unassociated association unit sign inMoney inUnits during subtotals ending settled finals rates arrangement available chargeOf
+    number string nullLeaf integer identifier listing listed only given rows table scaled currencyLeaf currency money digitsLeaf identified planned partyNumber plainParty party
+    unassociated association unit sign inMoney inUnits during subtotals ending settled withAssociation finals rates arrangement available chargeOf
 cases-right = refl

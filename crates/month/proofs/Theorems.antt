@@ -8,7 +8,7 @@ use Rattle.month_rows.specs.declared.Row.{Row}
 use Rattle.month.specs.declared.Month.{Month}
 use Rattle.month.specs.Month.{emptyMonth, used, isNew, addOf}
 use Rattle.month.specs.Totals.{Posted, which, total, currencyOf, amountIn, isMoneyCall, isUnitCall, inCurrency, currencies, unitsIn, absentIn, monthBy, numberAfter, keptAfter}
-use Rattle.month.specs.Totals.{keeping, numbersAfter, addedTo, addAll, numbersOf, allDiffer, firsts, inOrder}
+use Rattle.month.specs.Totals.{keptThrough, numbersAfter, addedTo, addAll, numbersOf, allDiffer, firsts, inOrder}
 use Rattle.month.proofs.Rows.{differ}
 use Rattle.month.proofs.Ranges.{AllFine, none}
 use Rattle.month.proofs.Filled.{sum-small}
@@ -29,10 +29,10 @@ refused-stays m service c e =
 -- ---- over any list of figures, refused ones among them
 
 record Stand (m : Month) (h l : List Posted) : Type 0 where
-  month : Totals (addAll m l) (keeping h l)
+  month : Totals (addAll m l) (keptThrough h l)
   numbers : numbersOf m l ≡ numbersAfter h l
-  fine : AllFine (keeping h l)
-  few : length (keeping h l) ≤ 4096
+  fine : AllFine (keptThrough h l)
+  few : length (keptThrough h l) ≤ 4096
 
 kept-few : (h : List Posted) (p : Posted) → length h ≤ 4096 → length (keptAfter h p) ≤ 4096
 kept-few h p few =
@@ -55,7 +55,7 @@ all-stand (p ∷ l) m h t fine few =
 
 module _ (l : List Posted) where
   abbrev kept : List Posted
-  kept = keeping [] l
+  kept = keptThrough [] l
 
   abbrev month : Month
   month = addAll emptyMonth l

@@ -124,9 +124,9 @@ abbrev pub keptAfter : List Posted → Posted → List Posted
 keptAfter h p = cond (eqb (numberAfter h p) 0) (p ∷ h) h
 
 -- those of a list, the earliest first, that are added after h
-abbrev pub keeping : List Posted → List Posted → List Posted
-keeping h [] = h
-keeping h (p ∷ l) = keeping (keptAfter h p) l
+abbrev pub keptThrough : List Posted → List Posted → List Posted
+keptThrough h [] = h
+keptThrough h (p ∷ l) = keptThrough (keptAfter h p) l
 
 abbrev pub numbersAfter : List Posted → List Posted → List ℕ
 numbersAfter h [] = []

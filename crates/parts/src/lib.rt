@@ -57,7 +57,7 @@ pub fn money_of(f: &[u8; 48]) -> Money
     }
 }
 
-fn association_of(f: &[u8; 48]) -> Association
+pub fn association_of(f: &[u8; 48]) -> Association
     ensures { λ r. ⌜ r ≡ associationIn (now (f .entry)) ⌝ }
 {
     let all: &[u8] = f;

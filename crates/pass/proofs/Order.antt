@@ -1,9 +1,9 @@
 -- The starts of an accepted element rise, so a place is among them once, and the place after it lies inside the element.
-use Rattle.prelude.proofs.Prelude.{ℕ, zero, suc, _+_, _-_, _≤_, _<_, arith, _≡_, refl, sym, ap, _∙_, Bool, true, false, List, [], _∷_, length, getD, take, eqb, eqb-true, eq-eqb, ne-eqb}
+use Rattle.prelude.proofs.Prelude.{ℕ, zero, suc, _+_, _-_, _≤_, _<_, arith, _≡_, refl, sym, ap, _∙_, Bool, true, false, List, [], _∷_, length, getD, take, eqb, eqb-true, eq-eqb, ne-eqb, cond}
 use Rattle.coding.{specs.declared.Extent.Extent, specs.Reader.lengthAt, specs.Reader.part, specs.Reader.Ans.got, proofs.Basic.never, proofs.Basic.chain, proofs.Basic.same-got}
 use Rattle.coding.{proofs.Basic.picked, proofs.Basic.unpicked, proofs.Parts.part-cons, proofs.Parts.part-none, proofs.Header.read-element, proofs.Header.element-range}
-use Rattle.facility.{specs.Element.tiled, specs.Element.led, specs.Element.elementOf, specs.Parts.startsOf, specs.Parts.firstOr, proofs.Tiles.answer-found}
-use Rattle.pass.specs.{Pass.noComponent, Pass.componentUpTo, Pass.amongStarts, Pass.passOf, Places.afterIn, Places.emptyAt}
+use Rattle.facility.{specs.Element.tiled, specs.Element.led, specs.Element.elementOf, specs.Parts.startsOf, specs.Parts.firstOr, proofs.Tiles.answer-found, proofs.Tiles.led-long}
+use Rattle.pass.specs.{declared.Found.Found, Pass.noneAt, Pass.foundUpTo, Pass.amongStarts, Pass.foundAt, Places.afterIn, Pass.Reads, Pass.Passed, Pass.passWith}
 
 pub by-test : {P : Type 0} (b : Bool) → (b ≡ true → P) → (b ≡ false → P) → P
 by-test true f g = f refl
@@ -43,23 +43,28 @@ starts-rise s e =
     let a = answer-found (led s) (tiled (length s) s 3 (length s)) e in
     rw (a .1 .3) (tiled-rises (length s) s 3 (a .1 .0) (a .1 .2))
 
+-- there is something after its third octet
+pub element-long : (s : List ℕ) → elementOf s .number ≡ 0 → 3 < length s
+unfolding elementOf
+element-long s e = led-long s (answer-found (led s) (tiled (length s) s 3 (length s)) e .0)
+
 -- ---- a place among the starts
 
-pub among-found : (s : List ℕ) (place : ℕ) (xs : List ℕ) → Rises (length s) xs → (q : ℕ) → afterIn place (length s) xs ≡ q → (q ≡ 0 → ⊥)
-    → (place < q) × (q ≤ length s) × (amongStarts s place xs ≡ componentUpTo s place q)
-unfolding afterIn amongStarts
-among-found s place [] r q e n = absurd (n (sym e))
-among-found s place (a ∷ xs) r q e n = by-test (eqb a place)
-    (λ t. let z : a ≡ place = eqb-true a place t in
-    let f : firstOr (length s) xs ≡ q = rw t at e in
-    (omega (arith, r .0), omega (arith, first-inside (length s) xs (r .1)), rw t (ap (λ (k : ℕ). componentUpTo s k (firstOr (length s) xs)) z ∙ ap (λ (k : ℕ). componentUpTo s place k) f)))
-    (λ t. let m = among-found s place xs (r .1) q (rw t at e) n in (m .0, m .1, rw t (m .2)))
+module _ (place end : ℕ) where
+  pub among-found : (xs : List ℕ) → Rises end xs → (q : ℕ) → afterIn place end xs ≡ q → (q ≡ 0 → ⊥) → (place < q) × (q ≤ end) × (amongStarts place end xs ≡ foundUpTo q)
+  unfolding afterIn amongStarts
+  among-found [] r q e n = absurd (n (sym e))
+  among-found (a ∷ xs) r q e n = by-test (eqb a place)
+      (λ t. let z : a ≡ place = eqb-true a place t in
+      let f : firstOr end xs ≡ q = rw t at e in
+      (omega (arith, r .0), omega (arith, first-inside end xs (r .1)), rw t (ap foundUpTo f)))
+      (λ t. let m = among-found xs (r .1) q (rw t at e) n in (m .0, m .1, rw t (m .2)))
 
-pub among-none : (s : List ℕ) (place : ℕ) (xs : List ℕ) → Rises (length s) xs → afterIn place (length s) xs ≡ 0 → amongStarts s place xs ≡ noComponent 16
-unfolding afterIn amongStarts
-among-none s place [] r e = refl
-among-none s place (a ∷ xs) r e = by-test (eqb a place)
-    (λ t. let f : firstOr (length s) xs ≡ 0 = rw t at e in absurd (omega (arith, r .0))) (λ t. rw t (among-none s place xs (r .1) (rw t at e)))
+  pub among-none : (xs : List ℕ) → Rises end xs → afterIn place end xs ≡ 0 → amongStarts place end xs ≡ noneAt 0 16
+  unfolding afterIn amongStarts
+  among-none [] r e = refl
+  among-none (a ∷ xs) r e = by-test (eqb a place)
+      (λ t. let f : firstOr end xs ≡ 0 = rw t at e in absurd (omega (arith, r .0))) (λ t. rw t (among-none xs (r .1) (rw t at e)))
 
 -- ---- the loop over the starts: what is left of them from i on
 
@@ -88,21 +93,36 @@ module _ (place end : ℕ) (starts : List ℕ) (count : ℕ) (few : count ≤ le
 
 -- ---- what is found at a place
 
-pub find-malformed : (s : List ℕ) (place : ℕ) → (elementOf s .number ≡ 0 → ⊥) → passOf s place ≡ emptyAt 0 15
-unfolding passOf
+pub find-malformed : (s : List ℕ) (place : ℕ) → (elementOf s .number ≡ 0 → ⊥) → foundAt s place ≡ noneAt 0 15
+unfolding foundAt
 find-malformed s place n = unpicked _ _ (ne-eqb _ 0 n)
 
-pub find-end : (s : List ℕ) (place : ℕ) → elementOf s .number ≡ 0 → place ≡ length s → passOf s place ≡ emptyAt 1 0
-unfolding passOf
+pub find-end : (s : List ℕ) (place : ℕ) → elementOf s .number ≡ 0 → place ≡ length s → foundAt s place ≡ noneAt 1 0
+unfolding foundAt
 find-end s place f e = picked _ _ (eq-eqb _ 0 f) ∙ picked _ _ (eq-eqb place (length s) e)
 
 module _ (s : List ℕ) (place : ℕ) (fine : elementOf s .number ≡ 0) (more : place ≡ length s → ⊥) where
-  inner : passOf s place ≡ amongStarts s place (startsOf (elementOf s))
-  unfolding passOf
-  inner = picked _ _ (eq-eqb _ 0 fine) ∙ unpicked _ _ (ne-eqb place (length s) more)
+  pub find-among : foundAt s place ≡ amongStarts place (length s) (startsOf (elementOf s))
+  unfolding foundAt
+  find-among = picked _ _ (eq-eqb _ 0 fine) ∙ unpicked _ _ (ne-eqb place (length s) more)
 
-  pub find-none : afterIn place (length s) (startsOf (elementOf s)) ≡ 0 → passOf s place ≡ emptyAt 0 16
-  find-none e = inner ∙ among-none s place _ (starts-rise s fine .0) e
+  pub find-none : afterIn place (length s) (startsOf (elementOf s)) ≡ 0 → foundAt s place ≡ noneAt 0 16
+  find-none e = find-among ∙ among-none place (length s) _ (starts-rise s fine .0) e
 
-  pub find-some : (q : ℕ) → afterIn place (length s) (startsOf (elementOf s)) ≡ q → (q ≡ 0 → ⊥) → (place < q) × (q ≤ length s) × (passOf s place ≡ componentUpTo s place q)
-  find-some q e n = let f = among-found s place _ (starts-rise s fine .0) q e n in (f .0, f .1, inner ∙ f .2)
+  pub find-some : (q : ℕ) → afterIn place (length s) (startsOf (elementOf s)) ≡ q → (q ≡ 0 → ⊥) → (place < q) × (q ≤ length s) × (foundAt s place ≡ foundUpTo q)
+  find-some q e n = let f = among-found place (length s) _ (starts-rise s fine .0) q e n in (f .0, f .1, find-among ∙ f .2)
+
+-- ---- what any reader passes on of it
+
+module _ {A : Type 0} (r : Reads A) (s : List ℕ) (place : ℕ) where
+  by-found : Found → Passed A
+  by-found f = record { ended = f .ended; after = f .after; answer = cond (eqb (f .after) 0) (r .none (f .number)) (r .by (getD s 2 0) (part s place (f .after))) }
+
+  pub pass-none : (f : Found) → f ≡ foundAt s place → f .after ≡ 0 → record { ended = f .ended; after = 0; answer = r .none (f .number) } ≡ passWith r s place
+  unfolding passWith by-found
+  pass-none f e z = sym (rw z refl) ∙ ap by-found e
+
+  pub pass-some : (f : Found) (a : A) → f ≡ foundAt s place → (f .after ≡ 0 → ⊥) → a ≡ r .by (getD s 2 0) (part s place (f .after))
+      → record { ended = f .ended; after = f .after; answer = a } ≡ passWith r s place
+  unfolding passWith by-found
+  pass-some f a e n same = rw same (rw (ne-eqb (f .after) 0 n) refl) ∙ ap by-found e

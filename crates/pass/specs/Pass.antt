@@ -3,50 +3,84 @@ use Prim.Native.Nat.{ℕ}
 use mathlib.Core.Path.{_≡_}
 use mathlib.Core.List.{List, [], _∷_}
 use mathlib.Core.Bool.{cond}
-use lib.ListN.{length}
+use lib.ListN.{length, getD}
 use lib.Dec.{eqb}
 use Rattle.coding.specs.Reader.{part}
 use Rattle.types.specs.declared.Answer.{Answer}
-use Rattle.types.specs.Frames.{accepted, refused, noRecord, readOf}
+use Rattle.types.specs.Frames.{refused, readOf}
 use Rattle.facility.specs.Element.{elementOf}
 use Rattle.facility.specs.Parts.{startsOf, firstOr}
 use Rattle.read.specs.Whole.{wholeAnswer}
 use Rattle.pass.specs.declared.Next.{Next}
+use Rattle.pass.specs.declared.Found.{Found}
 
--- What a place of an element gives: a component's answer and the place after it; at the end the mark, and nothing else; else a refusal.
-pub record Passed : Type 0 where
-  pub ended : ℕ
-  pub after : ℕ
-  pub answer : Answer
+-- ---- where the component lies that begins at a place
 
-abbrev pub atEnd : Passed
-atEnd = record { ended = 1; after = 0; answer = accepted noRecord }
+-- no component: the end, or a refusal
+abbrev pub noneAt : ℕ → ℕ → Found
+noneAt ended number = record { after = 0; ended = ended; number = number }
 
-abbrev pub noComponent : ℕ → Passed
-noComponent number = record { ended = 0; after = 0; answer = refused number }
-
--- the component from a place up to another, read by itself
-abbrev pub componentUpTo : List ℕ → ℕ → ℕ → Passed
-componentUpTo s at after = record { ended = 0; after = after; answer = readOf (part s at after) }
+-- a component that ends before a place
+abbrev pub foundUpTo : ℕ → Found
+foundUpTo after = record { after = after; ended = 0; number = 0 }
 
 -- a component begins at one of the starts and ends at the next, the last one at the element's end; any other place is 16
-unfoldable pub amongStarts : List ℕ → ℕ → List ℕ → Passed
-amongStarts s place [] = noComponent 16
-amongStarts s place (a ∷ starts) = cond (eqb a place) (componentUpTo s a (firstOr (length s) starts)) (amongStarts s place starts)
+unfoldable pub amongStarts : ℕ → ℕ → List ℕ → Found
+amongStarts place end [] = noneAt 0 16
+amongStarts place end (a ∷ starts) = cond (eqb a place) (foundUpTo (firstOr end starts)) (amongStarts place end starts)
 
 -- The whole tiling is judged first: 15. The place after the last octet is the end.
-unfoldable pub passOf : List ℕ → ℕ → Passed
-passOf s place =
+unfoldable pub foundAt : List ℕ → ℕ → Found
+foundAt s place =
     cond (eqb (elementOf s .number) 0)
-    (cond (eqb place (length s)) atEnd (amongStarts s place (startsOf (elementOf s))))
-    (noComponent 15)
+    (cond (eqb place (length s)) (noneAt 1 0) (amongStarts place (length s) (startsOf (elementOf s))))
+    (noneAt 0 15)
 
--- what is answered by value, and the record in four parts
-abbrev pub wholeNext : Next → List ℕ → List ℕ → List ℕ → List ℕ → Passed
-wholeNext r front figure numbers rows = record { ended = r .ended; after = r .after; answer = wholeAnswer (r .answer) front figure numbers rows }
+-- ---- what is given of it, by any reader
+
+-- A reader of components: what it answers to a component with its element's third octet, and with a number where there is none.
+pub record Reads (A : Type 0) : Type 0 where
+  pub by : ℕ → List ℕ → A
+  pub none : ℕ → A
+
+-- What a place of an element gives: a component's answer and the place after it; at the end the mark, and nothing else; else a refusal.
+pub record Passed (A : Type 0) : Type 0 where
+  pub ended : ℕ
+  pub after : ℕ
+  pub answer : A
+
+abbrev pub atEnd : {A : Type 0} → Reads A → Passed A
+atEnd r = record { ended = 1; after = 0; answer = r .none 0 }
+
+abbrev pub noComponent : {A : Type 0} → Reads A → ℕ → Passed A
+noComponent r number = record { ended = 0; after = 0; answer = r .none number }
+
+-- the component from a place up to another, read by itself
+abbrev pub componentUpTo : {A : Type 0} → Reads A → List ℕ → ℕ → ℕ → Passed A
+componentUpTo r s place after = record { ended = 0; after = after; answer = r .by (getD s 2 0) (part s place after) }
+
+unfoldable pub passWith : {A : Type 0} → Reads A → List ℕ → ℕ → Passed A
+passWith r s place =
+    let f = foundAt s place in record {
+      ended = f .ended;
+      after = f .after;
+      answer = cond (eqb (f .after) 0) (r .none (f .number)) (r .by (getD s 2 0) (part s place (f .after)));
+    }
 
 -- Going through an element from a place on: the answers of the components in order, then the end.
-pub data Through (s : List ℕ) : ℕ → List Answer → Type 0 where
-  over : {place : ℕ} → passOf s place ≡ atEnd → Through s place []
-  next : {place after : ℕ} {answer : Answer} {answers : List Answer}
-      → passOf s place ≡ record { ended = 0; after = after; answer = answer } → Through s after answers → Through s place (answer ∷ answers)
+pub data Through {A : Type 0} (r : Reads A) (s : List ℕ) : ℕ → List A → Type 0 where
+  over : {place : ℕ} → passWith r s place ≡ atEnd r → Through r s place []
+  next : {place after : ℕ} {answer : A} {answers : List A}
+      → passWith r s place ≡ record { ended = 0; after = after; answer = answer } → Through r s after answers → Through r s place (answer ∷ answers)
+
+-- ---- public lines: 91 is read, a component of an element with any other octet is 17
+
+abbrev pub lines : Reads Answer
+lines = record { by = λ profile s. cond (eqb profile 0x91) (readOf s) (refused 17); none = refused }
+
+abbrev pub passOf : List ℕ → ℕ → Passed Answer
+passOf = passWith lines
+
+-- what is answered by value, and the record in four parts
+abbrev pub wholeNext : Next → List ℕ → List ℕ → List ℕ → List ℕ → Passed Answer
+wholeNext r front figure numbers rows = record { ended = r .ended; after = r .after; answer = wholeAnswer (r .answer) front figure numbers rows }

@@ -2,11 +2,12 @@
 ghost use mathlib.Core.Path.{_≡_};
 ghost use Prim.Native.Nat.{_≤_, _<_};
 ghost use lib.ListN.{length, take, replicate};
-ghost use Rattle.pass.specs.Pass.{passOf, componentUpTo, wholeNext};
-ghost use Rattle.pass.specs.Places.{afterIn, emptyAt};
+ghost use Rattle.types.specs.Frames.{refused};
+ghost use Rattle.pass.specs.Pass.{foundAt, passOf, wholeNext};
+ghost use Rattle.pass.specs.Places.{afterIn};
 
 // after: the place after the component. ended: 1 at the end of the element, where all else is zero.
-// answer: the component's, or 15 for a malformed element, 16 for a place where no component begins.
+// answer: the component's, or 15 for a malformed element, 16 for a place where no component begins, 17 for one of another family.
 #[repr(C)]
 pub struct Next {
     pub after: usize,
@@ -32,27 +33,17 @@ fn after_of(starts: [u8; 127], count: usize, place: usize, end: usize) -> usize
     0
 }
 
-// No component: 15, 16, or the end. All four parts are zero beside it.
-fn without(ended: usize, number: u32) -> Next
-    ensures { λ r. ⌜ wholeNext r (replicate 8 0) (replicate 48 0) (replicate 32 0) (replicate 192 0) ≡ emptyAt ended number ⌝ }
-{
-    Next {
-        after: 0,
-        ended,
-        answer: read::Refusal { number, offset: 0 },
-    }
-}
-
 // Where a component lies that begins at a place: up to `after`; where that is 0, none does, and the place is the end or is refused.
-struct Found {
+pub struct Found {
     pub after: usize,
     pub ended: usize,
     pub number: u32,
 }
 
+// The whole tiling is judged first.
 fn find(octets: &[u8], place: usize) -> Found
-    ensures none { λ r. ⌜ (r .after ≡ 0 → passOf (now (octets .entry)) place ≡ emptyAt (r .ended) (r .number)) ⌝ }
-    ensures some { λ r. ⌜ ((r .after ≡ 0 → ⊥) → (place < r .after) × (r .after ≤ length (now (octets .entry))) × (passOf (now (octets .entry)) place ≡ componentUpTo (now (octets .entry)) place (r .after))) ⌝ }
+    ensures { λ r. ⌜ r ≡ foundAt (now (octets .entry)) place ⌝ }
+    ensures inside { λ r. ⌜ ((r .after ≡ 0 → ⊥) → (place < r .after) × (r .after ≤ length (now (octets .entry))) × (3 < length (now (octets .entry)))) ⌝ }
 {
     let tiles = facility::element(octets);
     if tiles.number != 0 {
@@ -72,14 +63,33 @@ fn find(octets: &[u8], place: usize) -> Found
     let starts = tiles.starts;
     let count = read_lengths::wide(tiles.count);
     let after = after_of(starts, count, place, octets.len());
+    if after == 0 {
+        return Found {
+            after: 0,
+            ended: 0,
+            number: 16,
+        };
+    }
     Found {
         after,
         ended: 0,
-        number: 16,
+        number: 0,
+    }
+}
+
+// Nothing read: a number, or the end. All four parts are zero beside it.
+fn without(after: usize, ended: usize, number: u32) -> Next
+    ensures { λ r. ⌜ wholeNext r (replicate 8 0) (replicate 48 0) (replicate 32 0) (replicate 192 0) ≡ record { ended = ended; after = after; answer = refused number } ⌝ }
+{
+    Next {
+        after,
+        ended,
+        answer: read::Refusal { number, offset: 0 },
     }
 }
 
 // What stands at a place of an element: the next component, its record in four parts that are lent, whatever they hold, with the place after it; or the end.
+// A component of an element with another third octet than 91 is not read: 17.
 pub fn next_into(
     octets: &[u8],
     place: usize,
@@ -92,17 +102,25 @@ pub fn next_into(
 {
     let f = find(octets, place);
     let after = f.after;
+    let ended = f.ended;
     if after == 0 {
         *front = [0; 8];
         *figure = [0; 48];
         *numbers = [0; 32];
         *rows = [0; 192];
-        return without(f.ended, f.number);
+        return without(0, ended, f.number);
+    }
+    if octets[2] != 0x91 {
+        *front = [0; 8];
+        *figure = [0; 48];
+        *numbers = [0; 32];
+        *rows = [0; 192];
+        return without(after, ended, 17);
     }
     let answer = read::read_into(&octets[place..after], front, figure, numbers, rows);
     Next {
         after,
-        ended: 0,
+        ended,
         answer,
     }
 }

@@ -2,7 +2,8 @@
 use Rattle.prelude.proofs.Prelude.{ℕ, _-_, length, _≡_, refl, sym, _∙_, ap, List, [], _∷_, reverse, reverseAux, Bool, true, cond, eqb}
 use Rattle.phases.{specs.declared.Outcome.Outcome, specs.Phases.Given}
 use Rattle.outcomes.specs.{Outcome.judge, Status.requestsOf}
-use Rattle.account.{specs.declared.Account.Account, specs.declared.Closing.Closing, specs.declared.Stepped.Stepped, specs.History.judged, specs.History.known, specs.History.accountBy, specs.History.fresh, specs.History.pendingOf}
+use Rattle.account.{specs.declared.Account.Account, specs.declared.Closing.Closing, specs.declared.Stepped.Stepped, specs.History.judged, specs.History.known, specs.History.accountBy}
+use Rattle.account.{specs.History.fresh, specs.History.pendingOf}
 use Rattle.account.{specs.Step.closingOf, specs.Step.marksOf, proofs.Demand.fresh-stands, proofs.Demand.step-stands, proofs.Demand.closing-stands}
 use Rattle.account.{specs.Noise.chosen, specs.Noise.onlyNoise, specs.Noise.outcomes, specs.Noise.past, specs.Noise.standing, proofs.Noise.noise-dropped, proofs.Noise.end-kept}
 use Rattle.events.specs.Events.{addsUp, eventsOf}

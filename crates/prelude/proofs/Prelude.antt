@@ -13,10 +13,10 @@ pub use lib.Ieee.Back.{round-whole, unsigned-back}
 pub use lib.Ieee.Bits.{is-false}
 pub use lib.Ieee.Exact.{HasValue}
 pub use lib.Ieee.Scale.{round-same}
-pub use lib.IntN.{negsuc, pos, ℤ}
+pub use lib.IntN.{_+ℤ_, negsuc, pos, ℤ}
 pub use lib.ListN.{List·getD-append, List·getD-eq-default, drop, getD, length, length-append, length-drop, length-replicate, length-set, length-take, replicate}
 pub use lib.ListN.{set, take, take-append-drop}
-pub use lib.Pow.{pow-mono, pow-pos}
+pub use lib.Pow.{pow-add, pow-mono, pow-pos}
 pub use lib.Seq.{drop-append-add, drop-append-seam, drop-at, drop-cons, drop-drop, drop-length, drop-set-add, drop-set-lt, getD-append-add, getD-drop}
 pub use lib.Seq.{getD-take, length-take-le, set-at, sets, sets-eq, take-add, take-all, take-append-le, take-append-seam, take-at, take-length, take-set-le}
 pub use lib.Seq.{take-suc, take-suc-set, take-take}
@@ -26,7 +26,7 @@ pub use mathlib.Core.Logic.{_↔_, _⊎_, inl, inr}
 pub use mathlib.Core.Option.{Option, none, some}
 pub use mathlib.Core.Path.{_∙_, _≡_, ap, ap₂, refl, subst, sym}
 pub use native.Mathlib.Decide.{decLt, ℕ-discrete}
-pub use native.Mathlib.Nat.{add-suc, add-zero, div-lt-iff-lt-mul, le-pred-of-lt, lt-of-not-le, mod-eq-of-lt, mul-add-div-right, mul-comm, mul-le-mul-left}
+pub use native.Mathlib.Nat.{add-suc, add-zero, div-lt-iff-lt-mul, le-pred-of-lt, lt-of-not-le, mod-eq-of-lt, mod-self, mul-add-div-right, mul-comm, mul-le-mul-left}
 pub use native.Mathlib.Nat.{mul-le-mul-right, mul-suc, mul-zero, not-suc-le-zero, one-mul, pow-le-pow-right, pow-suc, sub-zero, suc-add, suc-mul, zero-add}
 pub use native.Mathlib.Numerals.{add-one, towards-suc}
 pub use native.Mathlib.Omega.{arith}

@@ -4,7 +4,7 @@ use Rattle.coding.{specs.Reader.Ans, specs.Reader.after, specs.Reader.opened, s
 use Rattle.coding.{specs.Reader.mapped, specs.Reader.narrowed, specs.Reader.Ans.got, specs.Reader.Ans.halt, specs.Reader.Fault.contents, specs.Reader.Ruling.good, specs.Reader.Ruling.bad}
 use Rattle.coding.{specs.Shown.shown, specs.Codec.Leaf, specs.Codec.prim, specs.Codec.cons, specs.Codec.pair, specs.Codec.over, specs.Codec.canonical, specs.Leaves.number, specs.Leaves.only}
 use Rattle.coding.{proofs.Reading.flat, proofs.Reading.after-assoc}
-use Rattle.types.specs.{declared.Association.Association, Charges.digitsLeaf, Charges.isPlan, Charges.plainParty, Charges.publicParty}
+use Rattle.types.specs.{declared.Association.Association, Charges.digitsLeaf, Charges.isPlan, Charges.plainParty, Charges.planned}
 use Rattle.read_figures.specs.Numbers.{byDigits, numbered}
 
 -- ---- contents for another type; contents of which only some values pass
@@ -46,15 +46,15 @@ pub plain-steps : (s : List ℕ) (at end : ℕ) → plainParty .read s at end �
 unfolding plainParty canonical over
 plain-steps s at end = sym (digits-told 0x80 2 0 s at end got) ∙ after-same _
 
-pub public-steps : (s : List ℕ) (at end : ℕ) →
-    publicParty .read s at end ≡
-    after (opened 0xa1 s at end) (λ e next.
+pub planned-steps : (tag kind : ℕ) (s : List ℕ) (at end : ℕ) →
+    (planned tag kind) .read s at end ≡
+    after (opened tag s at end) (λ e next.
     after ((prim 0x0a (number 0 6)) .read s (e .start) (e .stop)) (λ k m.
     cond (isPlan k)
-    (after (primitive 0x12 (numbered 3 k) s m (e .stop)) (λ a last. closed a last (e .stop) next))
+    (after (primitive 0x12 (numbered kind k) s m (e .stop)) (λ a last. closed a last (e .stop) next))
     (halt contents (e .start))))
-unfolding publicParty cons constructed canonical over pair
-public-steps s at end = simp flat (simp (prim-only, digits-told))
+unfolding planned cons constructed canonical over pair
+planned-steps tag kind s at end = simp flat (simp (prim-only, digits-told))
 
 -- the kind 5 is none
 module _ {A : Type 0} (k m : ℕ) (x x' : Ans A) (y : A) {t : ℕ × ℕ × A × ℕ} where

@@ -206,19 +206,19 @@ fn error_head(s: &[u8], start: usize, n: usize) -> Head
 }
 
 // What a reject answers: an identifier, or NULL.
-struct Caller {
+pub struct Caller {
     pub unnamed: u8,
     pub id: u16,
 }
 
-struct CallerRead {
+pub struct CallerRead {
     pub fault: u8,
     pub place: usize,
     pub value: Caller,
     pub next: usize,
 }
 
-fn caller_at(s: &[u8], at: usize, end: usize) -> CallerRead
+pub fn caller_at(s: &[u8], at: usize, end: usize) -> CallerRead
     requires { ⌜ end ≤ length (now s) ⌝ }
     ensures { λ r. ⌜ (r .fault, r .place, callerBy (r .value), r .next) ≡ shown (inr 0) (caller .read (now (s .entry)) at end) ⌝ }
     ensures proper { λ r. ⌜ ((tag detail : ℕ) → rejects (callerBy (r .value)) tag detail ≡ rejectedBy (r .value) tag detail) ⌝ }
@@ -258,7 +258,7 @@ fn caller_at(s: &[u8], at: usize, end: usize) -> CallerRead
     }
 }
 
-struct ProblemRead {
+pub struct ProblemRead {
     pub fault: u8,
     pub place: usize,
     pub value: Problem,
@@ -266,7 +266,7 @@ struct ProblemRead {
 }
 
 // A reject's problem: its tag and its value.
-struct Problem {
+pub struct Problem {
     pub tag: u8,
     pub detail: u8,
 }
@@ -293,7 +293,7 @@ fn problem_at(s: &[u8], at: usize, end: usize, tag: u8, most: u32) -> ProblemRea
     }
 }
 
-fn problems_at(s: &[u8], at: usize, end: usize) -> ProblemRead
+pub fn problems_at(s: &[u8], at: usize, end: usize) -> ProblemRead
     requires { ⌜ end ≤ length (now s) ⌝ }
     ensures { λ r. ⌜ (r .fault, r .place, r .value, r .next) ≡ shown (record { tag = 0; detail = 0 }) (problemsIn (now (s .entry)) at end) ⌝ }
 {

@@ -98,7 +98,7 @@ fn two_more(s: &[u8], tag: usize, at: usize, end: usize) -> Opened
 }
 
 // Length octets with a number at a place, of the element whose tag is at tag.
-fn numbered_at(s: &[u8], tag: usize, at: usize, end: usize) -> Opened
+pub fn numbered_at(s: &[u8], tag: usize, at: usize, end: usize) -> Opened
     requires { ⌜ end ≤ length (now s) ⌝ }
     ensures { λ r. ⌜ (r .fault, r .place, r .value, r .next) ≡ shown (record { start = 0; stop = 0 }) (numberedAt tag (now (s .entry)) at end) ⌝ }
     ensures inside { λ r. ⌜ (r .value .start ≤ r .value .stop) × (r .value .stop ≤ end) ⌝ }

@@ -163,13 +163,14 @@ fn rates_in(
     s: &[u8],
     at: usize,
     end: usize,
+    trunk: bool,
     numbers: &mut [u32; 32],
     octets: &mut [u8; 192],
     figure: &mut [u8; 48],
 ) -> read_elements::Empty
     requires { ⌜ end ≤ length (now s) ⌝ }
     requires { ⌜ Blank (now figure) (now numbers) (now octets) ⌝ }
-    ensures { λ r. ⌜ whole r (now (figure .exit)) (now (numbers .exit)) (now (octets .exit)) ≡ shown noCharge (inRates (now (s .entry)) at end) ⌝ }
+    ensures { λ r. ⌜ whole r (now (figure .exit)) (now (numbers .exit)) (now (octets .exit)) ≡ shown noCharge (inRates trunk (now (s .entry)) at end) ⌝ }
 {
     if end <= at {
         return read_figures::halted(40, end);
@@ -183,7 +184,7 @@ fn rates_in(
             }
             return read_figures::halted(41, i);
         }
-        let r = read_rates::rate_at(s, i, end);
+        let r = read_rates::rate_at(s, i, end, trunk);
         if r.fault != 0 {
             return read_figures::halted(r.fault, r.place);
         }
@@ -197,24 +198,33 @@ fn rates_in(
     read_figures::reached(i)
 }
 
-// The argument of operation 31.
-fn rates_at(
+// The argument of operation 31, and what a trunk's 63 holds.
+pub fn rates_at(
     s: &[u8],
     at: usize,
     end: usize,
+    trunk: bool,
     numbers: &mut [u32; 32],
     octets: &mut [u8; 192],
     figure: &mut [u8; 48],
 ) -> read_elements::Empty
     requires { ⌜ end ≤ length (now s) ⌝ }
     requires { ⌜ Blank (now figure) (now numbers) (now octets) ⌝ }
-    ensures { λ r. ⌜ whole r (now (figure .exit)) (now (numbers .exit)) (now (octets .exit)) ≡ shown noCharge (rates .read (now (s .entry)) at end) ⌝ }
+    ensures { λ r. ⌜ whole r (now (figure .exit)) (now (numbers .exit)) (now (octets .exit)) ≡ shown noCharge ((rates trunk) .read (now (s .entry)) at end) ⌝ }
 {
     let e = read_lengths::open_at(s, at, end, 0x30);
     if e.fault != 0 {
         return read_figures::halted(e.fault, e.place);
     }
-    let r = rates_in(s, e.value.start, e.value.stop, numbers, octets, figure);
+    let r = rates_in(
+        s,
+        e.value.start,
+        e.value.stop,
+        trunk,
+        numbers,
+        octets,
+        figure,
+    );
     if r.fault != 0 {
         return read_figures::halted(r.fault, r.place);
     }
@@ -264,7 +274,7 @@ fn price_in(
     if !is_money(operation) {
         return units_in(s, at, end, numbers, octets, figure);
     }
-    let m = read_figures::money_at(s, at, end, figure);
+    let m = read_figures::money_at(s, at, end, false, figure);
     if m.fault != 0 {
         return read_figures::halted(m.fault, m.place);
     }
@@ -372,7 +382,7 @@ fn settled_at(
     ensures clear { λ _. ⌜ Unassociated (now (figure .exit)) ⌝ }
 {
     if read_lengths::is_tag(s, at, end, 0x81) {
-        return read_figures::free_at(s, at, end, figure);
+        return read_figures::sign_at(s, at, end, 0x81, 1, figure);
     }
     priced_at(s, at, end, operation, numbers, octets, figure)
 }
@@ -433,7 +443,7 @@ fn figure_at(
     if u.next == e.value.stop {
         return read_figures::reached(e.next);
     }
-    let a = read_figures::association_at(s, u.next, e.value.stop, figure);
+    let a = read_figures::association_at(s, u.next, e.value.stop, false, figure);
     if a.fault != 0 {
         return read_figures::halted(a.fault, a.place);
     }
@@ -489,5 +499,5 @@ pub fn charge_into(
     if is_arranged(s, at, end, operation) {
         return read_figures::arrangement_at(s, at, end, figure);
     }
-    rates_at(s, at, end, numbers, octets, figure)
+    rates_at(s, at, end, false, numbers, octets, figure)
 }

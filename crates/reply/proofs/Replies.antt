@@ -9,7 +9,7 @@ use Rattle.types.{proofs.ArgumentLaws.chargeEqual, proofs.Theorems.reads-back, 
 use Rattle.write.{specs.declared.Written.Written, specs.Parts.frontOf, specs.Parts.bodyOf, proofs.Valid.valid-parts, proofs.Octets.write-parts, specs.Outcome.writeOf}
 use Rattle.write_heads.specs.Fronts.{frontFine, frontOctets, idOctets, problemFine}
 use Rattle.read_heads.proofs.Entered.{tags, entered-ends}
-use Rattle.reply.specs.Reply.{valueOr0, identifierOf, firstOf, isSilent, replyBy, replyTo, replyOf}
+use Rattle.reply.specs.Reply.{valueOr0, identifierOf, firstOf, isSilentTo, replyBy, rejectTo, replyGiven, replyTo, replyOf}
 
 -- what is asked of a reply
 abbrev Sent : Record → Type 0
@@ -93,10 +93,15 @@ pub reply-sent : (s : List ℕ) → Octets s → Sent (replyTo s)
 unfolding replyTo
 reply-sent s os = replies (readOf s .number) (firstOf s) (identifierOf s) (identifier-small s os)
 
-pub only-12 : (s : List ℕ) (room : ℕ) → Octets s → (replyOf s room .number ≡ 0) ⊎ (replyOf s room .number ≡ 12)
-unfolding replyOf writeOf
-only-12 s room os =
-    let q = reply-sent s os in
-    let l = le-leb (length (component .write (replyTo s))) 254 (omega (arith, q .1)) in
+-- by any number, of either family
+pub given-12 : (n : ℕ) (s : List ℕ) (room : ℕ) → Octets s → (replyGiven n s room .number ≡ 0) ⊎ (replyGiven n s room .number ≡ 12)
+unfolding replyGiven writeOf
+given-12 n s room os =
+    let q = replies n (firstOf s) (identifierOf s) (identifier-small s os) in
+    let l = le-leb (length (component .write (rejectTo n s))) 254 (omega (arith, q .1)) in
     let P : Written → Type 0 = λ w. (w .number ≡ 0) ⊎ (w .number ≡ 12) in
-    pick P (isSilent s) _ _ (λ e. inl refl) (λ e. rw (q .0, l) (pick P (leb (length (component .write (replyTo s))) room) _ _ (λ f. inl refl) (λ f. inr refl)))
+    pick P (isSilentTo n s) _ _ (λ e. inl refl) (λ e. rw (q .0, l) (pick P (leb (length (component .write (rejectTo n s))) room) _ _ (λ f. inl refl) (λ f. inr refl)))
+
+pub only-12 : (s : List ℕ) (room : ℕ) → Octets s → (replyOf s room .number ≡ 0) ⊎ (replyOf s room .number ≡ 12)
+unfolding replyOf
+only-12 s room os = given-12 (readOf s .number) s room os

@@ -33,8 +33,8 @@ unfoldable pub identifierOf : List ℕ → ℕ
 identifierOf s = valueOr0 (identifierRead s)
 
 -- none for an accepted component or where the first octet is A4
-unfoldable pub isSilent : List ℕ → Bool
-isSilent s = eqb (readOf s .number) 0 || eqb (firstOf s) 0xa4
+abbrev pub isSilentTo : ℕ → List ℕ → Bool
+isSilentTo n s = eqb n 0 || eqb (firstOf s) 0xa4
 
 -- the refusals whose reply names the component
 abbrev pub isNamed : ℕ → Bool
@@ -51,12 +51,26 @@ replyBy n first i =
     (cond (leb 40 n) (cond (eqb first 0xa2) (rejects (inr i) 0x82 2) (rejects (inr i) 0x81 2))
     (rejects (inl tt) 0x80 2)))))
 
-unfoldable pub replyTo : List ℕ → Record
-replyTo s = replyBy (readOf s .number) (firstOf s) (identifierOf s)
+abbrev pub rejectTo : ℕ → List ℕ → Record
+rejectTo n s = replyBy n (firstOf s) (identifierOf s)
 
--- the answer, and what is left in a lent buffer
+-- to octets whose refusal is known, of either family: the answer, and what is left in a lent buffer
+unfoldable pub replyGiven : ℕ → List ℕ → ℕ → Written
+replyGiven n s room = cond (isSilentTo n s) (done 0) (writeOf (rejectTo n s) room)
+
+unfoldable pub leftGiven : ℕ → List ℕ → List ℕ → List ℕ
+leftGiven n s before = cond (isSilentTo n s) before (leftOf (rejectTo n s) before)
+
+-- ---- of a public line
+
+unfoldable pub isSilent : List ℕ → Bool
+isSilent s = isSilentTo (readOf s .number) s
+
+unfoldable pub replyTo : List ℕ → Record
+replyTo s = rejectTo (readOf s .number) s
+
 unfoldable pub replyOf : List ℕ → ℕ → Written
-replyOf s room = cond (isSilent s) (done 0) (writeOf (replyTo s) room)
+replyOf s room = replyGiven (readOf s .number) s room
 
 unfoldable pub replyLeft : List ℕ → List ℕ → List ℕ
-replyLeft s before = cond (isSilent s) before (leftOf (replyTo s) before)
+replyLeft s before = leftGiven (readOf s .number) s before

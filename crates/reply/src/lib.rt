@@ -3,9 +3,9 @@ ghost use mathlib.Core.Path.{_≡_};
 ghost use mathlib.Core.Logic.{inl, inr};
 ghost use lib.ListN.{length};
 ghost use Rattle.types.specs.Frames.{rejects};
-ghost use Rattle.reply.specs.Reply.{firstOf, identifierOf, replyBy, replyOf, replyLeft};
+ghost use Rattle.reply.specs.Reply.{firstOf, identifierOf, replyBy, replyGiven, leftGiven, replyOf, replyLeft};
 
-fn first_of(octets: &[u8]) -> u8
+pub fn first_of(octets: &[u8]) -> u8
     ensures { λ r. ⌜ r ≡ firstOf (now (octets .entry)) ⌝ }
 {
     if octets.len() == 0 {
@@ -103,17 +103,11 @@ fn reject_for(number: u32, first: u8, id: u16) -> types::Record
     unnamed(0x80, 2)
 }
 
-// Writes the reject that a component's refusal calls for into a lent buffer; where none is due, 0 octets.
-pub fn reply(octets: &[u8], buf: &mut [u8]) -> write::Written
-    ensures { λ r. ⌜ r ≡ replyOf (now (octets .entry)) (length (now (buf .entry))) ⌝ }
-    ensures left { λ r. ⌜ now (buf .exit) ≡ replyLeft (now (octets .entry)) (now (buf .entry)) ⌝ }
+// Writes the reject that a component's refusal calls for, by the refusal's number, into a lent buffer; where none is due, 0 octets.
+pub fn reply_to(number: u32, octets: &[u8], buf: &mut [u8]) -> write::Written
+    ensures { λ r. ⌜ r ≡ replyGiven number (now (octets .entry)) (length (now (buf .entry))) ⌝ }
+    ensures left { λ r. ⌜ now (buf .exit) ≡ leftGiven number (now (octets .entry)) (now (buf .entry)) ⌝ }
 {
-    let mut front: [u8; 8] = [0; 8];
-    let mut figure: [u8; 48] = [0; 48];
-    let mut numbers: [u32; 32] = [0; 32];
-    let mut rows: [u8; 192] = [0; 192];
-    let a = read::read_into(octets, &mut front, &mut figure, &mut numbers, &mut rows);
-    let number = a.number;
     if number == 0 {
         return nothing();
     }
@@ -123,6 +117,19 @@ pub fn reply(octets: &[u8], buf: &mut [u8]) -> write::Written
     }
     let r = reject_for(number, first, identifier_of(octets));
     write::write(r, buf)
+}
+
+// The same of a component of a public line, which it reads.
+pub fn reply(octets: &[u8], buf: &mut [u8]) -> write::Written
+    ensures { λ r. ⌜ r ≡ replyOf (now (octets .entry)) (length (now (buf .entry))) ⌝ }
+    ensures left { λ r. ⌜ now (buf .exit) ≡ replyLeft (now (octets .entry)) (now (buf .entry)) ⌝ }
+{
+    let mut front: [u8; 8] = [0; 8];
+    let mut figure: [u8; 48] = [0; 48];
+    let mut numbers: [u32; 32] = [0; 32];
+    let mut rows: [u8; 192] = [0; 192];
+    let a = read::read_into(octets, &mut front, &mut figure, &mut numbers, &mut rows);
+    reply_to(a.number, octets, buf)
 }
 
 fn nothing() -> write::Written

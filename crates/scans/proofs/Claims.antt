@@ -7,7 +7,8 @@ use Rattle.phases.{specs.declared.Event.Event, specs.declared.Outcome.Outcome, 
 use Rattle.phases.{specs.Phases.outcome, specs.Phases.noService, specs.Phases.allowed, specs.Phases.clashes, specs.Phases.Request, specs.Phases.clash}
 use Rattle.phases.proofs.Choice.{by-test, by-number, never, first-of, second-of}
 use Rattle.outcomes.{specs.Outcome.serviceOf, specs.Outcome.Requests, specs.Outcome.holderOf, specs.Outcome.Known, specs.Outcome.firstFinal, specs.Outcome.judgeFinal}
-use Rattle.outcomes.{specs.Outcome.judgeFailure, specs.Outcome.judgeRecord, specs.Outcome.judgeAnswer, specs.Outcome.judge, specs.Outcome.chargeIn, specs.Outcome.was, specs.Outcome.its, specs.Outcome.settles}
+use Rattle.outcomes.{specs.Outcome.judgeFailure, specs.Outcome.judgeRecord, specs.Outcome.judgeAnswer, specs.Outcome.judge, specs.Outcome.chargeIn, specs.Outcome.was, specs.Outcome.its}
+use Rattle.outcomes.{specs.Outcome.settles}
 use Rattle.outcomes.specs.Outcome.{invokeService, isRefusal}
 use Rattle.phases.specs.Parts.{movingOf}
 use Rattle.outcomes.specs.Parts.{runsBy, closesBy, fitsBy, claimFigure, claimInvoke, claimResult, claimFrame, claimRecord}
@@ -144,7 +145,8 @@ module _ (p q : Requests) (s : ℕ) (alike : (id : ℕ) → eqb (holderOf p id) 
   claim-settles phase kind o =
       both-way (λ x y. settles s x ≡ settles s y) (eqb kind Component && allowed kind phase) _ _ _ _
       (both-way (λ x y. settles s x ≡ settles s y) (eqb (readOf o .number) 0) _ _ _ _
-      (both-way (λ x y. settles s x ≡ settles s y) (eqb phase Suspended) _ _ _ _ refl (frame-alike phase (readOf o .value .front) (readOf o .value .charge .figure .kind) (readOf o .value .charge .figure .total)))
+      (both-way (λ x y. settles s x ≡ settles s y) (eqb phase Suspended) _ _ _ _ refl (frame-alike phase (readOf o .value .front) (readOf o .value .charge .figure .kind)
+      (readOf o .value .charge .figure .total)))
       refl)
       refl
 
@@ -181,8 +183,10 @@ module _ (p q : Requests) (s : ℕ) (alike : has (p .asked) s ≡ has (q .asked)
       (both-way (λ x y. its s 22 x ≡ its s 22 y) (eqb (readOf o .value .front .frame) 1) _ _ _ _
       (invoke-final phase (readOf o .value .front .operation) (readOf o .value .charge .figure .kind) (readOf o .value .charge .figure .total))
       (both-way (λ x y. its s 22 x ≡ its s 22 y) (eqb (readOf o .value .front .frame) 2) _ _ _ _
-      (result-final (holderOf p (readOf o .value .front .id)) (readOf o .value .charge .figure .kind) s ∙ sym (result-final (holderOf q (readOf o .value .front .id)) (readOf o .value .charge .figure .kind) s))
-      (both-way (λ x y. its s 22 x ≡ its s 22 y) (eqb (readOf o .value .front .unnamed) 1) _ _ _ _ refl (failure-final (holderOf p (readOf o .value .front .id)) s ∙ sym (failure-final (holderOf q (readOf o .value .front .id)) s))))))
+      (result-final (holderOf p (readOf o .value .front .id)) (readOf o .value .charge .figure .kind) s
+      ∙ sym (result-final (holderOf q (readOf o .value .front .id)) (readOf o .value .charge .figure .kind) s))
+      (both-way (λ x y. its s 22 x ≡ its s 22 y) (eqb (readOf o .value .front .unnamed) 1) _ _ _ _ refl
+      (failure-final (holderOf p (readOf o .value .front .id)) s ∙ sym (failure-final (holderOf q (readOf o .value .front .id)) s))))))
       refl)
       refl
 

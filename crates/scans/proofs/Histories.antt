@@ -1,9 +1,13 @@
 -- What the places found by the scans say of a history.
-use Rattle.prelude.proofs.Prelude.{ℕ, zero, suc, _+_, _-_, _/_, _≤_, _<_, _≡_, refl, sym, _∙_, ap, List, [], _∷_, reverse, reverseAux, Bool, true, false, not, _&&_, _||_, cond, eqb, ltb, eqb-true, eqb-false, eq-eqb}
-use Rattle.prelude.proofs.Prelude.{or-false, or-true, and-false, arith, length, take, drop, le-ltb, lt-ltb, add-one, add-zero, add-suc, suc-add, zero-add, sub-zero, ltb-true, ltb-false, replicate, length-replicate}
+use Rattle.prelude.proofs.Prelude.{ℕ, zero, suc, _+_, _-_, _/_, _≤_, _<_, _≡_, refl, sym, _∙_, ap, List, [], _∷_, reverse, reverseAux, Bool, true, false, not, _&&_, _||_, cond, eqb, ltb, eqb-true}
+use Rattle.prelude.proofs.Prelude.{eqb-false, eq-eqb}
+use Rattle.prelude.proofs.Prelude.{or-false, or-true, and-false, arith, length, take, drop, le-ltb, lt-ltb, add-one, add-zero, add-suc, suc-add, zero-add, sub-zero, ltb-true, ltb-false, replicate}
+use Rattle.prelude.proofs.Prelude.{length-replicate}
 use Rattle.types.specs.{declared.Charge.Charge, Arguments.noCharge}
-use Rattle.phases.{specs.declared.Event.Event, specs.declared.Outcome.Outcome, specs.Phases.Idle, specs.Phases.Setup, specs.Phases.Component, specs.Phases.S, specs.Phases.D, specs.Phases.E, specs.Phases.Given}
-use Rattle.phases.{specs.Phases.outcome, specs.Phases.noService, specs.Phases.allowed, specs.Phases.leadsTo, specs.Phases.clashes, specs.Phases.Request, specs.Phases.noRequest, specs.Phases.requestFor, specs.Phases.clash}
+use Rattle.phases.{specs.declared.Event.Event, specs.declared.Outcome.Outcome, specs.Phases.Idle, specs.Phases.Setup, specs.Phases.Component, specs.Phases.S, specs.Phases.D, specs.Phases.E}
+use Rattle.phases.{specs.Phases.Given}
+use Rattle.phases.{specs.Phases.outcome, specs.Phases.noService, specs.Phases.allowed, specs.Phases.leadsTo, specs.Phases.clashes, specs.Phases.Request, specs.Phases.noRequest}
+use Rattle.phases.{specs.Phases.requestFor, specs.Phases.clash}
 use Rattle.phases.proofs.Choice.{if-same, by-test, by-number, never, first-of, second-of}
 use Rattle.phases.proofs.Transitions.{to-idle, from-idle, setup-idle, component-stays}
 use Rattle.values.specs.Sets.{has}
@@ -184,7 +188,8 @@ module _ (rows octets : List ℕ) where
 
     pub any-next : (i : ℕ) → passes i ≡ true → passes (suc i) ≡ true
     unfolding before
-    any-next i q = or-yes (t (record { event = rowAt rows i; octets = octetsAt rows octets i; outcome = judge (known (judged (before rows octets i))) (rowAt rows i) (octetsAt rows octets i) })) (passes i) q
+    any-next i q = or-yes (t (record { event = rowAt rows i; octets = octetsAt rows octets i; outcome = judge (known (judged (before rows octets i))) (rowAt rows i) (octetsAt rows octets i) }))
+        (passes i) q
 
     pub any-up : (m i : ℕ) → i ≤ m → passes i ≡ true → passes m ≡ true
     any-up zero i h q = let e : i ≡ 0 = omega arith in rw e at q

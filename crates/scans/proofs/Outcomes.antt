@@ -31,6 +31,7 @@ module _ (rows octets : List ℕ) (k : ℕ) (e : Event) (row : e ≡ rowAt rows 
     pub unclaimed-at : (o .number ≡ 22 → ⊥) → o ≡ judge (known (judged (before rows octets k))) (rowAt rows k) (octetsAt rows octets k)
     unclaimed-at n = sym (simp (ne-eqb (o .number) 22 n)) ∙ judged-at
 
-    pub compared-at : o .number ≡ 22 → (x : Charge) → x ≡ chargeIn (octetsAt rows octets k) → (r : Outcome) → r ≡ judgeFinal (firstFinal (known (judged (before rows octets k))) (o .service)) (o .service) x
+    pub compared-at : o .number ≡ 22 → (x : Charge) → x ≡ chargeIn (octetsAt rows octets k) → (r : Outcome)
+        → r ≡ judgeFinal (firstFinal (known (judged (before rows octets k))) (o .service)) (o .service) x
         → r ≡ judge (known (judged (before rows octets k))) (rowAt rows k) (octetsAt rows octets k)
     compared-at n x w r q = q ∙ rw w (sym (simp (eq-eqb (o .number) 22 n))) ∙ judged-at

@@ -142,7 +142,8 @@ module _ (rows octets : List ℕ) where
     final-up (suc m) i h q =
         by-number i (suc m) (λ e. rw e refl)
         (λ n. let l : i ≤ m = omega (arith, eqb-false i (suc m) n) in
-        let given : firstFinal (known (judged (before rows octets m))) s .given ≡ true = first-given (judged (before rows octets m)) s low high ∙ any-up rows octets (λ j. its s 22 (j .outcome)) m i l q in
+        let given : firstFinal (known (judged (before rows octets m))) s .given ≡ true = first-given (judged (before rows octets m)) s low high
+        ∙ any-up rows octets (λ j. its s 22 (j .outcome)) m i l q in
         rw (only-final (known (judged (before rows octets m))) (rowAt rows m) (octetsAt rows octets m) s given) (final-up m i l q))
 
     module _ (k i : ℕ) (f : FirstAt (λ j. its s 22 (j .outcome)) rows octets k i) where

@@ -6,10 +6,10 @@ use Rattle.coding.specs.Contents.{numberFrom, valueOf, negative, shortest, natu
 use Rattle.coding.specs.Codec.{oneOf, prim, cons, nothing, pair, alt, over, maybe, some·more, leafOver, leads, barring, marked, sort, frames, shape, canonical, pad, padded}
 use Rattle.coding.specs.Leaves.{number, string, nullLeaf, integer, identifier, listing, listed, only, given}
 use Rattle.coding.specs.Rows.{rows, table}
-use Rattle.types.specs.Charges.{scaled, currencyLeaf, currency, money, digitsLeaf, identified, publicParty, plainParty, party, unassociated, association}
+use Rattle.types.specs.Charges.{scaled, currencyLeaf, currency, money, digitsLeaf, identified, planned, partyNumber, plainParty, party, unassociated, association}
 use Rattle.types.specs.Entries.{unit}
 use Rattle.types.specs.Rates.{duration, flatRate, volume, coded, plainRate, price, rate}
-use Rattle.types.specs.Arguments.{sign, inMoney, inUnits, during, subtotals, ending, settled, finals, rates, arrangement, available, chargeOf}
+use Rattle.types.specs.Arguments.{sign, inMoney, inUnits, during, subtotals, ending, settled, withAssociation, finals, rates, arrangement, available, chargeOf}
 use Rattle.types.specs.Frames.{value, carrying, request, argument, invoke, returnResult, failed, returnError, caller, problem, problems, reject, frame, component, readWhole, readOf}
 use Rattle.values.specs.Sets.{emptySet}
 use Rattle.same_final.specs.{Currency.trimmed, Currency.equalCurrency, Same.thousandths, Same.equalMoney, Same.equalUnits, Same.sameOf}
@@ -93,8 +93,8 @@ unfolding cases expected yes-5 bad-one allowed leadsTo changeOf steppedOf judge 
     choice extent numberedAt endless marker turn searched findEnd spanned lengthAt opened blamed closed constructed enteredAny part mapped narrowed ruled primitive
     optional entries listOf numberFrom valueOf negative shortest natural every text null oneOf prim cons nothing pair alt over maybe some·more leafOver leads barring
     marked sort frames shape canonical pad padded number string nullLeaf integer identifier listing listed only given rows table scaled currencyLeaf currency money
-    digitsLeaf identified publicParty plainParty party unassociated association unit duration flatRate volume coded plainRate price rate sign inMoney inUnits during
-    subtotals ending settled finals rates arrangement available chargeOf value carrying request argument invoke returnResult failed returnError caller problem
+    digitsLeaf identified planned partyNumber plainParty party unassociated association unit duration flatRate volume coded plainRate price rate sign inMoney inUnits during
+    subtotals ending settled withAssociation finals rates arrangement available chargeOf value carrying request argument invoke returnResult failed returnError caller problem
     problems reject frame component readWhole readOf lowest heldIn eventOn collectOn
 cases-right = refl
 

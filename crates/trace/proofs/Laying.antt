@@ -88,7 +88,8 @@ progress-as e g = rw e at g
 
 -- ---- one event without octets
 
-pub bare-put : (e : Event) (rows rows′ : List ℕ) (p q : Put) → Wrote rows rows′ (p .rows) (laidRow e 0) (q .rows) → q .octets ≡ p .octets → (out : List ℕ) → Puts rows rows′ out out p (event e [] ∷ []) q
+pub bare-put : (e : Event) (rows rows′ : List ℕ) (p q : Put) → Wrote rows rows′ (p .rows) (laidRow e 0) (q .rows) → q .octets ≡ p .octets → (out : List ℕ)
+    → Puts rows rows′ out out p (event e [] ∷ []) q
 unfolding rowsOf octetsOf
 bare-put e rows rows′ p q a z out = record {
   in-rows = wrote-as (sym (append-nil (laidRow e 0))) a;

@@ -1,12 +1,13 @@
 -- Where a reading ends, and by which faults: between its place and the end of the enclosing element.
-use Rattle.prelude.proofs.Prelude.{ℕ, zero, suc, _+_, _-_, _≤_, _≡_, refl, subst, List, [], _∷_, Bool, true, false, cond, arith, length, getD, ltb, leb, eqb}
+use Rattle.prelude.proofs.Prelude.{ℕ, zero, suc, _+_, _-_, _≤_, _≡_, refl, subst, List, [], _∷_, Bool, true, false, cond, arith, length, length-take, drop, getD, ltb, leb, eqb}
 use Rattle.coding.specs.declared.Extent.{Extent}
-use Rattle.coding.specs.Reader.{Ans, Fault, Ruling, after, choice, tagged, neither, extent, numberedAt, endless, marker, turn, searched, findEnd, spanned, lengthAt, opened, closed}
+use Rattle.coding.specs.Reader.{Ans, Reader, Fault, Ruling, after, choice, tagged, neither, extent, numberedAt, endless, marker, turn, searched, findEnd, spanned, lengthAt, opened, closed}
 use Rattle.coding.specs.Reader.{constructed, part, mapped, narrowed, ruled, primitive, optional, entries, listOf}
 use Rattle.coding.specs.Reader.Ans.{got, halt}
 use Rattle.coding.specs.Reader.Ruling.{good, bad}
 use Rattle.coding.specs.Reader.Fault.{missing, unexpected, cut, form, shortest, contents, limit, named}
-use Rattle.coding.specs.Codec.{Leaf, Run, oneOf, prim, cons, nothing, pair, alt, over, maybe, some·more, leafOver, leads, barring, sort, pickRun}
+use Rattle.coding.specs.Codec.{Leaf, Run, oneOf, prim, cons, nothing, pair, alt, over, maybe, some·more, any·more, leafOver, leads, barring, sort, pickRun}
+use Rattle.coding.specs.Kept.{judgedAlone, keeping, asReceived}
 use Rattle.coding.specs.Contents.{natural, valueOf, negative, numberFrom, text, every, null}
 use Rattle.coding.specs.Leaves.{number, string, nullLeaf, inOctets, integer, identifier, listing, listed, only}
 use Rattle.coding.proofs.Header.{opened-sound, spans-range, read-element, element-range}
@@ -86,7 +87,7 @@ extent-ends : (tag start n end : ℕ) → Lengths tag (extent tag start n end)
 unfolding extent
 extent-ends tag start n end = pick (Lengths tag) (leb (start + n) end) _ _ (λ q. tt) (λ q. (tt, refl))
 
-number-ends : (tag : ℕ) (s : List ℕ) (at end : ℕ) → Lengths tag (numberedAt tag s at end)
+pub number-ends : (tag : ℕ) (s : List ℕ) (at end : ℕ) → Lengths tag (numberedAt tag s at end)
 unfolding numberedAt
 number-ends tag s at end =
     pick (Lengths tag) (leb end at) _ _ (λ q. (tt, refl)) (λ q.
@@ -136,12 +137,12 @@ module _ (P : Fault → ℕ → Type 0) (plain : (w : Fault) (p : ℕ) → Plain
       let g = element-range (r .0) in (omega (arith, g .0, g .1, g .2), r .1)
   element-ends s a e l (halt w p) q h = (plain w p (h .0), omega (arith, h .1), omega (arith, h .1, l))
 
-  neither-ends : (A : Type 0) (s : List ℕ) (a e : ℕ) → a ≤ e → Ends {A = A} P a e (neither s a e)
+  pub neither-ends : (A : Type 0) (s : List ℕ) (a e : ℕ) → a ≤ e → Ends {A = A} P a e (neither s a e)
   unfolding neither
   neither-ends A s a e l =
       pick (Ends P a e) (ltb a e) _ _ (λ q. (plain unexpected a tt, omega arith, l)) (λ q. (plain missing e tt, l, omega arith))
 
-  opened-ends : (tag : ℕ) (s : List ℕ) (a e : ℕ) → a ≤ e → Ends P a e (opened tag s a e)
+  pub opened-ends : (tag : ℕ) (s : List ℕ) (a e : ℕ) → a ≤ e → Ends P a e (opened tag s a e)
   unfolding opened choice
   opened-ends tag s a e l =
       pick (Ends P a e) (tagged s a e tag) _ _ (λ q. element-ends s a e l (lengthAt a s (a + 1) e) refl (length-ends a s (a + 1) e)) (λ q. neither-ends Extent s a e l)
@@ -151,7 +152,7 @@ module _ (P : Fault → ℕ → Type 0) (plain : (w : Fault) (p : ℕ) → Plain
   closed-ends v at end next e a h i j k =
       pick (Ends P a e) (eqb at end) _ _ (λ q. (omega (arith, h, i, j), k)) (λ q. (plain unexpected at tt, h, omega (arith, i, j, k)))
 
-  judged-ends : {A : Type 0} (x : Ruling A) (a n e : ℕ) → a ≤ n → n ≤ e → Blames P x → Ends P a e (ruled x a n)
+  pub judged-ends : {A : Type 0} (x : Ruling A) (a n e : ℕ) → a ≤ n → n ≤ e → Blames P x → Ends P a e (ruled x a n)
   unfolding ruled
   judged-ends (good v) a n e h i b = (h, i)
   judged-ends (bad w) a n e h i b = (b a, omega arith, omega (arith, h, i))
@@ -215,6 +216,10 @@ module _ (P : Fault → ℕ → Type 0) (plain : (w : Fault) (p : ℕ) → Plain
         follows P a e (entries tag most (f .read) s n e) _ (nearer P a n e (entries tag most (f .read) s n e) x (entries-ends tag most f F s n e (omega (arith, h, x)) y))
         (λ vs last z' x' y'. (x', y'))))
 
+    pub any-placed : (tag most : ℕ) (f : Run A) → Placed P k f → Placed P k (any·more tag most f)
+    unfolding any·more
+    any-placed tag most f F = record { ends = λ s a e h i. entries-ends tag most f F s a e h i }
+
     pub some-placed : (tag most : ℕ) (f : Run A) → Placed P k f → Placed P k (some·more tag most f)
     unfolding some·more listOf
     some-placed tag most f F = record {
@@ -224,6 +229,31 @@ module _ (P : Fault → ℕ → Type 0) (plain : (w : Fault) (p : ℕ) → Plain
   pub nothing-placed : (k : ℕ) → Placed P k nothing
   unfolding nothing
   nothing-placed k = record { ends = λ s a e h i. (omega arith, i) }
+
+  -- contents that are kept: the judge's faults are plain, and their places inside
+  kept-ends : (xs : List ℕ) (start stop next a e : ℕ) (r : Ans (Unit {0})) → a ≤ start → start + length xs ≤ stop → stop ≤ next → next ≤ e
+      → Ends (λ w p. Plain w) 0 (length xs) r → Ends P a e (keeping xs start next r)
+  unfolding keeping
+  kept-ends xs start stop next a e (got u n) h i j k q = (omega arith, k)
+  kept-ends xs start stop next a e (halt w p) h i j k q = (plain w (start + p) (q .0), omega (arith, h), omega (arith, q .2, i, j, k))
+
+  part-short : (s : List ℕ) (c m : ℕ) → c ≤ m → c + length (part s c m) ≤ m
+  unfolding part
+  part-short s c m h = omega (arith, length-take (m - c) (drop c s))
+
+  pub kept-placed : (k tag most : ℕ) (judge : Reader (Unit {0})) → ((xs : List ℕ) → Ends (λ w p. Plain w) 0 (length xs) (judge xs 0 (length xs))) → Placed P k (asReceived tag most judge)
+  unfolding asReceived judgedAlone closed
+  kept-placed k tag most judge J = record {
+    ends = λ s a e h i. follows P a e (opened tag s a e) _ (opened-ends tag s a e i) (λ v n q x y.
+        let o = opened-sound tag s a e v n q in
+        let r = spans-range (o .0) in
+        let xs : List ℕ = part s (v .start) (v .stop) in
+        let N : Fault → ℕ → Type 0 = λ w p. Plain w in
+        kept-ends xs (v .start) (v .stop) n a e _ (omega (arith, r .0)) (part-short s (v .start) (v .stop) (r .1)) (r .2) y
+        (pick (Ends N 0 (length xs)) (ltb most (length xs)) _ _ (λ z. (tt, omega arith, omega arith)) (λ z.
+        follows N 0 (length xs) (judge xs 0 (length xs)) _ (J xs) (λ u m w f g.
+        pick (Ends N 0 (length xs)) (eqb m (length xs)) _ _ (λ b. (omega arith, omega arith)) (λ b. (tt, omega arith, g))))));
+  }
 
   module _ {A B : Type 0} (k : ℕ) where
     pub pair-placed : (f : Run A) (g : Run B) → Placed P k f → Placed P k g → Placed P k (pair f g)
@@ -315,4 +345,4 @@ module _ (P : Fault → ℕ → Type 0) (plain : (w : Fault) (p : ℕ) → Plain
 -- what places the faults of a type, and blames its contents
 pub ruleset blaming = (number-blames, string-blames, null-blames, identifier-blames, listed-blames, only-blames, leaf-over-blames)
 
-pub ruleset placing = (blaming, prim-placed, cons-placed, sort-placed, barring-placed, maybe-placed, some-placed, nothing-placed, pair-placed, alt-placed, over-placed)
+pub ruleset placing = (blaming, prim-placed, cons-placed, sort-placed, barring-placed, maybe-placed, some-placed, any-placed, nothing-placed, pair-placed, alt-placed, over-placed)

@@ -1,5 +1,5 @@
 -- What writing answers and leaves, by how many octets there are.
-use Rattle.prelude.proofs.Prelude.{ℕ, _+_, _≤_, _<_, arith, zero-add, _≡_, refl, ap, sym, _∙_, Bool, true, not, List, _++_, length, drop, length-append, sets-eq, ltb, le-leb, lt-leb}
+use Rattle.prelude.proofs.Prelude.{ℕ, _+_, _≤_, _<_, arith, _≡_, refl, ap, sym, Bool, true, not, _∙_, List, _++_, length, length-append, ltb}
 use Rattle.prelude.proofs.Prelude.{ltb-true, ltb-false}
 use Rattle.coding.{specs.Written.Wrote, specs.Written.Room, specs.Written.lead, proofs.Basic.and-left, proofs.Holds.tested, proofs.Writing.lead-length, proofs.Writing.lead-length-short}
 use Rattle.coding.{proofs.Writing.lead-length-long, proofs.Writing.Split, proofs.Writing.room-first, proofs.Writing.room-rest, proofs.Writing.wrote-parts, proofs.Writing.split-length}
@@ -8,6 +8,7 @@ use Rattle.write_heads.{specs.Fronts.frontFine, specs.Fronts.frontOctets, proof
 use Rattle.write_rates.proofs.Prices.{was-false}
 use Rattle.write.specs.{declared.Written.Written, Outcome.done, Outcome.no, Outcome.writeOf, Outcome.leftOf, Parts.fineOf, Parts.chargeOctets, Parts.bodyOf}
 use Rattle.write.proofs.{Valid.valid-parts, Octets.write-parts}
+use Rattle.write.proofs.Family as Family
 
 -- w is the answer to a record, and after what it leaves
 abbrev Answers : Record → List ℕ → Written → List ℕ → Type 0
@@ -19,24 +20,20 @@ module _ (r : Record) (before : List ℕ) where
 
   refused-11 : component .valid r ≡ true → 254 < size → Answers r before (no 11) before
   unfolding writeOf leftOf
-  refused-11 v l = rw (v, lt-leb size 254 l) (refl, refl)
+  refused-11 = Family.refused-11 component r before
 
   refused-12 : component .valid r ≡ true → size ≤ 254 → length before < size → Answers r before (no 12) before
   unfolding writeOf leftOf
-  refused-12 v l h = rw (v, le-leb size 254 l, lt-leb size (length before) h) (refl, refl)
+  refused-12 = Family.refused-12 component r before
 
   wrote-all : (after : List ℕ) (k : ℕ) → component .valid r ≡ true → size ≤ 254 → size ≤ length before → Wrote before after 0 (component .write r) k → Answers r before (done k) after
   unfolding writeOf leftOf
-  wrote-all after k v l h w =
-      rw (v, le-leb size 254 l, le-leb size (length before) h) (
-        ap done (w .place ∙ zero-add size),
-        w .stored ∙ sets-eq (component .write r) before 0 (omega (arith, h)) ∙ ap (λ (j : ℕ). component .write r ++ drop j before) (zero-add size),
-      )
+  wrote-all = Family.wrote-all component r before
 
 pub not-fine : (r : Record) (before : List ℕ) {b : Bool} {w : Written} → r .front .id < 0x10000 → b ≡ fineOf (r .front) (r .charge) → not b ≡ true → w ≡ no 10
     → Answers r before w before
 unfolding writeOf leftOf
-not-fine r before l is t e = rw (e, valid-parts r l ∙ was-false is t) (refl, refl)
+not-fine r before l is t e = rw e (Family.refused-10 component r before (valid-parts r l ∙ was-false is t))
 
 -- a record that may be written, whose charge is n octets
 pub record Known (r : Record) (n : ℕ) : Type 0 where

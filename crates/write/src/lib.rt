@@ -9,7 +9,7 @@ ghost use lib.Dec.{eqb};
 ghost use Rattle.coding.specs.Written.{Wrote, Room};
 ghost use Rattle.write_heads.specs.Fronts.{frontFine, charged};
 ghost use Rattle.write.specs.Outcome.{no, writeOf, leftOf};
-ghost use Rattle.write_lists.specs.Octets.{withList};
+ghost use Rattle.write_tests.specs.Fine.{withList};
 ghost use Rattle.write.specs.Handed.{handed};
 ghost use Rattle.write.specs.Parts.{recordOf, fineOf, chargeOctets, bodyOf};
 

@@ -1,20 +1,21 @@
 -- The width of a number in octets from its leading zeros. The count of bits is tied to the number once, over any number of bits.
-use Rattle.prelude.proofs.Prelude.{_≡_, ℕ, suc, _+_, _-_, _*_, _/_, _^_, _≤_, _<_, lt-of-not-le, arith, ltb, pow-mono, leadingZeros, leading-top, ltb-true, ltb-false}
-use Rattle.coding.{specs.Leaves.width, proofs.Holds.tested, proofs.Number.width-1, proofs.Number.width-2, proofs.Number.width-3, proofs.Number.width-4}
+use Rattle.prelude.proofs.Prelude.{_≡_, ℕ, zero, suc, _+_, _-_, _*_, _/_, _^_, _≤_, _<_, arith, sym, _∙_, pow-suc, pow-mono, leadingZeros, leading-top}
+use Rattle.coding.{specs.Leaves.width, proofs.Digits.power-bits, proofs.Number.width-is}
 
--- a number from 2 ^ m on and below 2 ^ k: m is below k
-below : (m k v : ℕ) → 2 ^ m ≤ v → v < 2 ^ k → m < k
-below m k v h s = lt-of-not-le (λ (c : k ≤ m). omega (arith, pow-mono c))
+-- j octets do not hold a number, where they do not hold the odd number beside it
+least-odd : (j n v : ℕ) → v ≤ n / 2 * 2 + 1 → 256 ^ j ≤ 2 * v → 256 ^ j / 2 ≤ n
+least-odd zero n v near h = omega arith
+least-odd (suc j) n v near h = omega (arith, pow-suc 256 j)
 
 -- n's octets, where the highest bit of v stands at m, and v is n or the odd number beside it
 width-high : (n v m : ℕ) → n ≤ v → v ≤ n / 2 * 2 + 1 → 2 ^ m ≤ v → v < 2 ^ suc m → m ≤ 31 → (31 * m + 311) / 256 ≡ width n
 width-high n v m low near under over top =
-    tested (ltb n 0x80) (λ p. let f = ltb-true n 0x80 p in omega (arith, below m 7 v under (omega arith), width-1 n f)) (λ p.
-    let g = ltb-false n 0x80 p in
-    tested (ltb n 0x8000) (λ q. let f = ltb-true n 0x8000 q in omega (arith, below 7 (suc m) v (omega arith) over, below m 15 v under (omega arith), width-2 n g f)) (λ q.
-    let h = ltb-false n 0x8000 q in
-    tested (ltb n 0x800000) (λ r. let f = ltb-true n 0x800000 r in omega (arith, below 15 (suc m) v (omega arith) over, below m 23 v under (omega arith), width-3 n h f)) (λ r.
-    let f = ltb-false n 0x800000 r in omega (arith, below 23 (suc m) v (omega arith) over, width-4 n f))))
+    let j : ℕ = (31 * m + 311) / 256 - 1 in
+    let fewer : 2 ^ (8 * j) ≤ 2 ^ suc m = pow-mono (omega arith) in
+    let held : j < 3 → 2 ^ suc (suc m) ≤ 2 ^ (8 * suc j) = λ i. pow-mono (omega arith) in
+    let is = width-is j n (omega arith) (least-odd j n v near (omega (arith, power-bits j, pow-suc 2 m)))
+    (λ i. omega (arith, held i, power-bits (suc j), pow-suc 2 (suc m))) in
+    omega arith
 
 -- the count of an odd number is below 32, and gives the width of the number and of the even one below it
 pub zeros-odd : (v : ℕ) → v < 2 ^ 32 → 1 ≤ v → leadingZeros 32 v ≤ 31

@@ -33,54 +33,17 @@ pub fn put_lead(buf: &mut [u8], at: usize, tag: u8, n: usize) -> usize
     at + 3
 }
 
-// The low octet of a number; the two, three and four low octets, high first.
-fn put1(buf: &mut [u8], at: usize, n: u32) -> usize
-    requires { ⌜ at + 1 ≤ length (now buf) ⌝ }
-    ensures { λ r. ⌜ Wrote (now (buf .entry)) (now (buf .exit)) at (digits 1 n) r ⌝ }
-{
-    buf[at] = (n % 256) as u8;
-    at + 1
-}
-
-fn put2(buf: &mut [u8], at: usize, n: u32) -> usize
-    requires { ⌜ at + 2 ≤ length (now buf) ⌝ }
-    ensures { λ r. ⌜ Wrote (now (buf .entry)) (now (buf .exit)) at (digits 2 n) r ⌝ }
-{
-    buf[at] = (n / 256 % 256) as u8;
-    put1(buf, at + 1, n)
-}
-
-fn put3(buf: &mut [u8], at: usize, n: u32) -> usize
-    requires { ⌜ at + 3 ≤ length (now buf) ⌝ }
-    ensures { λ r. ⌜ Wrote (now (buf .entry)) (now (buf .exit)) at (digits 3 n) r ⌝ }
-{
-    buf[at] = (n / 65536 % 256) as u8;
-    put2(buf, at + 1, n)
-}
-
-fn put4(buf: &mut [u8], at: usize, n: u32) -> usize
-    requires { ⌜ at + 4 ≤ length (now buf) ⌝ }
-    ensures { λ r. ⌜ Wrote (now (buf .entry)) (now (buf .exit)) at (digits 4 n) r ⌝ }
-{
-    buf[at] = (n / 16777216 % 256) as u8;
-    put3(buf, at + 1, n)
-}
-
 // The w low octets of a number, high first.
 fn put_digits(buf: &mut [u8], at: usize, w: usize, n: u32) -> usize
-    requires { ⌜ (1 ≤ w) × (w ≤ 4) × (at + w ≤ length (now buf)) ⌝ }
+    requires { ⌜ (w ≤ 4) × (at + w ≤ length (now buf)) ⌝ }
     ensures { λ r. ⌜ Wrote (now (buf .entry)) (now (buf .exit)) at (digits w n) r ⌝ }
 {
-    if w == 1 {
-        return put1(buf, at, n);
+    if w == 0 {
+        return at;
     }
-    if w == 2 {
-        return put2(buf, at, n);
-    }
-    if w == 3 {
-        return put3(buf, at, n);
-    }
-    put4(buf, at, n)
+    let low = w - 1;
+    buf[at] = ((n >> (8 * (low as u32))) % 256) as u8;
+    put_digits(buf, at + 1, low, n)
 }
 
 // An element that holds a number.

@@ -1,18 +1,18 @@
 -- The octets of a charge's parts, how many they are, and that each has room where all have.
-use Rattle.prelude.proofs.Prelude.{ℕ, suc, _+_, _≤_, _<_, _≡_, refl, sym, ap, ap₂, _∙_, List, [], _∷_, _++_, Bool, true, false, _&&_, cond, arith, length, take, length-append, length-take}
-use Rattle.prelude.proofs.Prelude.{length-take-le, ltb, leb, eqb, eq-eqb, ne-eqb, eqb-true, eqb-false, le-ltb, ltb-true, ltb-false}
-use Rattle.coding.{specs.Codec.canonical, specs.Codec.over, specs.Codec.shape, specs.Codec.prim, specs.Codec.pair, specs.Codec.sort, specs.Codec.nothing, specs.Codec.leafOver}
+use Rattle.prelude.proofs.Prelude.{ℕ, suc, _+_, _≤_, _<_, _≡_, refl, sym, ap, ap₂, _∙_, List, [], _∷_, _++_, Bool, true, false, true≢false, _&&_, _||_, cond, arith, length, take, length-append, length-take}
+use Rattle.prelude.proofs.Prelude.{length-take-le, ltb, leb, leb·zero, eqb, eq-eqb, ne-eqb, eqb-true, eqb-false, le-ltb, ltb-true, ltb-false}
+use Rattle.coding.{specs.Codec.canonical, specs.Codec.over, specs.Codec.shape, specs.Codec.prim, specs.Codec.pair, specs.Codec.sort, specs.Codec.nothing, specs.Codec.leafOver, specs.Codec.cons}
 use Rattle.coding.{specs.Codec.lengthOctets, specs.Codec.padded, specs.Leaves.number, specs.Leaves.string, specs.Leaves.identifier, specs.Leaves.only, specs.Leaves.width}
-use Rattle.coding.{specs.Written.Wrote, specs.Written.Room, specs.Written.lead, specs.Written.fullNumber, proofs.Basic.and-left, proofs.Basic.and-right, proofs.Basic.unpicked}
+use Rattle.coding.{specs.Written.Wrote, specs.Written.Room, specs.Written.lead, specs.Written.fullNumber, proofs.Basic.and-left, proofs.Basic.and-right, proofs.Basic.and-both, proofs.Basic.unpicked}
 use Rattle.coding.{proofs.Writing.number-write, proofs.Writing.number-length, proofs.Writing.cons-write, proofs.Writing.lead-length-short, proofs.Writing.width-range}
 use Rattle.coding.{proofs.Writing.wrote-as, proofs.Writing.wrote-both, proofs.Writing.wrote-next, proofs.Writing.wrote-none, proofs.Writing.room-as, proofs.Writing.room-head}
 use Rattle.coding.{proofs.Writing.room-tail, proofs.Holds.tested, proofs.Small.small-length, proofs.Small.string-write, proofs.Small.string-length, proofs.Small.id-length}
 use Rattle.types.specs.{declared.Money.Money, declared.Currency.Currency, declared.Association.Association, declared.Scaled.Scaled, Charges.zeroOctet, Charges.scaled, Charges.currencyLeaf}
-use Rattle.types.specs.{Charges.currency, Charges.money, Charges.isDigit, Charges.isPlan, Charges.sameAssociation, Charges.byIdentifier, Charges.digitsLeaf, Charges.digitsOf}
-use Rattle.types.specs.{Charges.identified, Charges.publicParty, Charges.plainParty, Charges.party, Charges.unassociated, Charges.association}
-use Rattle.write_figures.specs.Octets.{element}
-use Rattle.write_tests.{specs.Fine.digitsFine, proofs.Truth.truth, proofs.Tests.scaled-is, proofs.Tests.money-is, proofs.Tests.public-is, proofs.Tests.plain-is, proofs.Tests.association-0}
-use Rattle.write_tests.{proofs.Tests.association-1, proofs.Tests.association-2, proofs.Tests.association-3}
+use Rattle.types.specs.{Charges.currency, Charges.money, Charges.isDigit, Charges.isPlan, Charges.digitsLeaf, Charges.digitsOf}
+use Rattle.types.specs.{Charges.identified, Charges.planned, Charges.partyNumber, Charges.plainParty, Charges.party, Charges.unassociated, Charges.association}
+use Rattle.write_figures.specs.Octets.{element, planTag}
+use Rattle.write_tests.{specs.Fine.digitsFine, specs.Fine.isPlanned, proofs.Truth.truth, proofs.Tests.scaled-is, proofs.Tests.money-is, proofs.Tests.planned-is, proofs.Tests.plain-is, proofs.Tests.number-planned}
+use Rattle.write_tests.{proofs.Tests.number-plain, proofs.Tests.association-number}
 
 -- ---- by a test, by the kind of an association, by the time of a charge
 
@@ -23,8 +23,8 @@ by-test false f g h = g refl h
 by-number : {P : Type 0} (k n : ℕ) → (k ≡ n → P) → ((k ≡ n → ⊥) → P) → P
 by-number k n f g = tested (eqb k n) (λ e. f (eqb-true k n e)) (λ e. g (eqb-false k n e))
 
-pub by-kind : {P : Type 0} (k : ℕ) → (k ≡ 0 → P) → (k ≡ 1 → P) → (k ≡ 3 → P) → ((k ≡ 0 → ⊥) → (k ≡ 1 → ⊥) → (k ≡ 3 → ⊥) → P) → P
-by-kind k f g h i = by-number k 0 f (λ a. by-number k 1 g (λ b. by-number k 3 h (i a b)))
+pub by-kind : {P : Type 0} (k : ℕ) → (k ≡ 0 → P) → (k ≡ 1 → P) → ((k ≡ 0 → ⊥) → (k ≡ 1 → ⊥) → P) → P
+by-kind k f g h = by-number k 0 f (λ a. by-number k 1 g (h a))
 
 pub by-time : {P : Type 0} (o : ℕ) → (o < 35 → P) → (35 ≤ o → P) → P
 by-time o f g = tested (ltb o 35) (λ e. f (ltb-true o 35 e)) (λ e. g (ltb-false o 35 e))
@@ -99,17 +99,17 @@ module _ (tag w : ℕ) (s : Scaled) (h : s .scale ≤ 6) (e : w ≡ width (s .nu
 -- ---- money
 
 -- a valid currency has room for its octets
-currency-room : (tag : ℕ) (c : Currency) → (currency tag) .valid c ≡ true → (c .count ≤ 10) × (length (c .octets) ≡ 10)
+currency-room : (tag : ℕ) (c : Currency) → (currency true tag) .valid c ≡ true → (c .count ≤ 10) × (length (c .octets) ≡ 10)
 unfolding currency prim currencyLeaf leafOver padded
 currency-room tag c v = let g = simp truth at (and-left (padded 10 zeroOctet (c .octets, c .count)) _ v) in (g .0, g .1 .0)
 
-module _ (m : Money) (v : money .valid m ≡ true) where
+module _ (m : Money) (v : (money true) .valid m ≡ true) where
   abbrev amount : Scaled
   amount = record { number = m .number; scale = m .multiplier }
 
   pub money-room : (m .currency .count ≤ 10) × (length (m .currency .octets) ≡ 10) × (m .number ≤ 16777215) × (m .multiplier ≤ 6)
   money-room =
-      let w = sym (money-is m) ∙ v in
+      let w = sym (money-is true m) ∙ v in
       let g = simp truth at (sym (scaled-is 0xa2 amount) ∙ and-left ((scaled 0xa2) .valid amount) _ w) in
       let q = currency-room 0x81 (m .currency) (and-right ((scaled 0xa2) .valid amount) _ w) in
       (q .0, q .1, g .0, g .1)
@@ -126,13 +126,13 @@ module _ (m : Money) (v : money .valid m ≡ true) where
   abbrev currencyOctets : List ℕ
   currencyOctets = 0x81 ∷ lengthOctets (m .currency .count) ++ take (m .currency .count) (m .currency .octets)
 
-  pub money-octets : money .write m ≡ currencyOctets ++ (scaled 0xa2) .write amount
+  pub money-octets : (money true) .write m ≡ currencyOctets ++ (scaled 0xa2) .write amount
   unfolding money shape over pair currency prim currencyLeaf leafOver string
   money-octets =
       ap (λ (k : ℕ). (0x81 ∷ lengthOctets k ++ take (m .currency .count) (m .currency .octets)) ++ (scaled 0xa2) .write amount)
       (length-take-le (m .currency .count) (m .currency .octets) money-fits)
 
-  pub money-length : (w : ℕ) → w ≡ width (m .number) → 9 + m .currency .count + w ≡ length (money .write m)
+  pub money-length : (w : ℕ) → w ≡ width (m .number) → 9 + m .currency .count + w ≡ length ((money true) .write m)
   money-length w e =
       omega (
         arith,
@@ -143,8 +143,26 @@ module _ (m : Money) (v : money .valid m ≡ true) where
         scaled-length 0xa2 w amount money-multiplier e,
       )
 
-  pub money-1 : {l : List ℕ} {a : ℕ} → Room l a (money .write m) → Room l a currencyOctets
+  pub money-1 : {l : List ℕ} {a : ℕ} → Room l a ((money true) .write m) → Room l a currencyOctets
   money-1 r = room-head _ (room-as r money-octets)
+
+-- a trunk takes what document 01 takes, and writes it alike
+currency-wider : (c : Currency) → (currency false 0x81) .valid c ≡ true → (currency true 0x81) .valid c ≡ true
+unfolding currency prim currencyLeaf leafOver string
+currency-wider c v =
+    let p = padded 10 zeroOctet (c .octets, c .count) in
+    let w = and-right p _ v in
+    and-both p _ (and-left p _ v) (rw (leb·zero (length (take (c .count) (c .octets)))) (and-right (leb 1 (length (take (c .count) (c .octets)))) _ w))
+
+pub money-wider : (m : Money) → (money false) .valid m ≡ true → (money true) .valid m ≡ true
+money-wider m v =
+    let s = (scaled 0xa2) .valid (record { number = m .number; scale = m .multiplier }) in
+    let w = sym (money-is false m) ∙ v in
+    money-is true m ∙ and-both s _ (and-left s _ w) (currency-wider (m .currency) (and-right s _ w))
+
+pub money-same : (trunk : Bool) (m : Money) → (money trunk) .write m ≡ (money true) .write m
+unfolding money shape over pair currency prim currencyLeaf leafOver string
+money-same trunk m = refl
 
 -- ---- associations
 
@@ -159,130 +177,154 @@ digits-room ds n v =
     let e : length (take n ds) ≡ n = g .0 .0 in
     (omega (arith, g .1 .1 .0), omega (arith, length-take n ds))
 
-module _ (a : Association) where
-  pub association-none : a .kind ≡ 0 → association .write a ≡ []
+module _ (trunk : Bool) (a : Association) where
+  pub association-none : a .kind ≡ 0 → (association trunk) .write a ≡ []
   unfolding association sort unassociated canonical over nothing
   association-none e = rw (ne-eqb (a .kind) 1 (λ z. omega arith), eq-eqb (a .kind) 0 e)
 
-  pub association-id : a .kind ≡ 1 → association .write a ≡ (prim 0x02 identifier) .write (a .id)
+  pub association-id : a .kind ≡ 1 → (association trunk) .write a ≡ (prim 0x02 identifier) .write (a .id)
   unfolding association sort identified canonical over
   association-id e = rw (eq-eqb (a .kind) 1 e)
 
-  pub none-length : a .kind ≡ 0 → 0 ≡ length (association .write a)
+  pub none-length : a .kind ≡ 0 → 0 ≡ length ((association trunk) .write a)
   none-length e = sym (ap length (association-none e))
 
-  pub id-size : (w : ℕ) → w ≡ length (identifier .write (a .id)) → a .kind ≡ 1 → 2 + w ≡ length (association .write a)
+  pub id-size : (w : ℕ) → w ≡ length (identifier .write (a .id)) → a .kind ≡ 1 → 2 + w ≡ length ((association trunk) .write a)
   id-size w q e = omega (arith, ap length (association-id e), id-length 0x02 (a .id))
 
--- what a valid association holds: its digits have room, and its plan is one octet
-module _ (a : Association) (v : association .valid a ≡ true) where
-  association-holds : (a .count ≤ 20) × (a .count ≤ length (a .digits)) × (a .plan ≤ 6)
-  unfolding identified canonical over
-  association-holds =
-      by-kind (a .kind) (λ e. let g = simp truth at (sym (association-0 a e) ∙ v) in omega (arith, g))
-      (λ e. let g = simp truth at (and-left (sameAssociation (byIdentifier (a .id)) a) _ (sym (association-1 a e) ∙ v)) in omega (arith, g))
-      (λ e. numbered (eqb 3 (a .kind) && (eqb 0 (a .id) && (leb (a .plan) 6 && isPlan (a .plan)))) (λ q. let g = simp truth at q in omega (arith, g))
-      (sym (public-is a) ∙ sym (association-3 a e) ∙ v))
-      (λ x y z. numbered (eqb 2 (a .kind) && (eqb 0 (a .id) && eqb 0 (a .plan))) (λ q. let g = simp truth at q in omega (arith, g))
-      (sym (plain-is a) ∙ sym (association-2 a x y z) ∙ v))
+-- a test that the code made
+pub told : {r b c : Bool} → r ≡ b → r ≡ c → b ≡ c
+told e h = sym e ∙ h
+
+-- ---- numbers: what a valid one holds: its digits have room, and its plan is one octet
+
+module _ (a : Association) (v : (partyNumber true) .valid a ≡ true) where
+  number-holds : (a .count ≤ 20) × (a .count ≤ length (a .digits)) × (a .plan ≤ 6)
+  number-holds =
+      tested (isPlanned true (a .kind))
+      (λ e. holding (eqb (a .kind) (a .kind) && (eqb 0 (a .id) && (leb (a .plan) 6 && isPlan (a .plan)))) (λ q. let g = simp truth at q in omega (arith, g))
+      (sym (planned-is 0xa1 (a .kind) a) ∙ sym (number-planned true a e) ∙ v))
+      (λ e. holding (eqb 2 (a .kind) && (eqb 0 (a .id) && eqb 0 (a .plan))) (λ q. let g = simp truth at q in omega (arith, g)) (sym (plain-is a) ∙ sym (number-plain true a e) ∙ v))
     where
-      numbered : (b : Bool) → (b ≡ true → a .plan ≤ 6) → b && digitsFine (a .digits) (a .count) ≡ true → (a .count ≤ 20) × (a .count ≤ length (a .digits)) × (a .plan ≤ 6)
-      numbered b p w = omega (arith, p (and-left b _ w), digits-room (a .digits) (a .count) (and-right b _ w))
+      holding : (b : Bool) → (b ≡ true → a .plan ≤ 6) → b && digitsFine (a .digits) (a .count) ≡ true → (a .count ≤ 20) × (a .count ≤ length (a .digits)) × (a .plan ≤ 6)
+      holding b p w = omega (arith, p (and-left b _ w), digits-room (a .digits) (a .count) (and-right b _ w))
 
-  pub association-count : a .count ≤ 20
-  association-count = association-holds .0
+  pub number-count : a .count ≤ 20
+  number-count = number-holds .0
 
-  pub association-fits : a .count ≤ length (a .digits)
-  association-fits = association-holds .1
+  pub number-fits : a .count ≤ length (a .digits)
+  number-fits = number-holds .1
 
-  pub association-plan : a .plan ≤ 6
-  association-plan = association-holds .2
+  pub number-plan : a .plan ≤ 6
+  number-plan = number-holds .2
 
   digits-write : (tag : ℕ) → (prim tag digitsLeaf) .write (digitsOf a) ≡ digitsElement tag a
   unfolding digitsLeaf
-  digits-write tag = string-write tag 1 20 isDigit (a .digits) (a .count) association-fits
+  digits-write tag = string-write tag 1 20 isDigit (a .digits) (a .count) number-fits
 
   digits-length : (tag : ℕ) → 2 + a .count ≡ length (digitsElement tag a)
   digits-length tag =
-      omega (arith, string-length tag (a .count) (a .digits) association-fits, lead-length-short tag (a .count) (omega (arith, association-count)))
+      omega (arith, string-length tag (a .count) (a .digits) number-fits, lead-length-short tag (a .count) (omega (arith, number-count)))
 
-  -- ---- a number with its plan
+  -- ---- with its plan
 
-  abbrev publicOctets : List ℕ
-  publicOctets = fullNumber 0x0a (a .plan) ++ digitsElement 0x12 a
+  abbrev planOctets : List ℕ
+  planOctets = fullNumber 0x0a (a .plan) ++ digitsElement 0x12 a
 
-  public-contents : 5 + a .count ≡ length publicOctets
-  public-contents =
-      omega (arith, length-append (fullNumber 0x0a (a .plan)) (digitsElement 0x12 a), small-length 0x0a (a .plan) (omega (arith, association-plan)), digits-length 0x12)
+  plan-contents : 5 + a .count ≡ length planOctets
+  plan-contents =
+      omega (arith, length-append (fullNumber 0x0a (a .plan)) (digitsElement 0x12 a), small-length 0x0a (a .plan) (omega (arith, number-plan)), digits-length 0x12)
 
-  public-element : 7 + a .count ≡ length (lead 0xa1 (5 + a .count) ++ publicOctets)
-  public-element =
-      omega (arith, length-append (lead 0xa1 (5 + a .count)) publicOctets, lead-length-short 0xa1 (5 + a .count) (omega (arith, association-count)), public-contents)
+  module _ (e : isPlanned true (a .kind) ≡ true) where
+    -- written as its tag alone would be
+    planned-write : (partyNumber true) .write a ≡ (planned (planTag (a .kind)) 3) .write a
+    unfolding partyNumber sort planned cons canonical over
+    planned-write = tested (eqb (a .kind) 3) (λ h. rw (h, eqb-true (a .kind) 3 h)) (λ h. let w : eqb (a .kind) 4 ≡ true = rw h at e in rw (h, w))
 
-  module _ (e : a .kind ≡ 3) where
-    public-octets : association .write a ≡ lead 0xa0 (7 + a .count) ++ (lead 0xa1 (5 + a .count) ++ publicOctets)
-    unfolding association party sort publicParty canonical over pair prim only
-    public-octets =
-        rw (ne-eqb (a .kind) 1 (λ z. omega arith), ne-eqb (a .kind) 0 (λ z. omega arith))
-        (cons-write 0xa0 _ a
-        ∙ rw (eq-eqb (a .kind) 3 e)
-        (ap (element 0xa0) (cons-write 0xa1 _ a
-        ∙ ap (element 0xa1) (ap₂ (λ (x y : List ℕ). x ++ y) (number-write 0x0a 0 6 (a .plan)) (digits-write 0x12))
-        ∙ element-as 0xa1 (5 + a .count) publicOctets public-contents)
-        ∙ element-as 0xa0 (7 + a .count) (lead 0xa1 (5 + a .count) ++ publicOctets) public-element))
+    module _ {tag : ℕ} (t : tag ≡ planTag (a .kind)) where
+      pub planned-octets : (partyNumber true) .write a ≡ lead tag (5 + a .count) ++ planOctets
+      unfolding planned canonical over pair prim only
+      planned-octets =
+          planned-write ∙ ap (λ (k : ℕ). (planned k 3) .write a) (sym t) ∙ cons-write tag _ a
+          ∙ ap (element tag) (ap₂ (λ (x y : List ℕ). x ++ y) (number-write 0x0a 0 6 (a .plan)) (digits-write 0x12))
+          ∙ element-as tag (5 + a .count) planOctets plan-contents
 
-    pub public-length : a .count + 9 ≡ length (association .write a)
-    public-length =
+      module _ {l : List ℕ} {x : ℕ} (r : Room l x ((partyNumber true) .write a)) where
+        pub planned-1 : Room l x (lead tag (5 + a .count))
+        planned-1 = room-head planOctets (room-as r planned-octets)
+
+        pub planned-2 : {m : List ℕ} {y : ℕ} → Wrote l m x (lead tag (5 + a .count)) y → Room m y (fullNumber 0x0a (a .plan))
+        planned-2 p = room-head (digitsElement 0x12 a) (room-2 planned-octets r p)
+
+        pub planned-3 : {m n : List ℕ} {y z : ℕ} → Wrote l m x (lead tag (5 + a .count)) y → Wrote m n y (fullNumber 0x0a (a .plan)) z → Room n z (digitsElement 0x12 a)
+        planned-3 = room-3 planned-octets r
+
+    pub planned-length : a .count + 7 ≡ length ((partyNumber true) .write a)
+    planned-length =
+        let tag = planTag (a .kind) in
         omega (
           arith,
-          ap length public-octets,
-          length-append (lead 0xa0 (7 + a .count)) (lead 0xa1 (5 + a .count) ++ publicOctets),
-          lead-length-short 0xa0 (7 + a .count) (omega (arith, association-count)),
-          public-element,
+          ap length (planned-octets refl),
+          length-append (lead tag (5 + a .count)) planOctets,
+          lead-length-short tag (5 + a .count) (omega (arith, number-count)),
+          plan-contents,
         )
 
-    module _ {l : List ℕ} {x : ℕ} (r : Room l x (association .write a)) where
-      pub public-1 : Room l x (lead 0xa0 (7 + a .count))
-      public-1 = room-head _ (room-as r public-octets)
+  -- ---- without
 
-      module _ {m : List ℕ} {y : ℕ} (p : Wrote l m x (lead 0xa0 (7 + a .count)) y) where
-        public-rest : Room m y (lead 0xa1 (5 + a .count) ++ publicOctets)
-        public-rest = room-2 public-octets r p
-
-        pub public-2 : Room m y (lead 0xa1 (5 + a .count))
-        public-2 = room-head publicOctets public-rest
-
-        module _ {n : List ℕ} {z : ℕ} (q : Wrote m n y (lead 0xa1 (5 + a .count)) z) where
-          pub public-3 : Room n z (fullNumber 0x0a (a .plan))
-          public-3 = room-head (digitsElement 0x12 a) (room-tail q public-rest)
-
-          module _ {o : List ℕ} {w : ℕ} (t : Wrote n o z (fullNumber 0x0a (a .plan)) w) where
-            pub public-4 : Room o w (digitsElement 0x12 a)
-            public-4 = room-tail t (room-tail q public-rest)
-
-            pub public-all : {k : List ℕ} {d : ℕ} → Wrote o k w (digitsElement 0x12 a) d → Wrote l k x (association .write a) d
-            public-all u = wrote-three public-octets p q (wrote-both t u)
-
-  -- ---- a number without
-
-  module _ (k0 : a .kind ≡ 0 → ⊥) (k1 : a .kind ≡ 1 → ⊥) (k3 : a .kind ≡ 3 → ⊥) where
-    pub plain-octets : association .write a ≡ lead 0xa0 (2 + a .count) ++ digitsElement 0x80 a
-    unfolding association party sort plainParty canonical over
+  module _ (e : isPlanned true (a .kind) ≡ false) where
+    pub plain-octets : (partyNumber true) .write a ≡ digitsElement 0x80 a
+    unfolding partyNumber sort plainParty canonical over
     plain-octets =
-        rw (ne-eqb (a .kind) 1 k1, ne-eqb (a .kind) 0 k0)
-        (cons-write 0xa0 _ a
-        ∙ rw (ne-eqb (a .kind) 3 k3)
-        (ap (element 0xa0) (digits-write 0x80) ∙ element-as 0xa0 (2 + a .count) (digitsElement 0x80 a) (digits-length 0x80)))
+        tested (eqb (a .kind) 3) (λ h. absurd (true≢false (sym (ap (λ (b : Bool). b || eqb (a .kind) 4) h) ∙ e)))
+        (λ h. let w : eqb (a .kind) 4 ≡ false = rw h at e in rw (h, w) (digits-write 0x80))
 
-    pub plain-length : a .count + 4 ≡ length (association .write a)
-    plain-length =
-        omega (
-          arith,
-          ap length plain-octets,
-          length-append (lead 0xa0 (2 + a .count)) (digitsElement 0x80 a),
-          lead-length-short 0xa0 (2 + a .count) (omega (arith, association-count)),
-          digits-length 0x80,
-        )
+    pub plain-length : a .count + 2 ≡ length ((partyNumber true) .write a)
+    plain-length = omega (arith, ap length plain-octets, digits-length 0x80)
 
-    pub plain-1 : {l : List ℕ} {x : ℕ} → Room l x (association .write a) → Room l x (lead 0xa0 (2 + a .count))
-    plain-1 r = room-head _ (room-as r plain-octets)
+  -- ---- in an element; k octets
+
+  module _ (tag k : ℕ) (e : k ≡ length ((partyNumber true) .write a)) where
+    pub address-octets : (cons tag (partyNumber true)) .write a ≡ lead tag k ++ (partyNumber true) .write a
+    address-octets = cons-write tag (partyNumber true) a ∙ element-as tag k ((partyNumber true) .write a) e
+
+    pub address-length : k ≤ 27 → 2 + k ≡ length ((cons tag (partyNumber true)) .write a)
+    address-length h = omega (arith, ap length address-octets, length-append (lead tag k) ((partyNumber true) .write a), lead-length-short tag k (omega arith))
+
+    pub address-1 : {l : List ℕ} {x : ℕ} → Room l x ((cons tag (partyNumber true)) .write a) → Room l x (lead tag k)
+    address-1 r = room-head _ (room-as r address-octets)
+
+-- a trunk takes the numbers that document 01 takes, and writes them alike
+number-wider : (trunk : Bool) (a : Association) → (partyNumber trunk) .valid a ≡ true
+    → ((partyNumber true) .valid a ≡ true) × ((partyNumber trunk) .write a ≡ (partyNumber true) .write a)
+unfolding partyNumber sort
+number-wider true a v = (v, refl)
+number-wider false a v = tested (eqb (a .kind) 3) three plain
+  where
+    three : eqb (a .kind) 3 ≡ true → ((partyNumber true) .valid a ≡ true) × ((partyNumber false) .write a ≡ (partyNumber true) .write a)
+    three e = (rw e (rw e at v), rw e)
+
+    plain : eqb (a .kind) 3 ≡ false → ((partyNumber true) .valid a ≡ true) × ((partyNumber false) .write a ≡ (partyNumber true) .write a)
+    plain e =
+        let w : plainParty .valid a ≡ true = rw e at v in
+        let g = simp truth at (and-left (eqb 2 (a .kind) && (eqb 0 (a .id) && eqb 0 (a .plan))) _ (sym (plain-is a) ∙ w)) in
+        let four = ne-eqb (a .kind) 4 (λ z. omega (arith, g)) in
+        (rw (e, four) w, rw (e, four))
+
+-- ---- associations by a number
+
+module _ (trunk : Bool) (a : Association) (v : (association trunk) .valid a ≡ true) (k0 : a .kind ≡ 0 → ⊥) (k1 : a .kind ≡ 1 → ⊥) where
+  wider : ((partyNumber true) .valid a ≡ true) × ((partyNumber trunk) .write a ≡ (partyNumber true) .write a)
+  wider = number-wider trunk a (sym (association-number trunk a k0 k1) ∙ v)
+
+  pub party-valid : (partyNumber true) .valid a ≡ true
+  party-valid = wider .0
+
+  pub party-octets : (association trunk) .write a ≡ (cons 0xa0 (partyNumber true)) .write a
+  unfolding association party sort
+  party-octets =
+      rw (ne-eqb (a .kind) 1 k1, ne-eqb (a .kind) 0 k0)
+      (cons-write 0xa0 (partyNumber trunk) a ∙ ap (element 0xa0) (wider .1) ∙ sym (cons-write 0xa0 (partyNumber true) a))
+
+  pub party-length : (r : ℕ) → ((tag : ℕ) → r ≡ length ((cons tag (partyNumber true)) .write a)) → r ≡ length ((association trunk) .write a)
+  party-length r e = e 0xa0 ∙ sym (ap length party-octets)

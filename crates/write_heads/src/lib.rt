@@ -25,7 +25,7 @@ fn is_operation(n: u8) -> bool
     true
 }
 
-fn problem_fine(problem: u8, detail: u8) -> bool
+pub fn problem_fine(problem: u8, detail: u8) -> bool
     ensures { λ r. ⌜ r ≡ problemFine problem detail ⌝ }
 {
     if problem == 0x80 {
@@ -145,7 +145,7 @@ fn reject_fine(f: types::Front) -> bool
     problem_fine(f.problem, f.detail)
 }
 
-fn is_called(unnamed: u8, id: u16) -> bool
+pub fn is_called(unnamed: u8, id: u16) -> bool
     ensures { λ r. ⌜ r ≡ cond (eqb unnamed 1) (eqb 0 id) (eqb 0 unnamed) ⌝ }
 {
     if unnamed == 1 {

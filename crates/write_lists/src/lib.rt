@@ -11,8 +11,8 @@ ghost use Rattle.coding.specs.Codec.{all, writeAll};
 ghost use Rattle.coding.specs.Written.{Wrote, Room};
 ghost use Rattle.types.specs.Entries.{unit, unitAt, unitList};
 ghost use Rattle.types.specs.Arguments.{chargeOf};
-ghost use Rattle.write_tests.specs.Fine.{laid, figureFine, unitsFine, ratesFine, entriesFine};
-ghost use Rattle.write_lists.specs.Octets.{numberOctets, typeOctets, withList, unitsCharge, ratesCharge};
+ghost use Rattle.write_tests.specs.Fine.{laid, withList, figureFine, unitsFine, entriesFine};
+ghost use Rattle.write_lists.specs.Octets.{numberOctets, typeOctets, unitsCharge};
 
 // ---- an entry of units
 
@@ -181,7 +181,7 @@ fn entries_fine(f: Figure, numbers: &[u32; 32], octets: &[u8; 192]) -> bool
         return units_fine(numbers, octets, f.count);
     }
     if f.kind == 4 {
-        return write_rates::rates_fine(numbers, octets, f.count);
+        return write_rates::rates_fine(numbers, octets, f.count, false);
     }
     if f.count != 0 {
         return false;
@@ -248,26 +248,6 @@ fn put_units_charge(
     write_figures::put_after(buf, q, f, operation)
 }
 
-// A 30 that holds rates.
-fn put_rates_charge(
-    buf: &mut [u8],
-    at: usize,
-    numbers: &[u32; 32],
-    octets: &[u8; 192],
-    count: u8,
-) -> usize
-    requires { ⌜ length (now octets) ≡ 192 ⌝ }
-    requires { ⌜ ratesFine (laid (now numbers) (now octets)) count ≡ true ⌝ }
-    requires { ⌜ length (ratesCharge (laid (now numbers) (now octets)) count) ≤ 254 ⌝ }
-    requires { ⌜ Room (now buf) at (ratesCharge (laid (now numbers) (now octets)) count) ⌝ }
-    ensures { λ r. ⌜ Wrote (now (buf .entry)) (now (buf .exit)) at (ratesCharge (laid (now (numbers .entry)) (now (octets .entry))) count) r ⌝ }
-{
-    let n = count as usize;
-    let size = write_rates::rates_size(numbers, octets, n);
-    let p = write_elements::put_lead(buf, at, 0x30, size);
-    write_rates::put_rates(buf, p, numbers, octets, n)
-}
-
 // A valid charge of at most 254 octets.
 pub fn put_charge(
     buf: &mut [u8],
@@ -288,7 +268,7 @@ pub fn put_charge(
         return put_units_charge(buf, at, f, numbers, octets, operation);
     }
     if f.kind == 4 {
-        return put_rates_charge(buf, at, numbers, octets, f.count);
+        return write_rates::put_rates_charge(buf, at, numbers, octets, f.count);
     }
     write_figures::put_figure(buf, at, f, operation)
 }

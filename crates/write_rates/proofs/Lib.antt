@@ -3,3 +3,4 @@ pub mod Tables
 pub mod Places
 pub mod Prices
 pub mod Octets
+pub mod Listed

@@ -23,10 +23,11 @@ returns-3 c =
 
 returns-4 : tie.Need-returns-4
 returns-4 c =
-    let w = c .before .before in
+    let t = c .before .before in
+    let w = t .before in
     let e = w .before .before in
     let l = long (e .before .before) in
-    (third-decides _ l (e .if2 .left) (sym (w .wide .ensures .0) ∙ c .before .if3 .left), λ e. (l, omega (arith, w .wide .ensures .1)))
+    (c .is-profile .ensures ∙ third-decides _ l (e .if2 .left) (sym (w .wide .ensures .0) ∙ t .if3 .left), λ e. (l, omega (arith, w .wide .ensures .1)))
 
 pub is-led-spec : {M : Type 1} → statement M
-is-led-spec = tie.close (tie.spec returns (search needs) returns-2 (search needs) (search needs) (search needs) returns-3 (search needs) returns-4)
+is-led-spec = tie.close (tie.spec returns (search needs) returns-2 (search needs) (search needs) (search needs) returns-3 (search needs) (search needs) returns-4)

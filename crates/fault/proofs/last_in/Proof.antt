@@ -84,7 +84,8 @@ last-in-spec =
     (omega arith)
     part
     (search needs)
-    (λ c. let counted = c .before .before .before in let in-loop = counted .before in let call = in-loop .before .before .before in omega (arith, in-loop .loop-test .taken, call .before .before .fits .k .fits))
+    (λ c. let counted = c .before .before .before in let in-loop = counted .before in let call = in-loop .before .before .before in
+    omega (arith, in-loop .loop-test .taken, call .before .before .fits .k .fits))
     (omega arith)
     loop-again
     returns)

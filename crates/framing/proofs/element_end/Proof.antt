@@ -6,7 +6,10 @@ returns-2 : tie.Need-returns-2
 returns-2 c = sym (rw (lt-leb _ _ (c .before .before .before .if1 .left), ← c .wide .ensures .0))
 
 returns-3 : tie.Need-returns-3
-returns-3 c = let x = c .before .before .before .before .args in sym (rw (lt-leb _ _ (c .before .if1 .left), past-end (x .s .now) (x .at + 1) (c .if2 .left)) (omega arith))
+returns-3 c =
+    let s = c .before .before .before in
+    let x = s .before .args in
+    sym (rw (lt-leb _ _ (c .before .if1 .left), past-end (x .s .now) (x .at + 1) (c .if2 .left)) (omega arith))
 
 pub element-end-spec : {M : Type 1} → statement M
 element-end-spec =

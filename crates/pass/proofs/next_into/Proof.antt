@@ -1,23 +1,37 @@
--- Where a component was found, its answer is that of its octets by themselves.
-use Rattle.prelude.proofs.Prelude.{arith, sym, ap, _∙_, needs}
-use Rattle.coding.specs.Reader.{part}
-use Rattle.types.specs.declared.Answer.{Answer}
-use Rattle.pass.proofs.next_into.Statement.{statement}
+-- Where a component was found, its answer is that of its octets by themselves, or 17.
+use Rattle.prelude.proofs.Prelude.{arith, sym, _∙_, needs, eq-eqb, ne-eqb}
+use Rattle.coding.{specs.Reader.part, proofs.Basic.picked, proofs.Basic.unpicked}
+use Rattle.pass.specs.Pass.{lines}
+use Rattle.pass.proofs.{Order.pass-none, Order.pass-some, next_into.Statement.statement}
 use Rattle.pass.proofs.next_into.Tie as tie
 
-returns-2 : tie.Need-returns-2
-unfolding part
-returns-2 c =
-    let lent = c .before .before .before in
-    let i = lent .before .before .before in
+returns : tie.Need-returns
+returns c =
+    let zeroed = c .before .before .before in
+    let i = zeroed .before .before in
     let f = i .before .find in
-    let there = f .ensures .1 (i .if1 .left) .2 in
-    ap (λ (a : Answer). record { ended = 0; after = f .result .after; answer = a }) (c .read-into .ensures) ∙ sym there
+    c .without .ensures ∙ pass-none lines _ _ (f .result) (f .ensures .0) (i .if1 .taken)
+
+returns-2 : tie.Need-returns-2
+returns-2 c =
+    let zeroed = c .before .before .before in
+    let other = zeroed .before .before in
+    let i = other .before .before in
+    let f = i .before .find in
+    c .without2 .ensures ∙ pass-some lines _ _ (f .result) _ (f .ensures .0) (i .if1 .left) (sym (unpicked _ _ (ne-eqb _ _ (other .if2 .taken))))
+
+returns-3 : tie.Need-returns-3
+unfolding part
+returns-3 c =
+    let lent = c .before .before .before in
+    let line = lent .before .before .before in
+    let i = line .before .before in
+    let f = i .before .find in
+    pass-some lines _ _ (f .result) _ (f .ensures .0) (i .if1 .left) (c .read-into .ensures ∙ sym (picked _ _ (eq-eqb _ _ (line .if2 .left))))
 
 pub next-into-spec : {M : Type 1} → statement M
 next-into-spec =
     tie.close
-    (tie.spec (search needs) (search needs)
-    (λ c. let zeroed = c .before .before .before in let i = zeroed .before .before in c .without .ensures ∙ sym (i .before .find .ensures .0 (i .if1 .taken)))
-    (λ c. omega (arith, (c .before .find .ensures .1 (c .if1 .left)) .0)) (λ c. omega (arith, (c .before .find .ensures .1 (c .if1 .left)) .0))
-    (λ c. omega (arith, (c .before .find .ensures .1 (c .if1 .left)) .1)) (search needs) returns-2)
+    (tie.spec (search needs) (search needs) returns (λ c. let i = c .before in omega (arith, i .before .find .ensures .1 (i .if1 .left) .2)) (search needs) returns-2
+    (λ c. let i = c .before .before in omega (arith, i .before .find .ensures .1 (i .if1 .left) .0)) (λ c. let i = c .before .before in omega (arith, i .before .find .ensures .1 (i .if1 .left) .0))
+    (λ c. let i = c .before .before in omega (arith, i .before .find .ensures .1 (i .if1 .left) .1)) (search needs) returns-3)

@@ -22,7 +22,8 @@ returns-3 c =
     let e = d .before .before .before in
     let p = e .before .before in
     let x = p .before .before .before .args in
-    closing-d (reverse (eventsOf (x .rows .now) (x .octets .now))) (p .phase-in .result) (p .phase-in .ensures) (e .before .if1 .left) (e .last-kept .result) (e .last-kept .ensures) (d .before .if2 .left)
+    closing-d (reverse (eventsOf (x .rows .now) (x .octets .now))) (p .phase-in .result) (p .phase-in .ensures) (e .before .if1 .left) (e .last-kept .result) (e .last-kept .ensures)
+    (d .before .if2 .left)
     (d .last-kept2 .result) (d .last-kept2 .ensures) (c .if3 .taken)
 
 returns-4 : tie.Need-returns-4
@@ -31,8 +32,10 @@ returns-4 c =
     let e = d .before .before .before in
     let p = e .before .before in
     let x = p .before .before .before .args in
-    closing-none (reverse (eventsOf (x .rows .now) (x .octets .now))) (p .phase-in .result) (p .phase-in .ensures) (e .before .if1 .left) (e .last-kept .result) (e .last-kept .ensures) (d .before .if2 .left)
+    closing-none (reverse (eventsOf (x .rows .now) (x .octets .now))) (p .phase-in .result) (p .phase-in .ensures) (e .before .if1 .left) (e .last-kept .result) (e .last-kept .ensures)
+    (d .before .if2 .left)
     (d .last-kept2 .result) (d .last-kept2 .ensures) (c .before .if3 .left) (c .no-charge2 .result) (c .no-charge2 .ensures)
 
 pub closing-in-spec : {M : Type 1} → statement M
-closing-in-spec = tie.close (tie.spec (λ c κs. c .before .before .pre) (search needs) returns (λ c κs. let far = c .before .before .before in far .before .pre) returns-2 (λ c κs. let far = c .before .before .before in let far2 = far .before .before .before in far2 .before .pre) returns-3 (search needs) returns-4)
+closing-in-spec = tie.close (tie.spec (λ c κs. c .before .before .pre) (search needs) returns (λ c κs. let far = c .before .before .before in far .before .pre) returns-2
+    (λ c κs. let far = c .before .before .before in let far2 = far .before .before .before in far2 .before .pre) returns-3 (search needs) returns-4)

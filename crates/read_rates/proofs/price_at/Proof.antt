@@ -1,6 +1,6 @@
 -- Each return by the answers that led to it.
 use Rattle.prelude.proofs.Prelude.{needs}
-use Rattle.coding.{specs.Codec.sort, proofs.Reading.picks, proofs.Reading.skips}
+use Rattle.coding.{specs.Codec.sort, proofs.Reading.picks, proofs.Reading.skips, proofs.Reading.picks-run, proofs.Reading.skips-run}
 use Rattle.types.specs.Rates.{price}
 use Rattle.read_rates.proofs.price_at.Statement.{statement}
 use Rattle.read_rates.proofs.price_at.Tie as tie
@@ -11,4 +11,4 @@ price-at-spec =
     tie.close
     (tie.spec (search needs) (search needs) (λ c. search (picks, skips) depth 8) (search needs) (search needs) (λ c. search (picks, skips) depth 8)
     (search needs) (search needs) (λ c. search (picks, skips) depth 8) (search needs) (search needs) (λ c. search (picks, skips) depth 8) (search needs)
-    (search needs) (λ c. search (picks, skips) depth 8) (search needs) (λ c. search (picks, skips) depth 8))
+    (search needs) (λ c. search (picks, skips) depth 8) (search needs) (λ c. search (picks, skips, picks-run, skips-run) depth 8) (search needs) (λ c. search (picks, skips, picks-run, skips-run) depth 8))

@@ -25,7 +25,8 @@ returns c =
     let n = r .before .before in
     let p = n .before in
     let x = p .before .before .before .args in
-    ap (λ (a : Answer). a .value .charge) (r .read .ensures ∙ ap readOf (part-at (x .rows .now) (x .octets .now) (x .k) (p .place-of .result) (n .count-at .result) (p .place-of .ensures) (n .count-at .ensures)))
+    ap (λ (a : Answer). a .value .charge) (r .read .ensures ∙ ap readOf (part-at (x .rows .now) (x .octets .now) (x .k) (p .place-of .result) (n .count-at .result) (p .place-of .ensures)
+    (n .count-at .ensures)))
 
 pub charge-at-spec : {M : Type 1} → statement M
 charge-at-spec =

@@ -25,7 +25,8 @@ returns-3 c =
     let r = c .before .before .before in
     let n = r .before .before in
     let x = n .before .before .before .args in
-    refused (x .t) (x .kind) (x .octets .now) (n .next-phase .result) (n .next-phase .ensures) (r .before .if2 .left) (n .before .if1 .left) (r .read .result) (r .read .ensures) (c .before .if3 .taken)
+    refused (x .t) (x .kind) (x .octets .now) (n .next-phase .result) (n .next-phase .ensures) (r .before .if2 .left) (n .before .if1 .left) (r .read .result) (r .read .ensures)
+    (c .before .if3 .taken)
 
 returns-4 : tie.Need-returns-4
 returns-4 c =
@@ -33,7 +34,8 @@ returns-4 c =
     let r = far .before in
     let n = r .before .before in
     let x = n .before .before .before .args in
-    heard (x .t) (x .kind) (x .octets .now) (n .next-phase .result) (n .next-phase .ensures) (r .before .if2 .left) (n .before .if1 .left) (r .read .result) (r .read .ensures) (c .before .before .if3 .left)
+    heard (x .t) (x .kind) (x .octets .now) (n .next-phase .result) (n .next-phase .ensures) (r .before .if2 .left) (n .before .if1 .left) (r .read .result) (r .read .ensures)
+    (c .before .before .if3 .left)
     (c .claimed .result) (c .claimed .ensures)
 
 pub claim-spec : {M : Type 1} → statement M

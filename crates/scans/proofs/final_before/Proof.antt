@@ -21,7 +21,9 @@ answer-before-requires c κs =
     let setup = c .before in
     let s = setup .before .before .before in
     let x = s .args in
-    (s .pre .0, omega (arith, s .pre .1), s .pre .2, names (x .rows .now) (x .octets .now) (x .service) (x .k) (setup .setup-before .result) (c .asked-for .result) (setup .setup-before .ensures (x .octets .now)) (c .asked-for .ensures))
+    let named = names (x .rows .now) (x .octets .now) (x .service) (x .k) (setup .setup-before .result) (c .asked-for .result)
+    (setup .setup-before .ensures (x .octets .now)) (c .asked-for .ensures) in
+    (s .pre .0, omega (arith, s .pre .1), s .pre .2, named)
 
 loop-holds : tie.Need-loop-holds Inv-loop μ-loop
 unfolding before
@@ -122,7 +124,8 @@ final-before-spec =
     (search needs)
     returns
     (search needs)
-    (λ c. let far = c .before .before .before in let far2 = far .before .before .before in let t = far2 .before .before .before in let up = t .before .before .before in let up2 = up .before .before .before in omega (arith, t .loop-test .taken, up2 .before .pre .0 .some))
+    (λ c. let far = c .before .before .before in let far2 = far .before .before .before in let t = far2 .before .before .before in let up = t .before .before .before in
+    let up2 = up .before .before .before in omega (arith, t .loop-test .taken, up2 .before .pre .0 .some))
     (omega arith)
     loop-again
     returns-2)

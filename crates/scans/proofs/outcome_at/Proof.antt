@@ -38,7 +38,8 @@ returns-2 c =
     let p = n .before in
     let r = p .before .before .before in
     let x = r .before .before .before .args in
-    unclaimed-at (x .rows .now) (x .octets .now) (x .k) (r .row-at .result) (r .row-at .ensures) (p .before .if1 .left) (p .place-of .result) (n .count-at .result) (p .place-of .ensures) (n .count-at .ensures)
+    unclaimed-at (x .rows .now) (x .octets .now) (x .k) (r .row-at .result) (r .row-at .ensures) (p .before .if1 .left) (p .place-of .result) (n .count-at .result) (p .place-of .ensures)
+    (n .count-at .ensures)
     (t .status-before .result) (t .status-before .ensures .0) (t .status-before .ensures .1) (o .claim .result) (o .claim .ensures) (c .if2 .taken)
 
 final-at-requires : tie.Need-final-at-requires
@@ -61,7 +62,8 @@ returns-3 c =
     let p = n .before in
     let r = p .before .before .before in
     let x = r .before .before .before .args in
-    compared-at (x .rows .now) (x .octets .now) (x .k) (r .row-at .result) (r .row-at .ensures) (p .before .if1 .left) (p .place-of .result) (n .count-at .result) (p .place-of .ensures) (n .count-at .ensures)
+    compared-at (x .rows .now) (x .octets .now) (x .k) (r .row-at .result) (r .row-at .ensures) (p .before .if1 .left) (p .place-of .result) (n .count-at .result) (p .place-of .ensures)
+    (n .count-at .ensures)
     (t .status-before .result) (t .status-before .ensures .0) (t .status-before .ensures .1) (o .claim .result) (o .claim .ensures) (g .before .if2 .left)
     (g .charge-at .result) (g .charge-at .ensures) (c .final-at .result) (c .final-at .ensures)
 

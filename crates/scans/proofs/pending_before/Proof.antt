@@ -8,7 +8,9 @@ answer-before-requires c κs =
     let setup = c .before in
     let s = setup .before .before .before in
     let x = s .args in
-    (s .pre .0, s .pre .1, s .pre .2, names (x .rows .now) (x .octets .now) (x .service) (x .k) (setup .setup-before .result) (c .asked-for .result) (setup .setup-before .ensures (x .octets .now)) (c .asked-for .ensures))
+    let named = names (x .rows .now) (x .octets .now) (x .service) (x .k) (setup .setup-before .result) (c .asked-for .result)
+    (setup .setup-before .ensures (x .octets .now)) (c .asked-for .ensures) in
+    (s .pre .0, s .pre .1, s .pre .2, named)
 
 returns : tie.Need-returns
 returns c =

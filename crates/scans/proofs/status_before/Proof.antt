@@ -14,4 +14,5 @@ returns c =
 pub status-before-spec : {M : Type 1} → statement M
 status-before-spec =
     tie.close (tie.spec (λ c κs. c .before .before .pre .some) (λ c κs. (c .before .before .before .pre, omega arith, omega arith))
-    (λ c κs. let far = c .before .before .before in (far .before .pre, omega arith, omega arith)) (λ c κs. let far = c .before .before .before in (far .before .before .pre, omega arith, omega arith)) (search needs) returns)
+    (λ c κs. let far = c .before .before .before in (far .before .pre, omega arith, omega arith))
+    (λ c κs. let far = c .before .before .before in (far .before .before .pre, omega arith, omega arith)) (search needs) returns)

@@ -16,7 +16,7 @@ free-spec =
     (λ c. rw (ne-eqb _ 64 (c .before .before .before .if1 .left), ne-eqb _ 4 (c .before .if2 .taken), c .uncollected2 .ensures) refl)
     (search needs)
     (search needs)
-    (λ c. let f = c .before in
+    (λ c. let f = c .before in let k = f .before .before .before in
     ap (λ (x : Closing). freed (record { number = 0; closing = x }) 0 (c .fresh .result)) (f .closing-of .ensures .0)
-    ∙ ap (freed (record { number = 0; closing = closingOf (f .before .before .before .before .args .a) }) 0) (c .fresh .ensures)
-    ∙ sym (freed-now _ _ _ (f .before .before .before .if1 .left) (f .before .if2 .left))))
+    ∙ ap (freed (record { number = 0; closing = closingOf (k .before .args .a) }) 0) (c .fresh .ensures)
+    ∙ sym (freed-now _ _ _ (k .if1 .left) (f .before .if2 .left))))

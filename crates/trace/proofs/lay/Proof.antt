@@ -57,4 +57,5 @@ returns-3 c =
 pub lay-spec : {M : Type 1} → statement M
 lay-spec =
     tie.close
-    (tie.spec (λ c κs. let b = c .before .before .before in b .before .pre) (λ c κs. let b = c .before .before .before in b .before .before .pre) returns returns-2 put-trace-requires (search needs) (search needs) returns-3)
+    (tie.spec (λ c κs. let b = c .before .before .before in b .before .pre) (λ c κs. let b = c .before .before .before in b .before .before .pre) returns returns-2 put-trace-requires
+    (search needs) (search needs) returns-3)

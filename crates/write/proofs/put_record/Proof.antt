@@ -1,6 +1,6 @@
 use Rattle.prelude.proofs.Prelude.{_<_, arith, needs}
 use Rattle.types.specs.declared.Record.{Record}
-use Rattle.write_lists.specs.Octets.{withList}
+use Rattle.write_tests.specs.Fine.{withList}
 use Rattle.write_rates.proofs.Prices.{was-true}
 use Rattle.write.specs.Parts.{recordOf}
 use Rattle.write.proofs.{Fits.its-front, Fits.frame-few, Outcomes.Known, Outcomes.Sized, Outcomes.Whole, Outcomes.not-fine, Outcomes.long-charge, Outcomes.long-body, Outcomes.no-room}

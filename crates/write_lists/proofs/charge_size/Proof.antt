@@ -1,8 +1,9 @@
-use Rattle.prelude.proofs.Prelude.{ap, sym, _∙_, arith, length, needs}
+use Rattle.prelude.proofs.Prelude.{ap, sym, _∙_, true, arith, length, needs}
 use Rattle.types.specs.{declared.Charge.Charge, Arguments.chargeOf}
 use Rattle.write_figures.proofs.Plain.{unlisted-plain, unlisted-write}
-use Rattle.write_lists.specs.Octets.{withList}
-use Rattle.write_lists.proofs.Charged.{figure-fine, units-fine, units-valid, rates-fine, rates-valid, units-octets, rates-octets, rates-length}
+use Rattle.write_rates.proofs.Listed.{rates-valid, rates-length, list-wider}
+use Rattle.write_tests.specs.Fine.{withList}
+use Rattle.write_lists.proofs.Charged.{figure-fine, units-fine, units-valid, rates-fine, units-octets, rates-octets}
 use Rattle.write_lists.proofs.charge_size.Statement.{statement}
 use Rattle.write_lists.proofs.charge_size.Tie as tie
 
@@ -26,7 +27,7 @@ rates-size-requires : tie.Need-rates-size-requires
 rates-size-requires c κs =
     let c3 = c .before .before .before in
     let s = c3 .before .before in
-    let v = rates-valid _ _ (rates-fine (s .args .operation) (s .pre .0) (held s) (s .pre .1 .1) (omega arith)) in
+    let v = rates-valid true _ _ (list-wider _ _ (rates-fine (s .args .operation) (s .pre .0) (held s) (s .pre .1 .1) (omega arith))) in
     ((v .0, s .pre .1 .0), v .1)
 
 returns-2 : tie.Need-returns-2

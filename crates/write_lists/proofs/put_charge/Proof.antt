@@ -1,8 +1,8 @@
 use Rattle.prelude.proofs.Prelude.{ap, _∙_, arith, needs, length}
 use Rattle.types.specs.{declared.Charge.Charge, Arguments.chargeOf}
 use Rattle.write_figures.proofs.Plain.{unlisted-plain, unlisted-write}
-use Rattle.write_rates.proofs.Three.{named, room-by}
-use Rattle.write_lists.specs.Octets.{withList}
+use Rattle.write_rates.proofs.{Three.named, Three.room-by, Listed.list-wider}
+use Rattle.write_tests.specs.Fine.{withList}
 use Rattle.write_lists.proofs.Charged.{figure-fine, units-fine, rates-fine, units-octets, rates-octets}
 use Rattle.write_lists.proofs.put_charge.Statement.{statement}
 use Rattle.write_lists.proofs.put_charge.Tie as tie
@@ -24,7 +24,7 @@ put-rates-charge-requires c κs =
     let s = c3 .before .before .before in
     let v = s .pre .1 .1 in
     let e = rates-octets (s .args .operation) (s .pre .0) (held s) (v .0) (omega arith) in
-    (s .pre .1 .0, (rates-fine _ (s .pre .0) (held s) (v .0) (omega arith), (omega (arith, v .1 .0, ap length e), room-by e (v .1 .1))))
+    (s .pre .1 .0, (list-wider _ _ (rates-fine _ (s .pre .0) (held s) (v .0) (omega arith)), (omega (arith, v .1 .0, ap length e), room-by e (v .1 .1))))
 
 put-figure-requires : tie.Need-put-figure-requires
 put-figure-requires c κs =

@@ -23,7 +23,8 @@ returns-3 c =
     let c3 = c .before .before .before in
     let r = c3 .before .args .r in
     rw (lt-leb (r .kind) 3 (omega arith), ne-eqb (r .kind) 4 (λ z. omega arith))
-    (tested (eqb (r .kind) 5) (λ q. rw q (omega (arith, null-length 0x84))) (λ q. rw q (omega (arith, null-length 0x85))))
+    (tested (eqb (r .kind) 5) (λ q. rw q (omega (arith, null-length 0x84))) (λ q.
+    tested (eqb (r .kind) 6) (λ p. rw (q, p) (omega (arith, null-length 0x85))) (λ p. rw (q, p) (omega (arith, null-length 0x86)))))
 
 pub price-size-spec : {M : Type 1} → statement M
 price-size-spec = tie.close (tie.spec (λ c κs. search needs) (λ c. search needs) returns returns-2 returns-3)

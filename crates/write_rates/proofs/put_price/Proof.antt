@@ -12,4 +12,4 @@ put-price-spec =
     (λ c κs. let c3 = c .before .before .before in let v = rate-parts _ (c3 .before .before .before .pre .0) in (omega arith, search (named, tests)))
     (λ c. search needs) (λ c. search (named, tests))
     (λ c κs. search (named, tests)) (λ c. search needs) (λ c. search (named, tests)) (λ c κs. search (named, tests)) (λ c. search needs)
-    (λ c. search (named, tests)))
+    (λ c. search (named, tests)) (λ c κs. search (named, tests)) (λ c. search needs) (λ c. search (named, tests)))

@@ -1,0 +1,37 @@
+-- What reading and replying answer, by the profile octet.
+use Rattle.prelude.proofs.Prelude.{ℕ, _≤_, arith, _≡_, refl, _⊎_, inl, inr, List, eq-eqb, ne-eqb}
+use Rattle.coding.proofs.Laws.{Octets}
+use Rattle.types.specs.Frames.{readOf}
+use Rattle.types.proofs.Theorems.{refusal}
+use Rattle.trunks.specs.Components.{readTrunk}
+use Rattle.trunks.proofs.Theorems as trunk
+use Rattle.reply.proofs.Replies.{only-12, given-12}
+use Rattle.profile.specs.{Profile.ofLine, Profile.ofTrunk, Profile.ofNone, Profile.readBy, Replies.trunkCalls, Replies.replyProfile}
+
+far : (n : ℕ) → (n ≤ 8) ⊎ ((40 ≤ n) × (n ≤ 45)) → n ≡ 17 → ⊥
+far n (inl l) e = omega (arith, l, e)
+far n (inr h) e = omega (arith, h .0, e)
+
+module _ (s : List ℕ) where
+  -- 91 and 9F read their own family, and never 17; any other octet is 17
+  pub line-read : readBy 0x91 s ≡ ofLine (readOf s)
+  unfolding readBy
+  line-read = refl
+
+  pub trunk-read : readBy 0x9f s ≡ ofTrunk (readTrunk s)
+  unfolding readBy
+  trunk-read = refl
+
+  pub other-refused : (profile : ℕ) → (profile ≡ 0x91 → ⊥) → (profile ≡ 0x9f → ⊥) → readBy profile s ≡ ofNone 17
+  unfolding readBy
+  other-refused profile a b = rw (ne-eqb _ _ a, ne-eqb _ _ b) refl
+
+  pub read-not-17 : (readBy 0x91 s .number ≡ 17 → ⊥) × (readBy 0x9f s .number ≡ 17 → ⊥)
+  unfolding readBy
+  read-not-17 = (far _ (refusal s), far _ (trunk.refusal s))
+
+  -- a reply is refused 12 or 17, or not at all
+  pub reply-numbers : (profile room : ℕ) → Octets s → (profile ≡ 0x91) ⊎ (profile ≡ 0x9f) → (replyProfile profile s room .number ≡ 0) ⊎ (replyProfile profile s room .number ≡ 12)
+  unfolding replyProfile
+  reply-numbers profile room os (inl e) = rw (eq-eqb _ _ e) (only-12 s room os)
+  reply-numbers profile room os (inr e) = rw (ne-eqb profile 0x91 (λ z. omega (arith, e, z)), eq-eqb _ _ e) (given-12 (trunkCalls s) s room os)

@@ -1,0 +1,59 @@
+-- A component with its element's profile octet: 91 reads document 01's family, 9F the trunks', any other is 17, before all else.
+use Prim.Native.Nat.{ℕ}
+use mathlib.Core.Bool.{cond}
+use mathlib.Core.List.{List}
+use lib.Dec.{eqb}
+use Rattle.types.specs.declared.Record.{Record}
+use Rattle.types.specs.declared.Answer.{Answer}
+use Rattle.types.specs.Stored.{recordIn, storedCharge}
+use Rattle.types.specs.Frames.{noRecord, readOf}
+use Rattle.trunks.specs.declared.Trunk.{Trunk}
+use Rattle.trunks.specs.declared.TrunkAnswer.{TrunkAnswer}
+use Rattle.trunks.specs.Components.{noTrunk, readTrunk}
+use Rattle.trunks.specs.Stored.{trunkIn}
+use Rattle.pass.specs.Pass.{Reads, Passed}
+use Rattle.profile.specs.declared.Judged.{Judged}
+use Rattle.profile.specs.declared.NextBy.{NextBy}
+
+-- number, offset, the family that the octet names (1 of public lines, 2 of trunks, 0 none), and a record of each family, of which one at least is zero
+pub record Either : Type 0 where
+  pub number : ℕ
+  pub offset : ℕ
+  pub family : ℕ
+  pub line : Record
+  pub trunk : Trunk
+
+abbrev pub ofLine : Answer → Either
+ofLine a = record { number = a .number; offset = a .offset; family = 1; line = a .value; trunk = noTrunk }
+
+abbrev pub ofTrunk : TrunkAnswer → Either
+ofTrunk a = record { number = a .number; offset = a .offset; family = 2; line = noRecord; trunk = a .value }
+
+abbrev pub ofNone : ℕ → Either
+ofNone n = record { number = n; offset = 0; family = 0; line = noRecord; trunk = noTrunk }
+
+unfoldable pub readBy : ℕ → List ℕ → Either
+readBy profile s = cond (eqb profile 0x91) (ofLine (readOf s)) (cond (eqb profile 0x9f) (ofTrunk (readTrunk s)) (ofNone 17))
+
+-- both families, gone through by the element's own third octet
+abbrev pub families : Reads Either
+families = record { by = readBy; none = ofNone }
+
+-- ---- as it lies in the parts that are lent
+
+-- what is answered by value, and the records in four parts and five
+abbrev pub eitherIn : Judged → List ℕ → List ℕ → List ℕ → List ℕ → List ℕ → List ℕ → List ℕ → List ℕ → List ℕ → Either
+eitherIn r front figure numbers rows lead lent trunkFigure trunkNumbers trunkRows = record {
+  number = r .number;
+  offset = r .offset;
+  family = r .family;
+  line = recordIn front figure numbers rows;
+  trunk = trunkIn lead lent (storedCharge trunkFigure trunkNumbers trunkRows);
+}
+
+abbrev pub nextIn : NextBy → List ℕ → List ℕ → List ℕ → List ℕ → List ℕ → List ℕ → List ℕ → List ℕ → List ℕ → Passed Either
+nextIn r front figure numbers rows lead lent trunkFigure trunkNumbers trunkRows = record {
+  ended = r .ended;
+  after = r .after;
+  answer = eitherIn (r .answer) front figure numbers rows lead lent trunkFigure trunkNumbers trunkRows;
+}

@@ -1,0 +1,33 @@
+-- The loop's invariant: what is left decides, by whether a number is to begin.
+use Rattle.prelude.proofs.Prelude.{_-_, _≤_, _≡_, refl, sym, _∙_, arith, needs, true}
+use Rattle.coding.specs.Reader.{part}
+use Rattle.trunks.specs.Extensions.{arcs}
+use Rattle.trunk_extensions.proofs.{Arcs.arcs-stop, Arcs.arcs-step, Arcs.arcs-end, arcs_in.Statement.statement}
+use Rattle.trunk_extensions.proofs.arcs_in.Tie as tie
+
+abbrev Inv-loop : tie.InvT-loop
+Inv-loop s start stop fresh₀ i₀ fresh i = (start ≤ i) × (i ≤ stop) × (arcs true (part s start stop) ≡ arcs fresh (part s i stop))
+
+abbrev μ-loop : tie.MeasureT-loop
+μ-loop s start stop fresh₀ i₀ fresh i = stop - i
+
+pub arcs-in-spec : {M : Type 1} → statement M
+arcs-in-spec =
+    tie.close
+    (tie.spec Inv-loop μ-loop (λ c. (omega arith, omega arith, refl)) (search needs) (search needs)
+    (λ c.
+    let e = c .before .before in
+    let w = e .before .before in
+    let l = w .loop in
+    let a = w .before .before .args in
+    sym (l .inv .2 ∙ arcs-stop (a .s .now) (l .fresh) (l .i) (a .stop) (omega arith) (omega arith) (c .before .begins-badly .ensures) (c .if1 .taken))) (search needs) (search needs)
+    (λ c.
+    let e = c .before .before in
+    let w = e .before .before in
+    let l = w .loop in
+    let a = w .before .before .args in
+    (omega arith, omega arith, l .inv .2 ∙ arcs-step (a .s .now) (l .fresh) (l .i) (a .stop) (omega arith) (omega arith) (c .before .begins-badly .ensures) (c .if1 .left)))
+    (λ c.
+    let l = c .before .loop in
+    let a = c .before .before .before .args in
+    sym (l .inv .2 ∙ arcs-end (a .s .now) (l .fresh) (l .i) (a .stop) (omega arith))))

@@ -1,0 +1,5 @@
+pub mod Extensions
+pub mod Forms
+pub mod Bodies
+pub mod Frames
+pub mod Sizes

@@ -1,0 +1,32 @@
+-- A component's answer from how it is shown.
+use Rattle.prelude.proofs.Prelude.{ℕ, _≤_, _<_, arith, _≡_, ap, _∙_, List, length, lt-ltb, le-ltb}
+use Rattle.coding.{specs.Shown.shown, proofs.Reading.got-of, proofs.Reading.halt-of}
+use Rattle.types.specs.Frames.{numberOf, offsetOf}
+use Rattle.types.proofs.Faults.{Told}
+use Rattle.read_heads.{specs.Heads.faultBy, proofs.Codes.told}
+use Rattle.trunks.specs.{declared.Trunk.Trunk, Components.noTrunk, Components.trunkAccepted, Components.trunkRefused, Components.trunkComponent, Components.readWholeTrunk, Components.readTrunk}
+use Rattle.trunks.proofs.Faults.{whole-told}
+use Rattle.trunk_extensions.proofs.Copied.{placed-in}
+
+pub too-long : (s : List ℕ) → 254 < length s → trunkRefused 3 0 ≡ readTrunk s
+unfolding readTrunk readWholeTrunk
+too-long s h = rw (lt-ltb _ _ h)
+
+module _ (s : List ℕ) (h : length s ≤ 254) where
+  whole : readWholeTrunk s ≡ trunkComponent .read s 0 (length s)
+  unfolding readWholeTrunk
+  whole = rw (le-ltb _ _ h)
+
+  module _ {k p n : ℕ} {v : Trunk} (e : (k, p, v, n) ≡ shown noTrunk (trunkComponent .read s 0 (length s))) where
+    pub accepts : k ≡ 0 → trunkAccepted v ≡ readTrunk s
+    unfolding readTrunk
+    accepts k0 = rw (whole, got-of _ _ e k0)
+
+    pub refuses : (k ≡ 0 → ⊥) → trunkRefused (numberOf (faultBy k)) (offsetOf (numberOf (faultBy k)) p) ≡ readTrunk s
+    unfolding readTrunk
+    refuses k0 =
+        let q = halt-of (trunkComponent .read s 0 (length s)) noTrunk e k0 in
+        rw (whole, q .1) (ap (λ (w : _). trunkRefused (numberOf w) (offsetOf (numberOf w) p)) (ap faultBy (q .2) ∙ told (q .0) .2))
+
+    pub placed : p ≤ 254
+    placed = let l = placed-in Told 0 (length s) (trunkComponent .read s 0 (length s)) noTrunk (rw whole at (whole-told s)) e in omega (arith, l, h)

@@ -1,0 +1,12 @@
+-- An answer whose component lies in five parts that are lent.
+use Prim.Native.Nat.{ℕ}
+use mathlib.Core.List.{List}
+use Rattle.types.specs.Stored.{storedCharge}
+use Rattle.read.specs.declared.Refusal.{Refusal}
+use Rattle.trunks.specs.declared.TrunkAnswer.{TrunkAnswer}
+use Rattle.trunks.specs.Stored.{trunkIn}
+
+-- what an answer and the parts say together
+abbrev pub wholeTrunk : Refusal → List ℕ → List ℕ → List ℕ → List ℕ → List ℕ → TrunkAnswer
+wholeTrunk r front extension figure numbers rows =
+    record { number = r .number; offset = r .offset; value = trunkIn front extension (storedCharge figure numbers rows) }

@@ -1,0 +1,358 @@
+// Components of a trunk: read whole.
+//
+// What is read is stored in the parts that are lent: a front of 48 octets, an extension of 244, a figure of 48 and a list's two arrays.
+// A body is stored first, and the lead last: it is all in the first eight octets of the front, which no body uses.
+ghost use mathlib.Core.Path.{_≡_};
+ghost use Prim.Native.Nat.{ℕ, _≤_};
+ghost use mathlib.Core.List.{List};
+ghost use lib.ListN.{length, replicate};
+ghost use Rattle.coding.specs.Shown.{shown};
+ghost use Rattle.types.specs.declared.Charge.{Charge};
+ghost use Rattle.types.specs.Arguments.{noCharge};
+ghost use Rattle.types.specs.Frames.{offsetOf};
+ghost use Rattle.types.specs.Stored.{stored, storedCharge};
+ghost use Rattle.trunks.specs.Extensions.{noExtension};
+ghost use Rattle.trunks.specs.Stored.{extensionIn, bodyIn, trunkIn};
+ghost use Rattle.trunks.specs.Components.{noTrunk, leadBy, trunkBy, trunkInvoke, trunkResult, trunkError, rejected, facility, trunkFrame, trunkComponent, readTrunk};
+ghost use Rattle.trunk_bodies.specs.Parts.{Bare, Spare};
+ghost use Rattle.trunk_read.specs.Parts.{framed, failure};
+ghost use Rattle.trunk_read.specs.Whole.{wholeTrunk};
+
+// ---- frames
+
+// The lead, put into a front that holds a body.
+fn keep_lead(
+    front: &mut [u8; 48],
+    frame: u8,
+    unnamed: u8,
+    id: u16,
+    error: u16,
+    operation: u8,
+    problem: u8,
+)
+    requires { ⌜ Spare (now front) ⌝ }
+    ensures { λ _. ⌜ ((lent : List ℕ) (c : Charge) → trunkIn (now (front .exit)) lent c ≡ trunkBy (leadBy frame unnamed id error operation problem) (bodyIn (now (front .entry)) lent c)) ⌝ }
+    ensures spare { λ _. ⌜ Spare (now (front .exit)) ⌝ }
+{
+    front[0] = frame;
+    front[1] = unnamed;
+    front[2] = (id % 256) as u8;
+    front[3] = (id / 256) as u8;
+    front[4] = (error % 256) as u8;
+    front[5] = (error / 256) as u8;
+    front[6] = operation;
+    front[7] = problem;
+}
+
+// A1: identifier, operation, argument.
+fn invoke_at(
+    s: &[u8],
+    at: usize,
+    end: usize,
+    front: &mut [u8; 48],
+    lent: &mut [u8; 244],
+    numbers: &mut [u32; 32],
+    rows: &mut [u8; 192],
+    figure: &mut [u8; 48],
+) -> read_elements::Empty
+    requires { ⌜ end ≤ length (now s) ⌝ }
+    requires { ⌜ Bare (now front) (now lent) (now figure) (now numbers) (now rows) ⌝ }
+    ensures { λ r. ⌜ framed r (now (front .exit)) (now (lent .exit)) (storedCharge (now (figure .exit)) (now (numbers .exit)) (now (rows .exit))) ≡ shown noTrunk (trunkInvoke .read (now (s .entry)) at end) ⌝ }
+    ensures spare { λ _. ⌜ Spare (now (front .exit)) ⌝ }
+{
+    let i = read_elements::identifier_at(s, at, end, 0x02);
+    if i.fault != 0 {
+        return read_figures::halted(i.fault, i.place);
+    }
+    let o = trunk_heads::value_at(s, i.next, end, 1);
+    if o.fault != 0 {
+        return read_figures::halted(o.fault, o.place);
+    }
+    let operation = o.value as u8;
+    let b = trunk_bodies::argument_at(
+        s,
+        o.next,
+        end,
+        operation,
+        front,
+        lent,
+        numbers,
+        rows,
+        figure,
+    );
+    if b.fault != 0 {
+        return read_figures::halted(read_heads::inner(b.fault), b.place);
+    }
+    let id = i.value as u16;
+    keep_lead(front, 1, 0, id, 0, operation, 0);
+    read_figures::reached(b.next)
+}
+
+// A2: identifier, then 30 holding operation and result.
+fn answer_at(
+    s: &[u8],
+    at: usize,
+    end: usize,
+    front: &mut [u8; 48],
+    lent: &mut [u8; 244],
+    numbers: &mut [u32; 32],
+    rows: &mut [u8; 192],
+    figure: &mut [u8; 48],
+) -> read_elements::Empty
+    requires { ⌜ end ≤ length (now s) ⌝ }
+    requires { ⌜ Bare (now front) (now lent) (now figure) (now numbers) (now rows) ⌝ }
+    ensures { λ r. ⌜ framed r (now (front .exit)) (now (lent .exit)) (storedCharge (now (figure .exit)) (now (numbers .exit)) (now (rows .exit))) ≡ shown noTrunk (trunkResult .read (now (s .entry)) at end) ⌝ }
+    ensures spare { λ _. ⌜ Spare (now (front .exit)) ⌝ }
+{
+    let i = read_elements::identifier_at(s, at, end, 0x02);
+    if i.fault != 0 {
+        return read_figures::halted(i.fault, i.place);
+    }
+    let e = read_lengths::open_at(s, i.next, end, 0x30);
+    if e.fault != 0 {
+        return read_figures::halted(e.fault, e.place);
+    }
+    let start = e.value.start;
+    let stop = e.value.stop;
+    let o = trunk_heads::value_at(s, start, stop, 2);
+    if o.fault != 0 {
+        return read_figures::halted(o.fault, o.place);
+    }
+    let operation = o.value as u8;
+    let b = trunk_bodies::result_at(
+        s,
+        o.next,
+        stop,
+        operation,
+        front,
+        lent,
+        numbers,
+        rows,
+        figure,
+    );
+    if b.fault != 0 {
+        return read_figures::halted(read_heads::inner(b.fault), b.place);
+    }
+    if b.next != stop {
+        return read_figures::halted(41, b.next);
+    }
+    let id = i.value as u16;
+    keep_lead(front, 2, 0, id, 0, operation, 0);
+    read_figures::reached(e.next)
+}
+
+// The parameter of error 1008; others have none.
+fn failing_at(
+    s: &[u8],
+    at: usize,
+    end: usize,
+    error: u16,
+    lent: &mut [u8; 244],
+) -> read_elements::Empty
+    requires { ⌜ end ≤ length (now s) ⌝ }
+    requires { ⌜ now lent ≡ replicate 244 0 ⌝ }
+    ensures { λ r. ⌜ (r .fault, r .place, stored noExtension (r .fault) (extensionIn (now (lent .exit))), r .next) ≡ shown noExtension ((failure error) .read (now (s .entry)) at end) ⌝ }
+{
+    if error == 1008 {
+        return trunk_extensions::parameter_at(s, at, end, lent);
+    }
+    read_figures::reached(at)
+}
+
+// A3: identifier, error, and what may follow it.
+fn error_at(
+    s: &[u8],
+    at: usize,
+    end: usize,
+    front: &mut [u8; 48],
+    lent: &mut [u8; 244],
+) -> read_elements::Empty
+    requires { ⌜ end ≤ length (now s) ⌝ }
+    requires { ⌜ (now front ≡ replicate 48 0) × (now lent ≡ replicate 244 0) ⌝ }
+    ensures { λ r. ⌜ framed r (now (front .exit)) (now (lent .exit)) noCharge ≡ shown noTrunk (trunkError .read (now (s .entry)) at end) ⌝ }
+    ensures spare { λ _. ⌜ Spare (now (front .exit)) ⌝ }
+{
+    let i = read_elements::identifier_at(s, at, end, 0x02);
+    if i.fault != 0 {
+        return read_figures::halted(i.fault, i.place);
+    }
+    let e = trunk_heads::value_at(s, i.next, end, 3);
+    if e.fault != 0 {
+        return read_figures::halted(e.fault, e.place);
+    }
+    let error = e.value as u16;
+    let x = failing_at(s, e.next, end, error, lent);
+    if x.fault != 0 {
+        return read_figures::halted(x.fault, x.place);
+    }
+    let id = i.value as u16;
+    keep_lead(front, 3, 0, id, error, 0, 0);
+    read_figures::reached(x.next)
+}
+
+// A4: as document 01 has it.
+fn reject_at(s: &[u8], at: usize, end: usize, front: &mut [u8; 48]) -> read_elements::Empty
+    requires { ⌜ end ≤ length (now s) ⌝ }
+    requires { ⌜ now front ≡ replicate 48 0 ⌝ }
+    ensures { λ r. ⌜ framed r (now (front .exit)) (replicate 244 0) noCharge ≡ shown noTrunk (rejected .read (now (s .entry)) at end) ⌝ }
+    ensures spare { λ _. ⌜ Spare (now (front .exit)) ⌝ }
+{
+    let i = read_heads::caller_at(s, at, end);
+    if i.fault != 0 {
+        return read_figures::halted(i.fault, i.place);
+    }
+    let p = read_heads::problems_at(s, i.next, end);
+    if p.fault != 0 {
+        return read_figures::halted(p.fault, p.place);
+    }
+    front[42] = p.value.detail;
+    keep_lead(front, 4, i.value.unnamed, i.value.id, 0, 0, p.value.tag);
+    read_figures::reached(p.next)
+}
+
+// AA: every fault inside is 6.
+fn facility_at(
+    s: &[u8],
+    at: usize,
+    end: usize,
+    front: &mut [u8; 48],
+    figure: &mut [u8; 48],
+) -> read_elements::Empty
+    requires { ⌜ end ≤ length (now s) ⌝ }
+    requires { ⌜ (now front ≡ replicate 48 0) × (now figure ≡ replicate 48 0) ⌝ }
+    ensures { λ r. ⌜ framed r (now (front .exit)) (replicate 244 0) (storedCharge (now (figure .exit)) (replicate 32 0) (replicate 192 0)) ≡ shown noTrunk (facility .read (now (s .entry)) at end) ⌝ }
+    ensures spare { λ _. ⌜ Spare (now (front .exit)) ⌝ }
+{
+    let b = trunk_bodies::network_at(s, at, end, front, figure);
+    if b.fault != 0 {
+        return read_figures::halted(106, b.place);
+    }
+    keep_lead(front, 10, 0, 0, 0, 0, 0);
+    read_figures::reached(b.next)
+}
+
+// By the first octet.
+fn frame_at(
+    s: &[u8],
+    at: usize,
+    end: usize,
+    tag: u8,
+    front: &mut [u8; 48],
+    lent: &mut [u8; 244],
+    numbers: &mut [u32; 32],
+    rows: &mut [u8; 192],
+    figure: &mut [u8; 48],
+) -> read_elements::Empty
+    requires { ⌜ end ≤ length (now s) ⌝ }
+    requires { ⌜ Bare (now front) (now lent) (now figure) (now numbers) (now rows) ⌝ }
+    ensures { λ r. ⌜ framed r (now (front .exit)) (now (lent .exit)) (storedCharge (now (figure .exit)) (now (numbers .exit)) (now (rows .exit))) ≡ shown noTrunk ((trunkFrame tag) .read (now (s .entry)) at end) ⌝ }
+    ensures spare { λ _. ⌜ Spare (now (front .exit)) ⌝ }
+{
+    if tag == 0xa1 {
+        return invoke_at(s, at, end, front, lent, numbers, rows, figure);
+    }
+    if tag == 0xa2 {
+        return answer_at(s, at, end, front, lent, numbers, rows, figure);
+    }
+    if tag == 0xa3 {
+        return error_at(s, at, end, front, lent);
+    }
+    if tag == 0xa4 {
+        return reject_at(s, at, end, front);
+    }
+    facility_at(s, at, end, front, figure)
+}
+
+// ---- whole
+
+// The component's own element, its frame, and nothing over.
+fn component_at(
+    s: &[u8],
+    front: &mut [u8; 48],
+    lent: &mut [u8; 244],
+    numbers: &mut [u32; 32],
+    rows: &mut [u8; 192],
+    figure: &mut [u8; 48],
+) -> read_elements::Empty
+    requires { ⌜ Bare (now front) (now lent) (now figure) (now numbers) (now rows) ⌝ }
+    ensures { λ r. ⌜ framed r (now (front .exit)) (now (lent .exit)) (storedCharge (now (figure .exit)) (now (numbers .exit)) (now (rows .exit))) ≡ shown noTrunk (trunkComponent .read (now (s .entry)) 0 (length (now (s .entry)))) ⌝ }
+    ensures spare { λ _. ⌜ Spare (now (front .exit)) ⌝ }
+{
+    let e = trunk_heads::enter(s);
+    if e.fault != 0 {
+        return read_figures::halted(e.fault, e.place);
+    }
+    let tag = s[0];
+    let f = frame_at(
+        s,
+        e.value.start,
+        e.value.stop,
+        tag,
+        front,
+        lent,
+        numbers,
+        rows,
+        figure,
+    );
+    if f.fault != 0 {
+        return read_figures::halted(f.fault, f.place);
+    }
+    if f.next != e.value.stop {
+        return read_figures::halted(41, f.next);
+    }
+    read_figures::reached(e.next)
+}
+
+// The offset that is given with a number: that of the place with 40 to 45.
+fn offset_of(number: u8, place: usize) -> u32
+    requires { ⌜ place ≤ 254 ⌝ }
+    ensures { λ r. ⌜ r ≡ offsetOf number place ⌝ }
+{
+    if number < 40 {
+        return 0;
+    }
+    place as u32
+}
+
+// Reads a component of a trunk into its parts, whatever they hold: zeros where it is refused.
+pub fn read_into(
+    octets: &[u8],
+    front: &mut [u8; 48],
+    lent: &mut [u8; 244],
+    figure: &mut [u8; 48],
+    numbers: &mut [u32; 32],
+    rows: &mut [u8; 192],
+) -> read::Refusal
+    ensures { λ r. ⌜ wholeTrunk r (now (front .exit)) (now (lent .exit)) (now (figure .exit)) (now (numbers .exit)) (now (rows .exit)) ≡ readTrunk (now (octets .entry)) ⌝ }
+    ensures spare { λ _. ⌜ Spare (now (front .exit)) ⌝ }
+{
+    *front = [0; 48];
+    *lent = [0; 244];
+    *figure = [0; 48];
+    *numbers = [0; 32];
+    *rows = [0; 192];
+    if 254 < octets.len() {
+        return read::Refusal {
+            number: 3,
+            offset: 0,
+        };
+    }
+    let r = component_at(octets, front, lent, numbers, rows, figure);
+    if r.fault == 0 {
+        return read::Refusal {
+            number: 0,
+            offset: 0,
+        };
+    }
+    *front = [0; 48];
+    *lent = [0; 244];
+    *figure = [0; 48];
+    *numbers = [0; 32];
+    *rows = [0; 192];
+    let number = read_heads::number_of(r.fault);
+    let offset = offset_of(number, r.place);
+    read::Refusal {
+        number: number as u32,
+        offset,
+    }
+}

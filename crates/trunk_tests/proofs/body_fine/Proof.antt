@@ -1,0 +1,11 @@
+use Rattle.prelude.proofs.Prelude.{needs}
+use Rattle.write_tests.proofs.Truth.{answered}
+use Rattle.trunk_tests.proofs.Tests.{as-body}
+use Rattle.trunk_tests.proofs.body_fine.Statement.{statement}
+use Rattle.trunk_tests.proofs.body_fine.Tie as tie
+
+pub body-fine-spec : {M : Type 1} → statement M
+body-fine-spec =
+    tie.close
+    (tie.spec (λ c κs. search needs) (λ c. search (answered, as-body)) (λ c κs. search needs) (λ c. search (answered, as-body)) (λ c κs. search needs)
+    (λ c. search (answered, as-body)))

@@ -1,0 +1,10 @@
+use Rattle.prelude.proofs.Prelude.{arith, needs}
+use Rattle.coding.proofs.Writing.{room-as}
+use Rattle.write_figures.proofs.{Sizes.number-count, Sizes.number-fits, Sizes.plain-octets, Sizes.told, Sizes.wrote-is, put_party.Statement.statement}
+use Rattle.write_figures.proofs.put_party.Tie as tie
+
+pub put-party-spec : {M : Type 1} → statement M
+put-party-spec =
+    tie.close
+    (tie.spec (search needs) (search needs) (λ c κs. search (needs, told)) (search needs) (λ c. search needs) (λ c. search needs)
+    (λ c κs. ((omega (arith, number-count), search number-fits), search (room-as, plain-octets, told))) (search needs) (λ c. search (wrote-is, plain-octets, told)))
