@@ -279,16 +279,20 @@ def any_octet(rng):
     return rng.choice(ODD_OCTETS) if rng.random() < 0.6 else rng.randrange(256)
 
 
+def each_damage(rng, roots, damages):
+    """Every damage to every element of every tree."""
+    for root in roots:
+        for i in range(sum(1 for _ in walk(root))):
+            for damage in damages:
+                spoilt = root.copy()
+                damage(rng, *list(walk(spoilt))[i])
+                yield lay_some(rng, spoilt, (0.0, 0.0, 0.3))
+
+
 def sweep(rng):
     """Every damage to every element of every form, over and over with new values."""
     while True:
-        for record in variants(rng):
-            root = tree(record)
-            for i in range(sum(1 for _ in walk(root))):
-                for damage in TREE_DAMAGE:
-                    spoilt = root.copy()
-                    damage(rng, *list(walk(spoilt))[i])
-                    yield lay_some(rng, spoilt, (0.0, 0.0, 0.3))
+        yield from each_damage(rng, map(tree, variants(rng)), TREE_DAMAGE)
 
 
 def spoil(rng):

@@ -2,7 +2,7 @@
 
 import aoc
 import trunks
-from make_damage import (CODE_PLACES, OCTET_DAMAGE, TREE_DAMAGE, add, any_octet, change, cut, foreign_code, hollow, many,
+from make_damage import (CODE_PLACES, OCTET_DAMAGE, TREE_DAMAGE, add, any_octet, change, cut, each_damage, foreign_code, hollow, many,
                          nested, noise, not_shortest, nudge, remove, tag_06, trail)
 from make_elements import any_tile
 from make_fields import NUMBER_ENDS, RANGE_ENDS, TEXT_ENDS
@@ -243,12 +243,7 @@ DAMAGE = TREE_DAMAGE + (stray, stray, trunk_code, mode_hole)
 def damaged_in_turn(rng):
     """Every damage to every element of every form, over and over with new values."""
     while True:
-        for _, root in variants(rng):
-            for i in range(sum(1 for _ in walk(root))):
-                for damage in DAMAGE:
-                    spoilt = root.copy()
-                    damage(rng, *list(walk(spoilt))[i])
-                    yield lay_some(rng, spoilt, (0.0, 0.0, 0.3))
+        yield from each_damage(rng, (root for _, root in variants(rng)), DAMAGE)
 
 
 def one_octet_in_turn(rng):
