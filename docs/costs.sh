@@ -20,23 +20,23 @@ crates() {
 }
 
 # kept CRATE COLUMN: what the page says now
-kept() { awk -F'|' -v c="\`$1\`" -v n="$2" '{ x = $2; gsub(/ /, "", x) } x == c { y = $n; gsub(/ /, "", y); print y; exit }' "$page" 2>/dev/null; }
+kept() { awk -F'|' -v c="\`$1\`" -v n="$2" '{ x = $1; gsub(/ /, "", x) } x == c { y = $n; gsub(/ /, "", y); print y; exit }' "$page" 2>/dev/null; }
 
 seconds() {
     s=$(sed -n "s/^rt: $1 proved (\([0-9]*\) s).*/\1/p" "target/log/$1.out" 2>/dev/null | tail -n 1)
-    [ -n "$s" ] || s=$(kept "$1" 7)
+    [ -n "$s" ] || s=$(kept "$1" 6)
     echo "${s:--}"
 }
 
 table() {
-    echo '| Crate | Definitions | Code | Proof | Edits | Seconds |'
-    echo '|---|---|---|---|---|---|'
+    echo 'Crate | Definitions | Code | Proof | Edits | Seconds'
+    echo '---|---|---|---|---|---'
     crates | while read -r name; do
         d=crates/$name
         edits=$(find "$d/must-fail" -name '*.edit' 2>/dev/null | wc -l | tr -d ' ')
-        echo "| \`$name\` | $(lines "$d/specs" antt) | $(lines "$d/src" rt) | $(lines "$d/proofs" antt) | $edits | $(seconds "$name") |"
-    done | awk -F'|' '{ print; a += $3; b += $4; c += $5; d += $6; e += $7; if ($7 !~ /[0-9]/) open = 1 }
-        END { printf "| all | %d | %d | %d | %d | %s |\n", a, b, c, d, open ? "-" : e }'
+        echo "\`$name\` | $(lines "$d/specs" antt) | $(lines "$d/src" rt) | $(lines "$d/proofs" antt) | $edits | $(seconds "$name")"
+    done | awk -F'|' '{ print; a += $2; b += $3; c += $4; d += $5; e += $6; if ($6 !~ /[0-9]/) open = 1 }
+        END { printf "all | %d | %d | %d | %d | %s\n", a, b, c, d, open ? "-" : e }'
 }
 
 case $1 in
@@ -44,7 +44,7 @@ files) find crates -path '*/specs/*.antt' ! -name Lib.antt | sort | xargs wc -l 
 write)
     new=$(mktemp) || exit 2
     table >"$new.table"
-    awk -v file="$new.table" '/^\| Crate \|/ { while ((getline l < file) > 0) print l; skip = 1 } skip && !/^\|/ { skip = 0 } !skip' "$page" >"$new" &&
+    awk -v file="$new.table" '/^Crate \|/ { while ((getline l < file) > 0) print l; skip = 1 } skip && !/\|/ { skip = 0 } !skip' "$page" >"$new" &&
         cat "$new" >"$page"
     rm -f "$new" "$new.table"
     ;;

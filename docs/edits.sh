@@ -32,9 +32,12 @@ if "no occurrence" in head:
     sys.exit(f"{sys.argv[1]}: {place}, {need}: the proof's rewriting finds nothing, which shows nothing")
 sides = re.findall(r"one has `([^`]*)`\s*\(expected\)(?:, [^`]*`[^`]*`)?,?\s*and the other has `([^`]*)`", says)
 sides = [s for s in sides if max(map(len, s)) <= 40 and "𝓤" not in s[0]]  # 𝓤 differs in print alone
+ends = re.search(r"the two types are `Path \S+ (\S+) (\S+)` \(expected\)", says)  # the equality that was to be proved, computed
 values = re.search(r"(?:goal|part) fails, at ((?:[^.]|\.(?=\S)){1,160})\. ", says)
 if sides:
     what = f"`{sides[-1][0]}` against `{sides[-1][1]}`"
+elif ends:
+    what = f"`{ends[1]}` against `{ends[2]}`"
 elif "omega" in head:
     what = f"fails at {values[1]}" if values and "argsV" not in values[1] and "\n" not in values[1] and len(values[1]) <= 40 else "numbers"
 elif "does not close" in says or "`search`: no proof" in head:
@@ -44,7 +47,7 @@ elif "two ends are equal" in says or "last argument" in head:
 elif "differ" in head or "expected type" in says:
     what = "types differ"
 else:
-    what = head[:80].replace("|", "\\|")
+    what = "no equation fits" if "no equation of the list" in head else head[:80].replace("|", "\\|")
 print(f"`{place}`: `{need}`" + (f"; {what}" if what else ""))
 PYTHON
 }

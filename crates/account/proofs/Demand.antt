@@ -1,10 +1,11 @@
 -- The step and the rules over the list agree. None of this looks at code or into the reading of octets.
 use Rattle.prelude.proofs.Prelude.{ℕ, _≡_, refl, sym, _∙_, ap, List, [], _∷_, _++_, Bool, true, false, _&&_, _||_, and-false, cond, eqb, eqb-true}
 use Rattle.types.specs.{declared.Charge.Charge, Charges.flag, Arguments.noCharge}
-use Rattle.values.specs.Sets.{with}
+use Rattle.requests.specs.Sets.{with}
 use Rattle.phases.{specs.declared.Event.Event, specs.declared.Outcome.Outcome, specs.declared.Status.Status, specs.Phases.Idle, specs.Phases.Ended, specs.Phases.Setup, specs.Phases.Released}
 use Rattle.phases.{specs.Phases.Component, specs.Phases.S, specs.Phases.D, specs.Phases.E, specs.Phases.outcome, specs.Phases.noService, specs.Phases.Request, specs.Phases.noRequest}
-use Rattle.phases.{specs.Phases.clashes, specs.Phases.allowed, specs.Phases.Given, proofs.Choice.if-same, proofs.Choice.by-test, proofs.Choice.by-number, proofs.Choice.never}
+use Rattle.phases.{specs.Phases.clashes, specs.Phases.allowed, specs.Phases.Given, proofs.Choice.if-same, proofs.Choice.by-number, proofs.Choice.never}
+use Rattle.prelude.proofs.Ways.{by-cases}
 use Rattle.phases.{proofs.Choice.first-of, proofs.Transitions.to-idle, proofs.Transitions.setup-idle, proofs.Transitions.to-ended, proofs.Transitions.component-stays}
 use Rattle.account.specs.declared.Account.{Account}
 use Rattle.account.specs.History.{Judged, any, last, phase, hasFinal, final, noClosing, closing, currentRate, running, known, judged, accountBy, fresh, steppedBy, Shown, shown, picked}
@@ -49,8 +50,8 @@ module _ (a : Account) (t : Status) (c : Charge) where
   placed : (n s : ℕ) → put a (changeBy (outcome n s) t c) ≡ kept a t (outcome n s) c
   placed n s =
       by-number n 20 (λ e. rw e) (λ n20. by-number n 21 (λ e. rw e) (λ n21.
-      by-number n 22 (λ e. rw e (by-number s 2 (λ f. rw f) (λ s2. by-test (eqb s 3) (λ s3. rw (s2, s3)) (λ s3. rw (s2, s3))))) (λ n22.
-      by-number n 24 (λ e. rw e (by-test (eqb s 1) (λ s1. rw s1) (λ s1. rw s1))) (λ n24. rw (n20, n21, n22, n24)))))
+      by-number n 22 (λ e. rw e (by-number s 2 (λ f. rw f) (λ s2. by-cases (eqb s 3) (λ s3. rw (s2, s3)) (λ s3. rw (s2, s3))))) (λ n22.
+      by-number n 24 (λ e. rw e (by-cases (eqb s 1) (λ s1. rw s1) (λ s1. rw s1))) (λ n24. rw (n20, n21, n22, n24)))))
 
 -- the account after an event with an outcome
 abbrev pub after : Account → Event → Charge → Outcome → Account
@@ -71,8 +72,8 @@ module _ (h : List Judged) (e : Event) (o : List ℕ) (other : eqb (e .kind) Com
       → after (accountBy h) e (chargeIn o) (phased (e .kind) t u) ≡ accountBy (told e o (phased (e .kind) t u) ∷ h)
   phase-stands false u none = rw other (sym (refused-stays h e o))
   phase-stands true u none =
-      by-test (eqb (e .kind) Setup)
-      (λ q. by-test u
+      by-cases (eqb (e .kind) Setup)
+      (λ q. by-cases u
       (λ v. rw (other, v, q))
       (λ v. rw (other, v, q, none refl q S, none refl q D, none refl q E)))
       (λ q. rw (other, q))
@@ -83,7 +84,7 @@ unsettled : (s : ℕ) (h : List Given) → phase (judged h) ≡ Idle → any (λ
 unsettled s [] q = refl
 unsettled s (g ∷ h) q =
     let before : phase (judged h) ≡ Idle =
-    by-test (was 0 (judge (known (judged h)) (g .event) (g .octets))) (λ b. to-idle (g .event .kind) (phase (judged h)) (rw b at q)) (λ b. rw b at q) in
+    by-cases (was 0 (judge (known (judged h)) (g .event) (g .octets))) (λ b. to-idle (g .event .kind) (phase (judged h)) (rw b at q)) (λ b. rw b at q) in
     rw (unsettled-now s (known (judged h)) (g .event) (g .octets) before) (unsettled s h before)
 
 -- ---- the account after any event is that of the history with the event
@@ -91,7 +92,7 @@ unsettled s (g ∷ h) q =
 account-stands : (h : List Given) (e : Event) (o : List ℕ)
     → after (accountBy (judged h)) e (chargeIn o) (judge (known (judged h)) e o) ≡ accountBy (told e o (judge (known (judged h)) e o) ∷ judged h)
 account-stands h e o =
-    by-test (eqb (e .kind) Component)
+    by-cases (eqb (e .kind) Component)
     (component-stands (judged h) e o (judge (known (judged h)) e o))
     (λ q. rw (phased-judge (known (judged h)) e o q)
     (phase-stands (judged h) e o q (allowed (e .kind) (phase (judged h))) (clashes e) (λ t u s. unsettled s h (setup-idle (e .kind) (phase (judged h)) t u))))
@@ -103,7 +104,7 @@ last-given : (t : Outcome → Bool) → ((r : Outcome) → t r ≡ true → keep
 last-given t w [] = refl
 last-given t w (g ∷ h) =
     let r : Outcome = judge (known (judged h)) (g .event) (g .octets) in
-    by-test (t r) (λ q. rw q (kept-given (known (judged h)) (g .event) (g .octets) (w r q))) (λ q. rw q (last-given t w h))
+    by-cases (t r) (λ q. rw q (kept-given (known (judged h)) (g .event) (g .octets) (w r q))) (λ q. rw q (last-given t w h))
 
 pub final-given : (s : ℕ) (h : List Given) → isGiven (final s (judged h)) ≡ hasFinal s (judged h)
 final-given s h = last-given (its s 22) (λ r q. rw (eqb-true (r .number) 22 (first-of (was 22 r) (eqb (r .service) s) q))) h
@@ -170,7 +171,7 @@ module _ (t : ℕ → Bool) (none : none-of t counting ≡ true) (r : Outcome) (
   keeps-nothing s c = simp (other 20 refl, other 21 refl, other 22 refl, other 24 refl)
 
   pub moves-nothing : (s : Status) (e : Event) → statusAfter s e r ≡ s
-  moves-nothing s e = by-test (eqb (e .kind) Component) (λ k. rw k (notes-nothing s)) (λ k. rw (k, other 0 refl))
+  moves-nothing s e = by-cases (eqb (e .kind) Component) (λ k. rw k (notes-nothing s)) (λ k. rw (k, other 0 refl))
 
   pub after-nothing : (a : Account) (e : Event) (c : Charge) → after a e c r ≡ a
   after-nothing a e c = rw (moves-nothing (a .status) e) (ap (put a) (keeps-nothing (a .status) c))
@@ -205,8 +206,8 @@ releases j = eqb (j .event .kind) Released && was 0 (j .outcome)
 not-ended : (h : List Judged) → any releases h ≡ false → eqb (phase h) Ended ≡ false
 not-ended [] q = refl
 not-ended (j ∷ h) q =
-    by-test (was 0 (j .outcome))
-    (λ b. by-test (eqb (j .event .kind) Released)
+    by-cases (was 0 (j .outcome))
+    (λ b. by-cases (eqb (j .event .kind) Released)
     (λ r. never (sym (rw (b, r) at q))) (λ r. rw b (to-ended (j .event .kind) (phase h) r (not-ended h (rw r at q)))))
     (λ b. rw b (not-ended h (rw (b, and-false) at q)))
 

@@ -15,7 +15,7 @@ use Rattle.account.specs.declared.Closing.{Closing}
 use Rattle.account.specs.declared.Marks.{Marks}
 use Rattle.account.specs.declared.Pending.{Pending}
 use Rattle.account.specs.declared.Stepped.{Stepped}
-use Rattle.values.specs.Sets.{emptySet}
+use Rattle.requests.specs.Sets.{emptySet}
 use Rattle.phases.specs.Phases.{Idle, Ended, Setup, leadsTo, S, D, E, Request, noRequest, requestFor, Given}
 use Rattle.outcomes.specs.Outcome.{Requests, Known, judge, chargeIn, was, its, settles}
 

@@ -4,8 +4,8 @@
 // Services are numbered 1 S, 2 D, 3 E. Phases: 0 Idle, 1 Establishment, 2 Active, 3 Clearing, 4 Ended, 5 Suspended.
 use phases::Outcome;
 use phases::Status;
+use requests::Services;
 use types::Charge;
-use values::Services;
 ghost use mathlib.Core.Path.{_≡_};
 ghost use mathlib.Core.List.{List};
 ghost use Rattle.types.specs.Arguments.{noCharge};

@@ -17,22 +17,22 @@ use denote.{Slice.ShrSlice, Slice.Room, Slice.sliceTy, Slice.sliceVal, Slice.shr
 use denote.{Triple.Statement.Contract, Triple.Statement.Triple, Triple.Call.calls-at, Triple.Entry.onEntry, Triple.Spec.Meets, Triple.Spec.tripleOf, Triple.Table.cited, Triple.Clauses.Clauses}
 use denote.{Triple.Clauses.Lasts, Triple.Clauses.lasts, Triple.Clauses.atExit, Triple.Clauses.ensured, Triple.Clauses.closing, Triple.Walked.Stays, Triple.Walked.gave-ref, Triple.Walked.stay-dropped}
 use denote.{Triple.Walked.walkOf, Triple.Walked.goes-gave-ref, Triple.Walked.goes-dropped, Triple.Walked.ends-at, Exit.yes}
-use Rattle.values.specs.declared.{Services.Services, Three.Three}
+use Rattle.requests.specs.{declared.Services.Services, declared.Three.Three}
 use Rattle.account.specs.{declared.Account.Account, History.stepped}
 use Rattle.phases.specs.declared.{Event.Event, Outcome.Outcome}
-use Rattle.aoc.specs.Events.{plainEvent, setupEvent, Took}
+use Rattle.makers.specs.Events.{plainEvent, setupEvent, Took}
 use Rattle.aoc.proofs.{Walk.Coded, Walk.by-walk, Passed.Callee, Passed.vP, Passed.tokens, Passed.handed, Passed.to-callee, Passed.goes-in, Passed.came-back, Passed.came, Passed.retold}
 use Rattle.aoc.proofs.{Passed.G, Passed.known-step}
 use denote.Struct.Laws as LL
 use Rattle.account.proofs.Account as T
 use Rattle.phases.proofs.Event as E
 use Rattle.phases.proofs.Outcome as O
-use Rattle.values.proofs.Services as Set
-use Rattle.values.proofs.Three as Ids
+use Rattle.requests.proofs.Services as Set
+use Rattle.requests.proofs.Three as Ids
 use Rattle.step.proofs.step_in as callee
-use Rattle.aoc.proofs.plain_event as maker
+use Rattle.makers.proofs.plain_event as maker
 use Rattle.aoc.proofs.aoc_connect as own
-use Rattle.aoc.proofs.setup_event as maker₁
+use Rattle.makers.proofs.setup_event as maker₁
 use Rattle.aoc.proofs.aoc_setup as setup
 
 -- the functions: the locals that stand after the parameters, and what is done once the event is made, by the places of the event, the array, the account lent again, the array's address and the slice

@@ -15,23 +15,23 @@ ghost use Rattle.write.specs.Handed.{handed};
 ghost use Rattle.write.specs.Outcome.{writeOf, leftOf};
 ghost use Rattle.reply.specs.Reply.{replyOf, replyLeft};
 ghost use Rattle.pass.specs.Pass.{passWith, passOf, wholeNext};
-ghost use Rattle.trunk_bodies.specs.Parts.{Spare};
+ghost use Rattle.trunk_fields.specs.Fields.{Spare};
 ghost use Rattle.profile.specs.Profile.{readBy, families, eitherIn, nextIn};
 ghost use Rattle.profile.specs.Replies.{replyProfile, leftProfile};
 ghost use Rattle.types.specs.Stored.{recordIn, storedCharge};
 ghost use Rattle.trunks.specs.Stored.{trunkIn};
 ghost use Rattle.trunk_write.specs.Outcome.{spareZero};
 ghost use Rattle.profile_writer.specs.Writes.{writeProfile, writeProfileLeft};
-ghost use Rattle.values.specs.Amounts.{powers};
-ghost use Rattle.values.specs.Identifiers.{nextOf, oneUp};
-ghost use Rattle.values.specs.Sets.{emptySet, isService, has, with};
-ghost use Rattle.why.specs.Reasons.{whyOf};
+ghost use Rattle.amounts.specs.Powers.{powers};
+ghost use Rattle.requests.specs.Identifiers.{nextOf, oneUp};
+ghost use Rattle.requests.specs.Sets.{emptySet, isService, has, with};
+ghost use Rattle.reasons.specs.Reasons.{whyOf};
 ghost use Rattle.fault.specs.Rules.{faultAt};
 ghost use Rattle.phases.specs.Phases.{Given, event, Connect, Clear, Released, Component, Suspend, Resume};
 ghost use Rattle.account.specs.History.{judged, accountBy, currentRate, running, closing, marks, phase, requests, stepped, steppedBy, fresh, pendingOf};
 ghost use Rattle.outcomes.specs.Status.{requestsOf};
 ghost use Rattle.account.specs.Step.{steppedOf, closingOf, marksOf};
-ghost use Rattle.aoc.specs.Events.{plainEvent, setupEvent, Took};
+ghost use Rattle.makers.specs.Events.{plainEvent, setupEvent, Took};
 ghost use Rattle.aoc.specs.Reading.{ReadsOff};
 ghost use Rattle.price.specs.Price.{priceOf};
 ghost use Rattle.slots.specs.Board.{boarded, eventOn, emptied, collectOn, viewOn};
@@ -229,7 +229,7 @@ pub extern "C" fn aoc_thousandths(number: u32, multiplier: u8) -> u64
     ensures product { λ r. ⌜ r ≡ number * getD powers multiplier 0 ⌝ }
     ensures bounded { λ r. ⌜ (number ≤ 16777215 → r ≤ 16777215000000) ⌝ }
 {
-    values::thousandths(number, multiplier)
+    amounts::thousandths(number, multiplier)
 }
 
 #[no_mangle]
@@ -237,27 +237,27 @@ pub extern "C" fn aoc_next_identifier(id: u16) -> u16
     ensures pattern { λ r. ⌜ r ≡ nextOf id ⌝ }
     ensures number { λ r. ⌜ toZ w16 r ≡ oneUp (toZ w16 id) ⌝ }
 {
-    values::next_identifier(id)
+    requests::next_identifier(id)
 }
 
 #[no_mangle]
-pub extern "C" fn aoc_three_identifiers(last: u16) -> values::Three
+pub extern "C" fn aoc_three_identifiers(last: u16) -> requests::Three
     ensures which { λ r. ⌜ r ≡ record { s = nextOf last; d = nextOf (nextOf last); e = nextOf (nextOf (nextOf last)) } ⌝ }
     ensures differ { λ r. ⌜ (r .s ≡ r .d → ⊥) × (r .s ≡ r .e → ⊥) × (r .d ≡ r .e → ⊥) ⌝ }
 {
-    values::three_identifiers(last)
+    requests::three_identifiers(last)
 }
 
 #[no_mangle]
-pub extern "C" fn aoc_no_services() -> values::Services
+pub extern "C" fn aoc_no_services() -> requests::Services
     ensures set { λ r. ⌜ r ≡ emptySet ⌝ }
     ensures members { λ r. ⌜ ((u : ℕ) → has r u ≡ false) ⌝ }
 {
-    values::Services::empty()
+    requests::Services::empty()
 }
 
 #[no_mangle]
-pub extern "C" fn aoc_with_service(set: values::Services, service: u8) -> values::Services
+pub extern "C" fn aoc_with_service(set: requests::Services, service: u8) -> requests::Services
     ensures set { λ r. ⌜ r ≡ with set service ⌝ }
     ensures members { λ r. ⌜ ((u : ℕ) → has r u ≡ isService u && eqb service u || has set u) ⌝ }
 {
@@ -265,7 +265,7 @@ pub extern "C" fn aoc_with_service(set: values::Services, service: u8) -> values
 }
 
 #[no_mangle]
-pub extern "C" fn aoc_has_service(set: values::Services, service: u8) -> bool
+pub extern "C" fn aoc_has_service(set: requests::Services, service: u8) -> bool
     ensures { λ r. ⌜ r ≡ has set service ⌝ }
 {
     set.has(service)
@@ -293,51 +293,15 @@ pub extern "C" fn aoc_step(
 
 // The events, one function for each: it makes the event and hands it to the step, with no octets where it has none.
 
-fn setup_event(asked: values::Services, ids: values::Three) -> phases::Event
-    ensures { λ r. ⌜ r ≡ setupEvent asked ids ⌝ }
-{
-    phases::Event {
-        kind: 1,
-        asked,
-        s: ids.s,
-        d: ids.d,
-        e: ids.e,
-    }
-}
-
-fn plain_event(kind: u8) -> phases::Event
-    ensures { λ r. ⌜ r ≡ plainEvent kind ⌝ }
-{
-    phases::Event {
-        kind,
-        asked: values::Services::EMPTY,
-        s: 0,
-        d: 0,
-        e: 0,
-    }
-}
-
-fn component_event() -> phases::Event
-    ensures { λ r. ⌜ r ≡ plainEvent Component ⌝ }
-{
-    phases::Event {
-        kind: 5,
-        asked: values::Services::EMPTY,
-        s: 0,
-        d: 0,
-        e: 0,
-    }
-}
-
 #[no_mangle]
 pub extern "C" fn aoc_setup(
     a: &mut account::Account,
-    asked: values::Services,
-    ids: values::Three,
+    asked: requests::Services,
+    ids: requests::Three,
 ) -> phases::Outcome
     ensures { λ r. ⌜ Took (now (a .entry)) (setupEvent asked ids) [] (stepped r (now (a .exit))) ⌝ }
 {
-    let e = setup_event(asked, ids);
+    let e = makers::setup_event(asked, ids);
     step::step_in(a, e, &[])
 }
 
@@ -345,7 +309,7 @@ pub extern "C" fn aoc_setup(
 pub extern "C" fn aoc_connect(a: &mut account::Account) -> phases::Outcome
     ensures { λ r. ⌜ Took (now (a .entry)) (plainEvent Connect) [] (stepped r (now (a .exit))) ⌝ }
 {
-    let e = plain_event(2);
+    let e = makers::plain_event(2);
     step::step_in(a, e, &[])
 }
 
@@ -353,7 +317,7 @@ pub extern "C" fn aoc_connect(a: &mut account::Account) -> phases::Outcome
 pub extern "C" fn aoc_clear(a: &mut account::Account) -> phases::Outcome
     ensures { λ r. ⌜ Took (now (a .entry)) (plainEvent Clear) [] (stepped r (now (a .exit))) ⌝ }
 {
-    let e = plain_event(3);
+    let e = makers::plain_event(3);
     step::step_in(a, e, &[])
 }
 
@@ -361,7 +325,7 @@ pub extern "C" fn aoc_clear(a: &mut account::Account) -> phases::Outcome
 pub extern "C" fn aoc_released(a: &mut account::Account) -> phases::Outcome
     ensures { λ r. ⌜ Took (now (a .entry)) (plainEvent Released) [] (stepped r (now (a .exit))) ⌝ }
 {
-    let e = plain_event(4);
+    let e = makers::plain_event(4);
     step::step_in(a, e, &[])
 }
 
@@ -369,7 +333,7 @@ pub extern "C" fn aoc_released(a: &mut account::Account) -> phases::Outcome
 pub extern "C" fn aoc_suspend(a: &mut account::Account) -> phases::Outcome
     ensures { λ r. ⌜ Took (now (a .entry)) (plainEvent Suspend) [] (stepped r (now (a .exit))) ⌝ }
 {
-    let e = plain_event(6);
+    let e = makers::plain_event(6);
     step::step_in(a, e, &[])
 }
 
@@ -377,7 +341,7 @@ pub extern "C" fn aoc_suspend(a: &mut account::Account) -> phases::Outcome
 pub extern "C" fn aoc_resume(a: &mut account::Account) -> phases::Outcome
     ensures { λ r. ⌜ Took (now (a .entry)) (plainEvent Resume) [] (stepped r (now (a .exit))) ⌝ }
 {
-    let e = plain_event(7);
+    let e = makers::plain_event(7);
     step::step_in(a, e, &[])
 }
 
@@ -385,7 +349,7 @@ pub extern "C" fn aoc_resume(a: &mut account::Account) -> phases::Outcome
 pub extern "C" fn aoc_component(a: &mut account::Account, octets: &[u8]) -> phases::Outcome
     ensures { λ r. ⌜ Took (now (a .entry)) (plainEvent Component) (now (octets .entry)) (stepped r (now (a .exit))) ⌝ }
 {
-    let e = component_event();
+    let e = makers::component_event();
     step::step_in(a, e, octets)
 }
 
@@ -436,7 +400,7 @@ pub extern "C" fn aoc_phase_of(a: &account::Account) -> u8
 // ---- event lists
 
 #[no_mangle]
-pub extern "C" fn aoc_why(rows: &[u16], octets: &[u8]) -> why::Reason
+pub extern "C" fn aoc_why(rows: &[u16], octets: &[u8]) -> reasons::Reason
     ensures { λ r. ⌜ r ≡ whyOf (now (rows .entry)) (now (octets .entry)) ⌝ }
 {
     why::why(rows, octets)

@@ -77,10 +77,6 @@ pub by-test : {A : Type 0} (P : A → Type 0) (t : Bool) (x y : A) → (t ≡ tr
 by-test P true x y this that = this refl
 by-test P false x y this that = that refl
 
-pub by-cases : {T : Type 0} (t : Bool) → (t ≡ true → T) → (t ≡ false → T) → T
-by-cases true f g = f refl
-by-cases false f g = g refl
-
 pub cond-case : {A T : Type 0} (t : Bool) {x y z : A} → cond t x y ≡ z → (t ≡ true → x ≡ z → T) → (t ≡ false → y ≡ z → T) → T
 cond-case true e f g = f refl e
 cond-case false e f g = g refl e

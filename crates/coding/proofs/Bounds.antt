@@ -2,7 +2,8 @@
 use Rattle.prelude.proofs.Prelude.{ℕ, _+_, _-_, _≤_, _<_, _≡_, refl, sym, ap, _∙_, List, arith, getD, ltb, leb, leb-true, leb-false, le-leb, lt-leb}
 use Rattle.coding.specs.{Reader.Ans, Reader.Fault, Reader.got, Reader.halt, Reader.after, Reader.extent, Reader.numberedAt, Reader.turn, Reader.findEnd, Reader.Fault.cut}
 use Rattle.coding.specs.{Codec.LengthForm, Codec.Walk, Codec.here, Codec.past, Codec.nest}
-use Rattle.coding.proofs.{Basic.known, Basic.picked, Basic.unpicked, Basic.by-cases, Basic.both, Length.numbered, Search.marker-out, Search.marker-not, Search.endless-yes}
+use Rattle.coding.proofs.{Basic.known, Basic.picked, Basic.unpicked, Basic.both, Length.numbered, Search.marker-out, Search.marker-not, Search.endless-yes}
+use Rattle.prelude.proofs.Ways.{by-cases}
 use Rattle.coding.proofs.{Search.endless-out, Search.endless-octet, Search.form-octet, Search.unfolds, Search.goes-over, Search.goes-through, Search.walk-finds, Search.finds}
 use Rattle.coding.proofs.{Moved.search-stable}
 

@@ -14,7 +14,3 @@ pub ruleset holds = (and-iff, cond-iff)
 
 pub cases : {A B P : Type 0} → A ⊎ B → (A → P) → (B → P) → P
 cases s f g = either f g s
-
-pub tested : {P : Type 0} (b : Bool) → (b ≡ true → P) → (b ≡ false → P) → P
-tested true f g = f refl
-tested false f g = g refl

@@ -9,7 +9,7 @@ use Rattle.coding.proofs.Laws.{Octets, RunLaws}
 use Rattle.coding.proofs.Value.{Value, lawful, has-first}
 use Rattle.coding.proofs.Combine.{octets-part}
 
-every-octet : (xs : List ℕ) → Octets xs → every isOctet xs ≡ true
+pub every-octet : (xs : List ℕ) → Octets xs → every isOctet xs ≡ true
 unfolding every
 every-octet [] os = refl
 every-octet (x ∷ xs) os = rw (lt-ltb x 256 (os 0)) (every-octet xs (λ i. os (suc i)))

@@ -5,7 +5,8 @@ use Rattle.prelude.proofs.Prelude.{leb-false, eqb-true, eqb-false, lt-ltb, le-l
 use mir.{Syntax.w16, Val.toZ, Val.sel}
 use Rattle.coding.specs.{Reader.Fault, Reader.Ruling, Contents.numberFrom, Contents.negative, Contents.valueOf, Contents.shortest, Leaves.digits, Leaves.inOctets, Leaves.patternOf}
 use Rattle.coding.specs.{Leaves.integer, Leaves.shorten, Leaves.signed, Leaves.identifier}
-use Rattle.coding.proofs.{Basic.picked, Basic.unpicked, Basic.by-test, Basic.by-cases, Basic.cond-case, Basic.unless, Basic.octets-none, Basic.octets-cons, Laws.Octets, Laws.LeafLaws}
+use Rattle.coding.proofs.{Basic.picked, Basic.unpicked, Basic.by-test, Basic.cond-case, Basic.unless, Basic.octets-none, Basic.octets-cons, Laws.Octets, Laws.LeafLaws}
+use Rattle.prelude.proofs.Ways.{by-cases}
 use Rattle.coding.proofs.{Digits.power-some, Digits.number-cons, Digits.tail, Digits.number-lt, Digits.length-digits, Digits.octets-digits, Digits.number-digits, Digits.digits-number}
 use Rattle.coding.proofs.{Digits.below, Digits.number-two, Digits.least, Digits.fit, Digits.out, Digits.fitting, Digits.decide, Digits.leafLaws}
 

@@ -3,7 +3,8 @@ use Rattle.prelude.proofs.Prelude.{ℕ, suc, _+_, _-_, _*_, _/_, _%_, _^_, _≤
 use Rattle.prelude.proofs.Prelude.{suc-add, add-one, towards-suc, length, getD, set, drop, take, length-append, length-set, sets, take-suc, drop-cons, ltb, lt-ltb, le-ltb}
 use Rattle.coding.specs.{Reader.part, Contents.every, Codec.lengthOctets, Codec.Leaf, Codec.Run, Codec.prim, Codec.cons, Leaves.width, Leaves.digits, Leaves.number, Written.Wrote}
 use Rattle.coding.specs.{Written.Room, Written.lead, Written.fullNumber}
-use Rattle.coding.proofs.{Basic.picked, Basic.unpicked, Holds.tested, Digits.power-bits, Number.length-digits}
+use Rattle.coding.proofs.{Basic.picked, Basic.unpicked, Digits.power-bits, Number.length-digits}
+use Rattle.prelude.proofs.Ways.{by-cases}
 pub use Rattle.coding.proofs.Number.{width-range}
 
 pub sets-append : (xs ys l : List ℕ) (i : ℕ) → sets l i (xs ++ ys) ≡ sets (sets l i xs) (i + length xs) ys
@@ -125,7 +126,7 @@ lead-length-long tag n l h = ap length (lead-long tag n l h)
 
 pub lead-length : (tag n : ℕ) → 2 ≤ length (lead tag n)
 unfolding lead lengthOctets
-lead-length tag n = tested (ltb n 128) (λ q. rw q (omega arith)) (λ q. tested (ltb n 256) (λ r. rw (q, r) (omega arith)) (λ r. rw (q, r) (omega arith)))
+lead-length tag n = by-cases (ltb n 128) (λ q. rw q (omega arith)) (λ q. by-cases (ltb n 256) (λ r. rw (q, r) (omega arith)) (λ r. rw (q, r) (omega arith)))
 
 -- ---- a number's octets
 

@@ -4,8 +4,8 @@ use Rattle.prelude.proofs.Prelude.{length-append, take-append-seam, drop-append
 use Rattle.coding.{specs.Reader.Ans, specs.Reader.part, specs.Reader.Ans.got, specs.Reader.Ans.halt, specs.Codec.pad, proofs.Basic.and-left, proofs.Basic.and-right}
 use Rattle.types.specs.Frames.{readOf}
 use Rattle.facility.specs.Element.{tiled, isProfile, led, elementOf}
-use Rattle.facility.specs.Parts.{startsOf, firstOr, partsOf, joined, Tiles}
-use Rattle.facility.{specs.Parts.placesOf, proofs.Tiles.cut-all, proofs.Tiles.laid-all, proofs.Tiles.found, proofs.Tiles.places-count, proofs.Tiles.tiles, proofs.Tiles.answer-found}
+use Rattle.facility.specs.Cut.{startsOf, firstOr, partsOf, joined, Tiles}
+use Rattle.facility.{specs.Cut.placesOf, proofs.Tiles.cut-all, proofs.Tiles.laid-all, proofs.Tiles.found, proofs.Tiles.places-count, proofs.Tiles.tiles, proofs.Tiles.answer-found}
 use Rattle.pass.{specs.Pass.Through, specs.Pass.lines, proofs.Through.line-through}
 use Rattle.element_writer.specs.Round.{round, isFound, isTiled, elementHolds}
 

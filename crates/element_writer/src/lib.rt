@@ -67,7 +67,7 @@ pub fn element_into(octets: &[u8], buf: &mut [u8]) -> write::Written
         return refuse(12);
     }
     let p = put_head(buf, n);
-    let q = write_elements::put_octets(buf, p, octets, n);
+    let q = octets::put_octets(buf, p, octets, n);
     let count = q as u32;
     write::Written { number: 0, count }
 }

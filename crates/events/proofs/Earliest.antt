@@ -1,6 +1,7 @@
 -- The earliest event that passes a test passes it, and none before it does.
 use Rattle.prelude.proofs.Prelude.{ℕ, _+_, _≤_, _≡_, refl, Bool, true, List, [], _∷_, arith, length, eqb-false, ne-eqb}
-use Rattle.phases.proofs.Choice.{by-test, by-number}
+use Rattle.prelude.proofs.Ways.{by-cases}
+use Rattle.phases.proofs.Choice.{by-number}
 use Rattle.events.specs.Earliest.{earliest}
 
 -- event n of a history passes a test
@@ -13,7 +14,7 @@ module _ {A : Type 0} (t : A → Bool) where
   found [] z = absurd (z refl)
   found (j ∷ h) z =
       by-number (earliest t h) 0
-      (λ e. by-test (t j) (λ q. rw (e, q) (latest refl q)) (λ q. absurd (z (rw (e, q) refl))))
+      (λ e. by-cases (t j) (λ q. rw (e, q) (latest refl q)) (λ q. absurd (z (rw (e, q) refl))))
       (λ e. rw e (earlier (found h (eqb-false (earliest t h) 0 e))))
 
   pub none-found : (h : List A) → ((n : ℕ) → Passes t h n → ⊥) → earliest t h ≡ 0
@@ -23,7 +24,7 @@ module _ {A : Type 0} (t : A → Bool) where
   at-most [] = omega arith
   at-most (j ∷ h) =
       by-number (earliest t h) 0
-      (λ e. by-test (t j) (λ q. rw (e, q) (omega arith)) (λ q. rw (e, q) (omega arith)))
+      (λ e. by-cases (t j) (λ q. rw (e, q) (omega arith)) (λ q. rw (e, q) (omega arith)))
       (λ e. rw e (omega (arith, at-most h)))
 
   pub first : {h : List A} {n : ℕ} → Passes t h n → (earliest t h ≡ 0 → ⊥) × (earliest t h ≤ n)

@@ -2,8 +2,9 @@
 use Rattle.prelude.proofs.Prelude.{_≡_, refl, sym, ap, _∙_, ℕ, zero, suc, _+_, _-_, _*_, _/_, _%_, _≤_, _<_, arith, add-zero, add-one, Bool, true, false, _&&_, cond, List, [], _∷_, _++_}
 use Rattle.prelude.proofs.Prelude.{append-assoc, append-nil, length, length-append, take, drop, getD, leb, eqb, le-leb, eqb-false, eq-eqb}
 use Rattle.prelude.proofs.Prelude.{getD-append-add, take-append-seam, drop-append-seam, sub-zero}
-use Rattle.values.specs.declared.Services.{Services}
-use Rattle.phases.{specs.declared.Event.Event, specs.Phases.Given, specs.Phases.event, proofs.Choice.by-test, proofs.Choice.by-number}
+use Rattle.requests.specs.declared.Services.{Services}
+use Rattle.phases.{specs.declared.Event.Event, specs.Phases.Given, specs.Phases.event, proofs.Choice.by-number}
+use Rattle.prelude.proofs.Ways.{by-cases}
 use Rattle.events.specs.Events.{kindOf, setOf, rowAt, countAt, eventsFrom, eventsOf, rowsFit, addsUp}
 use Rattle.events.specs.Laid.{bitsOf, laidRow, rowsOf, octetsOf}
 

@@ -6,7 +6,7 @@ use mathlib.Core.Bool.{Bool, true, _&&_, cond}
 use mathlib.Core.List.{List, [], _∷_}
 use lib.ListN.{length, getD, take, drop}
 use lib.Dec.{leb, eqb}
-use Rattle.values.specs.declared.Services.{Services}
+use Rattle.requests.specs.declared.Services.{Services}
 use Rattle.phases.specs.declared.Event.{Event}
 use Rattle.phases.specs.Phases.{Given, event}
 

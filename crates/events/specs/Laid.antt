@@ -4,7 +4,7 @@ use mathlib.Core.List.{List, [], _∷_, _++_}
 use mathlib.Core.Bool.{cond}
 use lib.ListN.{length}
 use lib.Dec.{eqb}
-use Rattle.values.specs.declared.Services.{Services}
+use Rattle.requests.specs.declared.Services.{Services}
 use Rattle.phases.specs.declared.Event.{Event}
 use Rattle.phases.specs.Phases.{Given}
 

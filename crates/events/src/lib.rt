@@ -47,10 +47,10 @@ fn kind_of(n: u16) -> u8
     if n <= 255 { n as u8 } else { 0 }
 }
 
-fn set_of(n: u16) -> values::Services
+fn set_of(n: u16) -> requests::Services
     ensures { λ r. ⌜ r ≡ setOf n ⌝ }
 {
-    values::Services {
+    requests::Services {
         s: (n % 2) as u8,
         d: (n / 2 % 2) as u8,
         e: (n / 4 % 2) as u8,

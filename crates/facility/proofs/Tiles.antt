@@ -7,7 +7,7 @@ use Rattle.coding.{specs.Codec.pad, proofs.Basic.Given, proofs.Basic.it, proofs
 use Rattle.coding.{proofs.Basic.picked, proofs.Basic.unpicked, proofs.Basic.followed, proofs.Basic.and-left, proofs.Header.read-element, proofs.Header.element-read}
 use Rattle.coding.{proofs.Header.element-range, proofs.Moved.Same, proofs.Moved.element-moved, proofs.Parts.part-length}
 use Rattle.facility.specs.Element.{tiled, isProfile, led, startsFound, malformed, elementOf}
-use Rattle.facility.specs.Parts.{startsOf, firstOr, partsOf, joined, Tile, Tiles, placesOf}
+use Rattle.facility.specs.Cut.{startsOf, firstOr, partsOf, joined, Tile, Tiles, placesOf}
 
 -- ---- an accepted element is cut into components
 

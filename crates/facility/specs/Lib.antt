@@ -1,2 +1,2 @@
 pub mod Element
-pub mod Parts
+pub mod Cut

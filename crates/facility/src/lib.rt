@@ -46,7 +46,7 @@ fn is_led(octets: &[u8]) -> bool
     if octets[0] != 0x1c {
         return false;
     }
-    if read_lengths::wide(octets[1]) != octets.len() - 2 {
+    if octets::wide(octets[1]) != octets.len() - 2 {
         return false;
     }
     is_profile(octets[2])

@@ -1,8 +1,9 @@
 -- Going back over the list finds what the rules over the list say, and so does the short way.
 use Rattle.prelude.proofs.Prelude.{ℕ, _+_, _-_, _≡_, refl, sym, _∙_, ap, ap₂, List, [], _∷_, Bool, true, false, _&&_, cond, eqb, ltb, arith, take, drop}
-use Rattle.phases.{specs.declared.Event.Event, specs.declared.Outcome.Outcome, specs.Phases.Given, proofs.Choice.by-test, proofs.Choice.never}
+use Rattle.phases.{specs.declared.Event.Event, specs.declared.Outcome.Outcome, specs.Phases.Given, proofs.Choice.never}
+use Rattle.prelude.proofs.Ways.{by-cases}
 use Rattle.types.specs.{declared.Currency.Currency, declared.Record.Record, Frames.readOf}
-use Rattle.same_final.specs.{Currency.equalCurrency, Same.thousandths}
+use Rattle.amounts.specs.{Currency.equalCurrency, Amounts.thousandths}
 use Rattle.account.{specs.History.Judged, specs.History.any, specs.History.last, specs.History.judged, specs.declared.Stepped.Stepped, proofs.Demand.step-stands}
 use Rattle.events.{specs.Events.rowAt, specs.Events.countAt, specs.Prefix.placeAt, specs.Prefix.octetsAt, specs.Prefix.givenAt, specs.Prefix.before, proofs.Prefix.before-start}
 use Rattle.events.{proofs.Prefix.before-next, proofs.Prefix.part-at}
@@ -21,7 +22,7 @@ no t x y q = rw q refl
 pub below-found : (c : Currency) (t : ℕ) (h : List Judged) → belowLast c t h ≡ (eqb (lastBy c h .found) 1 && ltb t (lastBy c h .amount))
 below-found c t [] = refl
 below-found c t (j ∷ h) =
-    by-test (isCountedMoney j && equalCurrency (chargeBy j .figure .money .currency) c) (λ q. rw q refl) (λ q. rw q (below-found c t h))
+    by-cases (isCountedMoney j && equalCurrency (chargeBy j .figure .money .currency) c) (λ q. rw q refl) (λ q. rw q (below-found c t h))
 
 -- ---- the short way
 
@@ -29,21 +30,21 @@ latest-decides : (c : Currency) (h : List Judged) → any isCountedMoney h ≡ t
     → lastBy c h ≡ record { found = 1; amount = thousandths (last isCountedMoney h .figure .money) }
 latest-decides c [] q e = never q
 latest-decides c (j ∷ h) q e =
-    by-test (isCountedMoney j)
+    by-cases (isCountedMoney j)
     (λ t. let d : equalCurrency (chargeBy j .figure .money .currency) c ≡ true = rw t at e in rw (t, d) refl)
     (λ t. rw t (latest-decides c h (rw t at q) (rw t at e)))
 
 latest-none : (c : Currency) (h : List Judged) → any isCountedMoney h ≡ false → lastBy c h ≡ noLast
 latest-none c [] q = refl
 latest-none c (j ∷ h) q =
-    by-test (isCountedMoney j)
+    by-cases (isCountedMoney j)
     (λ t. let z : true ≡ false = rw t at q in never (sym z))
     (λ t. rw t (latest-none c h (rw t at q)))
 
 pub short-way : (c : Currency) (h : List Judged) → shortBy (latestBy h) c h ≡ lastBy c h
 short-way c h =
-    by-test (any isCountedMoney h)
-    (λ t. by-test (equalCurrency (last isCountedMoney h .figure .money .currency) c)
+    by-cases (any isCountedMoney h)
+    (λ t. by-cases (equalCurrency (last isCountedMoney h .figure .money .currency) c)
     (λ e. rw (t, e) (sym (latest-decides c h t e)))
     (λ e. rw (t, e) refl))
     (λ t. rw t (sym (latest-none c h t)))
@@ -51,7 +52,7 @@ short-way c h =
 pub latest-stands : (j : Judged) (h : List Judged)
     → latestNext (latestBy h) (invokesD (j .event .kind) (readOf (j .octets) .value .front)) (chargeBy j .figure .kind) (chargeBy j .figure .money) (j .outcome)
     ≡ latestBy (j ∷ h)
-latest-stands j h = by-test (isCountedMoney j) (λ t. rw t refl) (λ t. rw t refl)
+latest-stands j h = by-cases (isCountedMoney j) (λ t. rw t refl) (λ t. rw t refl)
 
 -- ---- the loop: a state that stands for a history goes on to one that stands for the history with the event
 

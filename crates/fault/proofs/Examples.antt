@@ -11,8 +11,9 @@ use Rattle.types.specs.Entries.{unit}
 use Rattle.types.specs.Rates.{duration, flatRate, volume, coded, plainRate, price, rate}
 use Rattle.types.specs.Arguments.{sign, inMoney, inUnits, during, subtotals, ending, settled, withAssociation, finals, rates, arrangement, available, chargeOf}
 use Rattle.types.specs.Frames.{value, carrying, request, argument, invoke, returnResult, failed, returnError, caller, problem, problems, reject, frame, component, readWhole, readOf}
-use Rattle.values.specs.{Sets.emptySet, declared.Services.Services}
-use Rattle.same_final.specs.{Currency.trimmed, Currency.equalCurrency, Same.equalMoney, Same.equalUnits, Same.sameOf}
+use Rattle.requests.specs.{Sets.emptySet, declared.Services.Services}
+use Rattle.amounts.specs.{Currency.trimmed, Currency.equalCurrency, Amounts.equalMoney}
+use Rattle.same_final.specs.Same.{equalUnits, sameOf}
 use Rattle.phases.specs.Phases.{Setup, Connect, Clear, Released, Component, Suspend, Resume, allowed, leadsTo, Given, event}
 use Rattle.outcomes.specs.Outcome.{isRefusal, judgeRecord, judge}
 use Rattle.account.{specs.declared.Account.Account, specs.declared.Stepped.Stepped, specs.History.Judged, specs.History.judged, specs.History.accountBy, specs.History.fresh}

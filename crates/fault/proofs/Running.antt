@@ -1,7 +1,8 @@
 -- Going over the list once finds what the rules over the list say.
 use Rattle.prelude.proofs.Prelude.{ℕ, suc, _+_, _-_, _/_, _≡_, refl, sym, _∙_, ap, ap₂, List, [], _∷_, Bool, true, false, not, _&&_, _||_, cond, length, eqb, take, drop}
 use Rattle.types.specs.{declared.Currency.Currency, Charges.flag, Frames.readOf}
-use Rattle.phases.{specs.declared.Event.Event, specs.Phases.Given, proofs.Choice.by-test, proofs.Choice.by-number}
+use Rattle.phases.{specs.declared.Event.Event, specs.Phases.Given, proofs.Choice.by-number}
+use Rattle.prelude.proofs.Ways.{by-cases}
 use Rattle.account.{specs.History.Judged, specs.History.any, specs.History.judged, specs.History.known, specs.History.phase, specs.declared.Stepped.Stepped, proofs.Demand.step-stands}
 use Rattle.outcomes.specs.Outcome.{judge}
 use Rattle.events.{specs.Earliest.orElse, specs.Events.rowAt, specs.Events.countAt, specs.Events.eventsOf, specs.Prefix.placeAt, specs.Prefix.octetsAt, specs.Prefix.givenAt, specs.Prefix.before}
@@ -27,10 +28,10 @@ module _ (f : Verdict) (b n : ℕ) where
   more = cond (eqb (f .rule) 0) (cond (eqb b 0) allKept (verdict 0 b n)) f
 
   rule-more : cond (eqb (f .rule) 0) b (f .rule) ≡ more .rule
-  rule-more = by-test (eqb (f .rule) 0) (λ q. by-number b 0 (λ e. rw (q, e) refl) (λ e. rw (q, e) refl)) (λ q. rw q refl)
+  rule-more = by-cases (eqb (f .rule) 0) (λ q. by-number b 0 (λ e. rw (q, e) refl) (λ e. rw (q, e) refl)) (λ q. rw q refl)
 
   event-more : cond (eqb (f .rule) 0) (orElse 0 (not (eqb b 0)) n) (f .event) ≡ more .event
-  event-more = by-test (eqb (f .rule) 0) (λ q. by-test (eqb b 0) (λ e. rw (q, e) refl) (λ e. rw (q, e) refl)) (λ q. rw q refl)
+  event-more = by-cases (eqb (f .rule) 0) (λ q. by-cases (eqb b 0) (λ e. rw (q, e) refl) (λ e. rw (q, e) refl)) (λ q. rw q refl)
 
 module _ (j : Judged) (h : List Judged) where
   abbrev currency : Currency
@@ -69,8 +70,8 @@ next-stands h g =
 broken-zero : (h : List Judged) → verdict 0 (brokenIn h .rule) (brokenIn h .event) ≡ brokenIn h
 broken-zero [] = refl
 broken-zero (j ∷ h) =
-    by-test (eqb (brokenIn h .rule) 0)
-    (λ q. by-test (eqb (breaks j h) 0) (λ e. rw (q, e) refl) (λ e. rw (q, e) refl))
+    by-cases (eqb (brokenIn h .rule) 0)
+    (λ q. by-cases (eqb (breaks j h) 0) (λ e. rw (q, e) refl) (λ e. rw (q, e) refl))
     (λ q. rw q (broken-zero h))
 
 ends : (h : List Judged) → concluded (seenBy h) ≡ faultIn h

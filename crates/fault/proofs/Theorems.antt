@@ -1,6 +1,7 @@
 -- Yes exactly when no event is refused and all four rules hold of all events; no names the first event that breaks one, and the first rule that it breaks.
 use Rattle.prelude.proofs.Prelude.{ℕ, _+_, _<_, _≤_, _≡_, refl, ap, Bool, true, false, cond, List, [], _∷_, arith, length, eqb, eqb-false, ne-eqb}
-use Rattle.phases.proofs.Choice.{by-test, by-number, never}
+use Rattle.prelude.proofs.Ways.{by-cases}
+use Rattle.phases.proofs.Choice.{by-number, never}
 use Rattle.outcomes.specs.Outcome.{isRefusal}
 use Rattle.account.specs.History.{Judged}
 use Rattle.events.proofs.Earliest.{Passes, found, none-found, first}
@@ -78,15 +79,15 @@ breaks-first {j} {h} (another q) = first-4 (misplaced j h) (falls j h) (charges 
 broken-most : (h : List Judged) → brokenIn h .event ≤ length h
 broken-most [] = omega arith
 broken-most (j ∷ h) =
-    by-test (eqb (brokenIn h .rule) 0)
-    (λ e. by-test (eqb (breaks j h) 0) (λ q. rw (e, q) (omega arith)) (λ q. rw (e, q) (omega arith)))
+    by-cases (eqb (brokenIn h .rule) 0)
+    (λ e. by-cases (eqb (breaks j h) 0) (λ q. rw (e, q) (omega arith)) (λ q. rw (e, q) (omega arith)))
     (λ e. rw e (let z = broken-most h in omega (arith, z)))
 
 broken-there : (h : List Judged) → (brokenIn h .rule ≡ 0 → ⊥) → Breaks h (brokenIn h .rule) (brokenIn h .event)
 broken-there [] z = absurd (z refl)
 broken-there (j ∷ h) z =
-    by-test (eqb (brokenIn h .rule) 0)
-    (λ e. by-test (eqb (breaks j h) 0) (λ q. absurd (z (rw (e, q) refl))) (λ q. rw (e, q) (latest refl (breaks-there j h (eqb-false (breaks j h) 0 q)))))
+    by-cases (eqb (brokenIn h .rule) 0)
+    (λ e. by-cases (eqb (breaks j h) 0) (λ q. absurd (z (rw (e, q) refl))) (λ q. rw (e, q) (latest refl (breaks-there j h (eqb-false (breaks j h) 0 q)))))
     (λ e. rw e (earlier (broken-there h (eqb-false (brokenIn h .rule) 0 e))))
 
 -- a rule and an event that are no later than another broken rule and its event
@@ -97,7 +98,7 @@ pub record Least (rule event r n : ℕ) : Type 0 where
 
 broken-first : {h : List Judged} {r n : ℕ} → Breaks h r n → Least (brokenIn h .rule) (brokenIn h .event) r n
 broken-first (latest {j} {h} {r} {n} e a) =
-    by-test (eqb (brokenIn h .rule) 0)
+    by-cases (eqb (brokenIn h .rule) 0)
     (λ t. rw (t, ne-eqb (breaks j h) 0 (breaks-first a .0)) (record { some = breaks-first a .0; event-first = omega (arith, e); rule-first = λ _. breaks-first a .1 }))
     (λ t. rw t
     (let m = broken-most h in
@@ -123,8 +124,8 @@ module _ (h : List Judged) where
       not-34 : (h : List Judged) → brokenIn h .number ≡ 34 → ⊥
       not-34 [] z = omega arith
       not-34 (j ∷ h) z =
-          by-test (eqb (brokenIn h .rule) 0)
-          (λ t. by-test (eqb (breaks j h) 0) (λ y. let w : 0 ≡ 34 = rw (t, y) at z in omega (arith, w)) (λ y. let w : 0 ≡ 34 = rw (t, y) at z in omega (arith, w)))
+          by-cases (eqb (brokenIn h .rule) 0)
+          (λ t. by-cases (eqb (breaks j h) 0) (λ y. let w : 0 ≡ 34 = rw (t, y) at z in omega (arith, w)) (λ y. let w : 0 ≡ 34 = rw (t, y) at z in omega (arith, w)))
           (λ t. not-34 h (rw t at z))
 
   -- it is given wherever an event is refused

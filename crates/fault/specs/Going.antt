@@ -8,8 +8,8 @@ use Rattle.types.specs.declared.Money.{Money}
 use Rattle.types.specs.Charges.{flag}
 use Rattle.phases.specs.declared.Event.{Event}
 use Rattle.phases.specs.declared.Outcome.{Outcome}
-use Rattle.same_final.specs.Currency.{equalCurrency}
-use Rattle.same_final.specs.Same.{thousandths}
+use Rattle.amounts.specs.Currency.{equalCurrency}
+use Rattle.amounts.specs.Amounts.{thousandths}
 use Rattle.account.specs.History.{Judged, any, last, accountBy}
 use Rattle.account.specs.Step.{steppedOf}
 use Rattle.fault_rules.specs.Breaking.{moneyBy}

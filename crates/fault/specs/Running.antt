@@ -9,7 +9,7 @@ use Rattle.types.specs.Charges.{flag}
 use Rattle.types.specs.Frames.{readOf}
 use Rattle.phases.specs.declared.Event.{Event}
 use Rattle.phases.specs.declared.Outcome.{Outcome}
-use Rattle.same_final.specs.Same.{thousandths}
+use Rattle.amounts.specs.Amounts.{thousandths}
 use Rattle.account.specs.History.{Judged, any, accountBy}
 use Rattle.account.specs.declared.Stepped.{Stepped}
 use Rattle.account.specs.Step.{steppedOf}

@@ -56,12 +56,12 @@ fn last_next(l: Last, c: Currency, e: Event, o: Outcome, octets: &[u8]) -> Last
     if !fault_rules::counted_money(d, a.value.charge.figure.kind, o) {
         return l;
     }
-    if !same_final::same_currency(currency, c) {
+    if !amounts::same_currency(currency, c) {
         return l;
     }
     Last {
         found: 1,
-        amount: values::thousandths(money.number, money.multiplier),
+        amount: amounts::thousandths(money.number, money.multiplier),
     }
 }
 
@@ -114,10 +114,10 @@ fn last_of(rows: &[u16], octets: &[u8], k: usize, l: Latest, c: Currency) -> Las
     }
     let money = l.money;
     let currency = money.currency;
-    if same_final::same_currency(currency, c) {
+    if amounts::same_currency(currency, c) {
         return Last {
             found: 1,
-            amount: values::thousandths(money.number, money.multiplier),
+            amount: amounts::thousandths(money.number, money.multiplier),
         };
     }
     last_in(rows, octets, k, c)
@@ -139,7 +139,7 @@ fn falls(rows: &[u16], octets: &[u8], k: usize, l: Latest, d: bool, c: Charge, o
     if found.found != 1 {
         return false;
     }
-    values::thousandths(money.number, money.multiplier) < found.amount
+    amounts::thousandths(money.number, money.multiplier) < found.amount
 }
 
 fn latest_next(l: Latest, d: bool, kind: u8, m: Money, o: Outcome) -> Latest

@@ -1,7 +1,8 @@
 -- The refusals as the code tests for them: one test over the numbers, which is computed.
 use Rattle.prelude.proofs.Prelude.{ℕ, _<_, _≡_, refl, sym, _∙_, Bool, true, false, not, _||_, cond}
-use Rattle.phases.proofs.Choice.{by-test, never}
-use Rattle.same_final.proofs.Each.{each-fails}
+use Rattle.prelude.proofs.Ways.{by-cases}
+use Rattle.phases.proofs.Choice.{never}
+use Rattle.octets.proofs.Each.{each-fails}
 use Rattle.outcomes.specs.Outcome.{isRefusal}
 use Rattle.events.specs.Earliest.{within}
 
@@ -20,5 +21,5 @@ alike-same false false q = refl
 pub refusal-tested : (n : ℕ) → n < 256 → tested n ≡ isRefusal n
 unfolding isRefusal
 refusal-tested n h =
-    by-test (alike (tested n) (isRefusal n)) (alike-same (tested n) (isRefusal n))
+    by-cases (alike (tested n) (isRefusal n)) (alike-same (tested n) (isRefusal n))
     (λ f. never (sym (each-fails 256 (λ m. alike (tested m) (isRefusal m)) n h f)))

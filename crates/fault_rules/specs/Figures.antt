@@ -9,7 +9,8 @@ use Rattle.types.specs.Entries.{unitAt}
 use Rattle.phases.specs.declared.Outcome.{Outcome}
 use Rattle.phases.specs.Phases.{Component}
 use Rattle.outcomes.specs.Outcome.{was}
-use Rattle.same_final.specs.Same.{each, upTo}
+use Rattle.octets.specs.Each.{each}
+use Rattle.same_final.specs.Same.{upTo}
 use Rattle.events.specs.Earliest.{within}
 use Rattle.fault_rules.specs.declared.Verdict.{Verdict}
 

@@ -2,7 +2,8 @@
 use Rattle.prelude.proofs.Prelude.{_≡_, refl, sym, ap, _∙_, ℕ, zero, suc, _+_, _-_, _*_, _/_, _%_, _≤_, _<_, sub-zero, add-one, arith, Bool, true, false, not, _&&_, cond, List, [], _∷_, length}
 use Rattle.prelude.proofs.Prelude.{take, drop, getD, leb, eqb}
 use Rattle.prelude.proofs.Prelude.{le-leb, lt-leb, leb-true, leb-false, eq-eqb, ne-eqb, eqb-true, List·getD-eq-default}
-use Rattle.coding.proofs.Basic.{and-left, and-right, by-cases}
+use Rattle.coding.proofs.Basic.{and-left, and-right}
+use Rattle.prelude.proofs.Ways.{by-cases}
 use Rattle.framing.specs.Framing.{elementEnd, elementsFit, headed, framed, messageLength, byNetwork, lengthsFit, lengthsAddUp, Message, messagesFrom, messagesOf, firstUnframed, Passing}
 
 -- ---- elements

@@ -14,13 +14,6 @@ pub struct Verdict {
     pub message: u64,
 }
 
-pub fn wide(x: u8) -> usize
-    ensures { λ r. ⌜ r ≡ x ⌝ }
-    ensures small { λ r. ⌜ r < 256 ⌝ }
-{
-    x as usize
-}
-
 // ---- one message
 
 // The place after the element at a place, or one past the end where it does not fit.
@@ -33,7 +26,7 @@ pub fn element_end(s: &[u8], at: usize) -> usize
     }
     let next = at + 1;
     if next < s.len() {
-        return at + 2 + wide(s[next]);
+        return at + 2 + octets::wide(s[next]);
     }
     at + 2
 }
@@ -67,7 +60,7 @@ fn is_headed(s: &[u8]) -> bool
     if s[1] > 2 {
         return false;
     }
-    3 + wide(s[1]) <= s.len()
+    3 + octets::wide(s[1]) <= s.len()
 }
 
 fn is_framed(s: &[u8]) -> bool
@@ -76,7 +69,7 @@ fn is_framed(s: &[u8]) -> bool
     if !is_headed(s) {
         return false;
     }
-    let start = 3 + wide(s[1]);
+    let start = 3 + octets::wide(s[1]);
     elements_fit(s, start)
 }
 

@@ -5,7 +5,8 @@ use Rattle.types.specs.Frames.{readWhole, readOf}
 use Rattle.lines.specs.{declared.input.Line.Line, Text.refusedText, Lines.digitOf, Lines.Meant, Lines.octetThen, Lines.pairs, Lines.lineOf, Lines.textFor, Lines.answerTo, Lines.before}
 use Rattle.lines.specs.{Lines.linesOf, Lines.answersTo, Lines.outputOf, Lines.Meant.bad, Lines.Meant.octets, Machine.state, Machine.newLine, Machine.stepLine, Machine.stepOctets}
 use Rattle.lines.specs.{Machine.octetOf, Machine.answerText, Machine.turn, Machine.turns, Machine.ended}
-use Rattle.lines.proofs.Steps.{by-test, fed-none, fed-first, fed-second, fed-full}
+use Rattle.prelude.proofs.Ways.{by-cases}
+use Rattle.lines.proofs.Steps.{fed-none, fed-first, fed-second, fed-full}
 
 -- ---- a line's octets as its characters come, however many
 
@@ -61,26 +62,26 @@ with-octet os a b = os ++ (digitOf a * 16 + digitOf b) ∷ []
 
 step-both : (os : List ℕ) (a b : ℕ) → step (first os (digitOf a)) b ≡ cond (both a b) (whole (with-octet os a b)) wrong
 unfolding step first second
-step-both os a b = by-test (ltb (digitOf a) 16) (λ e. rw e) (λ e. rw e)
+step-both os a b = by-cases (ltb (digitOf a) 16) (λ e. rw e) (λ e. rw e)
 
 joined-both : (os : List ℕ) (a b : ℕ) (m : Meant) → joined os (octetThen a b m) ≡ cond (both a b) (joined (with-octet os a b) m) bad
 unfolding octetThen
-joined-both os a b bad = by-test (both a b) (λ e. rw e) (λ e. rw e)
-joined-both os a b (octets ps) = by-test (both a b) (λ e. rw e (ap octets (sym (append-assoc os ((digitOf a * 16 + digitOf b) ∷ []) ps)))) (λ e. rw e)
+joined-both os a b bad = by-cases (both a b) (λ e. rw e) (λ e. rw e)
+joined-both os a b (octets ps) = by-cases (both a b) (λ e. rw e (ap octets (sym (append-assoc os ((digitOf a * 16 + digitOf b) ∷ []) ps)))) (λ e. rw e)
 
 -- after a space
 means-parted : (s os : List ℕ) → judged (steps (parted os) s) ≡ joined os (pairs s)
 unfolding steps step judged pairs first
 means-parted [] os = refl
-means-parted (a ∷ []) os = by-test (ltb (digitOf a) 16) (λ e. rw e) (λ e. rw e)
+means-parted (a ∷ []) os = by-cases (ltb (digitOf a) 16) (λ e. rw e) (λ e. rw e)
 means-parted (a ∷ b ∷ []) os =
-    rw (step-both os a b, joined-both os a b (octets [])) (by-test (both a b) (λ e. rw e (ap octets (sym (append-nil (with-octet os a b))))) (λ e. rw e))
+    rw (step-both os a b, joined-both os a b (octets [])) (by-cases (both a b) (λ e. rw e (ap octets (sym (append-nil (with-octet os a b))))) (λ e. rw e))
 means-parted (a ∷ b ∷ c ∷ s) os =
     let ih = means-parted s (with-octet os a b) in
     let w : judged (steps wrong s) ≡ bad = ap judged (steps-wrong s) in
-    rw (step-both os a b) (by-test (eqb c 32)
-    (λ e. rw (e, joined-both os a b (pairs s)) (by-test (both a b) (λ f. rw (f, e) ih) (λ f. rw f w)))
-    (λ e. rw e (by-test (both a b) (λ f. rw (f, e) w) (λ f. rw f w))))
+    rw (step-both os a b) (by-cases (eqb c 32)
+    (λ e. rw (e, joined-both os a b (pairs s)) (by-cases (both a b) (λ f. rw (f, e) ih) (λ f. rw f w)))
+    (λ e. rw e (by-cases (both a b) (λ f. rw (f, e) w) (λ f. rw f w))))
 
 joined-none : (m : Meant) → joined [] m ≡ m
 joined-none bad = refl
@@ -132,22 +133,22 @@ kept-full os o n x e r k =
 module _ (l : Line) (o : List ℕ) (c : ℕ) where
   keeps-first : (os : List ℕ) → l .phase ≤ 1 → Kept os (l .count) o → Keeps (first os (digitOf c)) (stepLine l c) (stepOctets l c o)
   unfolding first
-  keeps-first os h k = by-test (ltb (digitOf c) 16)
+  keeps-first os h k = by-cases (ltb (digitOf c) 16)
       (λ e. let f = fed-first l c o (λ x. omega arith) (λ x. omega arith) (λ x. omega arith) (ltb-true (digitOf c) 16 e) in rw (e, ← f .0, ← f .1) (refl, refl, ltb-true (digitOf c) 16 e, k))
       (λ e. rw (e, ← fed-none l c o (λ x. omega arith) (λ x. omega arith) (ltb-false (digitOf c) 16 e) .0))
 
   keeps-second : (os : List ℕ) (h : ℕ) → length o ≡ 254 → l .phase ≡ 2 → l .high ≡ h → h < 16 → Kept os (l .count) o
       → Keeps (second os h (digitOf c)) (stepLine l c) (stepOctets l c o)
   unfolding second
-  keeps-second os h e p q r k = by-test (ltb (digitOf c) 16)
-      (λ x. let d = ltb-true (digitOf c) 16 x in by-test (ltb (l .count) 254)
+  keeps-second os h e p q r k = by-cases (ltb (digitOf c) 16)
+      (λ x. let d = ltb-true (digitOf c) 16 x in by-cases (ltb (l .count) 254)
       (λ y. let n = ltb-true (l .count) 254 y in let f = fed-second l c o p n d in rw (x, ← f .0, ← f .1, q) (refl, kept-more os o (l .count) h (digitOf c) e r d n k))
       (λ y. let n = ltb-false (l .count) 254 y in let f = fed-full l c o p n d in rw (x, ← f .0, ← f .1) (refl, kept-full os o (l .count) (h * 16 + digitOf c) e n k)))
       (λ x. rw (x, ← fed-none l c o (λ z. omega arith) (λ z. omega arith) (ltb-false (digitOf c) 16 x) .0))
 
   keeps-whole : (os : List ℕ) → l .phase ≡ 3 → Kept os (l .count) o → Keeps (cond (eqb c 32) (parted os) wrong) (stepLine l c) (stepOctets l c o)
   unfolding stepLine stepOctets
-  keeps-whole os p k = by-test (eqb c 32) (λ e. rw (p, e) (refl, k)) (λ e. rw (p, e))
+  keeps-whole os p k = by-cases (eqb c 32) (λ e. rw (p, e) (refl, k)) (λ e. rw (p, e))
 
   keeps-wrong : l .phase ≡ 4 → stepLine l c .phase ≡ 4
   unfolding stepLine
@@ -163,15 +164,15 @@ module _ (l : Line) (o : List ℕ) (c : ℕ) where
 
   held-length : length (stepOctets l c o) ≡ length o
   unfolding stepOctets
-  held-length = by-test (eqb (l .phase) 2) (λ x. by-test (leb 16 (digitOf c)) (λ y. rw (x, y)) (λ y. by-test (ltb (l .count) 254)
+  held-length = by-cases (eqb (l .phase) 2) (λ x. by-cases (leb 16 (digitOf c)) (λ y. rw (x, y)) (λ y. by-cases (ltb (l .count) 254)
       (λ z. rw (x, y, z) (length-set o (l .count) (octetOf (l .high) (digitOf c)))) (λ z. rw (x, y, z)))) (λ x. rw x)
 
   -- a line with a character is no longer at its start
   step-opens : stepLine l c .phase ≡ 0 → ⊥
   unfolding stepLine
-  step-opens = by-test (eqb (l .phase) 4) (λ x. rw x (λ z. omega (arith, eqb-true (l .phase) 4 x))) (λ x. by-test (eqb (l .phase) 3)
-      (λ y. by-test (eqb c 32) (λ u. rw (x, y, u) (λ z. omega arith)) (λ u. rw (x, y, u) (λ z. omega arith))) (λ y. by-test (leb 16 (digitOf c)) (λ u. rw (x, y, u) (λ z. omega arith))
-      (λ u. by-test (eqb (l .phase) 2) (λ v. by-test (ltb (l .count) 254) (λ w. rw (x, y, u, v, w) (λ z. omega arith)) (λ w. rw (x, y, u, v, w) (λ z. omega arith)))
+  step-opens = by-cases (eqb (l .phase) 4) (λ x. rw x (λ z. omega (arith, eqb-true (l .phase) 4 x))) (λ x. by-cases (eqb (l .phase) 3)
+      (λ y. by-cases (eqb c 32) (λ u. rw (x, y, u) (λ z. omega arith)) (λ u. rw (x, y, u) (λ z. omega arith))) (λ y. by-cases (leb 16 (digitOf c)) (λ u. rw (x, y, u) (λ z. omega arith))
+      (λ u. by-cases (eqb (l .phase) 2) (λ v. by-cases (ltb (l .count) 254) (λ w. rw (x, y, u, v, w) (λ z. omega arith)) (λ w. rw (x, y, u, v, w) (λ z. omega arith)))
       (λ v. rw (x, y, u, v) (λ z. omega arith)))))
 
 -- ---- so its answer is the line's
@@ -182,7 +183,7 @@ reply-long os h = rw (lt-ltb 254 (length os) h)
 
 answer-good : (l : Line) (os o : List ℕ) → length o ≡ 254 → Kept os (l .count) o
     → cond (ltb (length o) (l .count)) (refusedText 3) (textFor (take (l .count) o)) ≡ textFor os
-answer-good l os o e k = by-test (ltb (length o) (l .count))
+answer-good l os o e k = by-cases (ltb (length o) (l .count))
     (λ f. rw f (sym (reply-long os (omega (arith, k .count, ltb-true (length o) (l .count) f)))))
     (λ f. rw f (ap textFor (k .held ∙ take-all 254 os (omega (arith, k .count, ltb-false (length o) (l .count) f)))))
 
@@ -229,7 +230,7 @@ said [] (c ∷ p) l o t e k n =
 said (c ∷ s) p l o t e k n =
     let ih = said s [] newLine o (t ++ answerText l o) e (refl, kept-none o) (λ x. refl) in
     let jh = said s (p ++ c ∷ []) (stepLine l c) (stepOctets l c o) t (held-length l o c ∙ e) (rw steps-snoc (keeps-step l o c (steps begun p) e k)) (λ x. absurd (step-opens l o c x)) in
-    by-test (eqb c 10)
+    by-cases (eqb c 10)
     (λ x. let f : turn (state l o t) c ≡ state newLine o (t ++ answerText l o) = rw x in
     rw x (ap (λ q. ended (turns q s)) f ∙ ih ∙ append-assoc t (answerText l o) (answersTo (linesOf s))
     ∙ ap (λ (y : List ℕ). t ++ (y ++ answersTo (linesOf s))) (answer-keeps (steps begun p) l o e k ∙ ap answerTo (means p))

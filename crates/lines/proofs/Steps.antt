@@ -1,13 +1,10 @@
 -- The machine's steps: digits, whole octets, and characters heard one after the other.
 use Rattle.prelude.proofs.Prelude.{ℕ, _+_, _≤_, _<_, _≡_, refl, sym, ap, _∙_, List, [], _∷_, _++_, Bool, true, false, arith, sub-zero, length, getD, set, take-all, eqb, le-leb, lt-leb}
 use Rattle.prelude.proofs.Prelude.{lt-ltb, le-ltb, ne-eqb, eq-eqb, eqb-true}
+use Rattle.prelude.proofs.Ways.{by-cases}
 use Rattle.coding.{proofs.Tests.tests, specs.Reader.part, proofs.Parts.part-none, proofs.Parts.part-more, proofs.Parts.part-split}
 use Rattle.lines.specs.{declared.input.Line.Line, declared.input.Went.Went, Lines.digitOf, Machine.State, Machine.state, Machine.madeLine, Machine.newLine, Machine.badLine}
 use Rattle.lines.specs.{Machine.stepLine, Machine.stepOctets, Machine.octetOf, Machine.spacedLine, Machine.answerText, Machine.turn, Machine.turns, Machine.Heard}
-
-pub by-test : {P : Type 0} (b : Bool) → (b ≡ true → P) → (b ≡ false → P) → P
-by-test true f g = f refl
-by-test false f g = g refl
 
 -- ---- a digit's value, where a later range has to be ruled out
 
@@ -55,7 +52,7 @@ module _ (l : Line) (c : ℕ) (o : List ℕ) where
 
   pub fed-none : (l .phase ≡ 4 → ⊥) → (l .phase ≡ 3 → ⊥) → 16 ≤ digitOf c → Fed badLine o
   unfolding stepLine stepOctets
-  fed-none p q d = (rw (ne-eqb (l .phase) 4 p, ne-eqb (l .phase) 3 q, le-leb 16 (digitOf c) d), by-test (eqb (l .phase) 2) (λ e. rw (e, le-leb 16 (digitOf c) d)) (λ e. rw e))
+  fed-none p q d = (rw (ne-eqb (l .phase) 4 p, ne-eqb (l .phase) 3 q, le-leb 16 (digitOf c) d), by-cases (eqb (l .phase) 2) (λ e. rw (e, le-leb 16 (digitOf c) d)) (λ e. rw e))
 
   pub fed-first : (l .phase ≡ 4 → ⊥) → (l .phase ≡ 3 → ⊥) → (l .phase ≡ 2 → ⊥) → digitOf c < 16 → Fed (madeLine (l .count) 2 (digitOf c)) o
   unfolding stepLine stepOctets
@@ -136,10 +133,10 @@ abbrev pub Taken : List ℕ → ℕ → ℕ → ℕ → Line → List ℕ → Li
 Taken s from at k l o p = (t : List ℕ) → turns (state l o t) (part s from at) ≡ state (spacedLine l k) p t
 
 spaced-phase : (l : Line) (k : ℕ) → l .phase ≤ 1 → spacedLine l k .phase ≤ 1
-spaced-phase l k h = by-test (eqb k 0) (λ e. rw e h) (λ e. rw e (omega arith))
+spaced-phase l k h = by-cases (eqb k 0) (λ e. rw e h) (λ e. rw e (omega arith))
 
 spaced-count : (l : Line) (k : ℕ) → spacedLine l k .count ≡ l .count + k
-spaced-count l k = by-test (eqb k 0) (λ e. rw e (omega (arith, eqb-true k 0 e))) (λ e. rw e)
+spaced-count l k = by-cases (eqb k 0) (λ e. rw e (omega (arith, eqb-true k 0 e))) (λ e. rw e)
 
 -- nothing is taken yet
 pub taken-none : (s : List ℕ) (from : ℕ) (l : Line) (o : List ℕ) → Taken s from from 0 l o o

@@ -78,7 +78,7 @@ pub fn put_bad(out: &mut [u8; 65536], from: usize) -> usize
     requires { ⌜ from ≤ 64774 ⌝ }
     ensures { λ r. ⌜ Wrote (now (out .entry)) (now (out .exit)) from badText r ⌝ }
 {
-    write_elements::put_octets(out, from, b"bad line\n", 9)
+    octets::put_octets(out, from, b"bad line\n", 9)
 }
 
 pub fn put_refused(number: u32, out: &mut [u8; 65536], from: usize) -> usize
@@ -86,7 +86,7 @@ pub fn put_refused(number: u32, out: &mut [u8; 65536], from: usize) -> usize
     ensures { λ r. ⌜ Wrote (now (out .entry)) (now (out .exit)) from (refusedText number) r ⌝ }
     ensures { λ r. ⌜ r ≤ from + 11 ⌝ }
 {
-    let at = write_elements::put_octets(out, from, b"refused ", 8);
+    let at = octets::put_octets(out, from, b"refused ", 8);
     let n = number as u8;
     if n < 10 {
         out[at] = 48 + n;

@@ -1,7 +1,8 @@
 -- The first request for a case.
 use Rattle.prelude.proofs.Prelude.{_≡_, refl, sym, ap, _∙_, ℕ, suc, _<_, _≤_, arith, Bool, true, false, _&&_, cond, eqb, eq-eqb, ne-eqb, List, [], _∷_, _++_, length, getD}
 use Rattle.types.specs.{declared.Answer.Answer, Frames.readOf}
-use Rattle.phases.{specs.Phases.Request, specs.Phases.noRequest, proofs.Choice.by-test}
+use Rattle.phases.specs.Phases.{Request, noRequest}
+use Rattle.prelude.proofs.Ways.{by-cases}
 use Rattle.messages.specs.{declared.Asked.Asked, Trace.isRequest, Trace.firstRequest, Trace.askedOf, Trace.askedBy}
 
 one-not-none : _≡_ {A = ℕ} 1 0 → ⊥
@@ -9,19 +10,19 @@ one-not-none e = omega arith
 
 pub asked-here : (case : ℕ) {o : List ℕ} {l all : List (List ℕ)} → all ≡ o ∷ l → (q : Asked) → q ≡ askedBy case (readOf o) → (q .mark ≡ 0 → ⊥) → q ≡ askedOf (firstRequest case all)
 asked-here case {o} {l} {all} more q is n =
-    by-test (isRequest case (readOf o))
+    by-cases (isRequest case (readOf o))
     (λ t. is ∙ rw t (sym (ap (λ (k : List (List ℕ)). askedOf (firstRequest case k)) more ∙ rw t refl)))
     (λ t. absurd (n (ap (λ (x : Asked). x .mark) is ∙ rw t refl)))
 
 pub asked-next : (case : ℕ) {o : List ℕ} {l all : List (List ℕ)} → all ≡ o ∷ l → (q : Asked) → q ≡ askedBy case (readOf o) → q .mark ≡ 0 → firstRequest case l ≡ firstRequest case all
 asked-next case {o} {l} {all} more q is z =
-    by-test (isRequest case (readOf o))
+    by-cases (isRequest case (readOf o))
     (λ t. let m : q .mark ≡ 1 = ap (λ (x : Asked). x .mark) is ∙ rw t refl in absurd (one-not-none (sym m ∙ z)))
     (λ t. sym (ap (firstRequest case) more ∙ rw t refl))
 
 first-append : (case : ℕ) (l m : List (List ℕ)) → firstRequest case (l ++ m) ≡ cond (eqb (firstRequest case l .mark) 0) (firstRequest case m) (firstRequest case l)
 first-append case [] m = refl
-first-append case (o ∷ l) m = by-test (isRequest case (readOf o)) (λ t. rw t refl) (λ t. rw t (first-append case l m))
+first-append case (o ∷ l) m = by-cases (isRequest case (readOf o)) (λ t. rw t refl) (λ t. rw t (first-append case l m))
 
 module _ (case : ℕ) (l m : List (List ℕ)) (q : Asked) (is : q ≡ askedOf (firstRequest case l)) where
   pub among-first : (q .mark ≡ 0 → ⊥) → q ≡ askedOf (firstRequest case (l ++ m))

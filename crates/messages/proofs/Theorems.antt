@@ -3,9 +3,10 @@ use Rattle.prelude.proofs.Prelude.{_≡_, refl, sym, ap, _∙_, ℕ, zero, suc,
 use Rattle.prelude.proofs.Prelude.{length, length-append, take, drop, getD, leb, eqb}
 use Rattle.prelude.proofs.Prelude.{leb-true, eqb-true, length-drop, length-take-le, _/_, _%_}
 use Rattle.coding.{specs.Reader.part, proofs.Basic.and-left, proofs.Basic.and-right, proofs.Parts.part-length}
-use Rattle.phases.{specs.Phases.Given, specs.Phases.Setup, specs.Phases.Connect, specs.Phases.Clear, specs.Phases.Released, proofs.Choice.by-test, proofs.Choice.by-number, proofs.Choice.never}
+use Rattle.phases.{specs.Phases.Given, specs.Phases.Setup, specs.Phases.Connect, specs.Phases.Clear, specs.Phases.Released, proofs.Choice.by-number, proofs.Choice.never}
+use Rattle.prelude.proofs.Ways.{by-cases}
 use Rattle.types.{specs.Frames.readOf, proofs.Faults.Whole, proofs.Tiles.tile-whole}
-use Rattle.facility.{specs.declared.Starts.Starts, specs.Element.elementOf, specs.Parts.startsOf, specs.Parts.firstOr, specs.Parts.partsOf, specs.Parts.joined, specs.Parts.Tiles, proofs.Tiles.tiles}
+use Rattle.facility.{specs.declared.Starts.Starts, specs.Element.elementOf, specs.Cut.startsOf, specs.Cut.firstOr, specs.Cut.partsOf, specs.Cut.joined, specs.Cut.Tiles, proofs.Tiles.tiles}
 use Rattle.pass.proofs.Order.{Rises, starts-rise}
 use Rattle.framing.specs.Framing.{elementEnd, elementsFit, typePlace, typeOf, headed, framed, Message, firstUnframed, messageLength, lengthsFit, lengthsAddUp, messagesFrom, messagesOf, verdictOf}
 use Rattle.messages.specs.Trace.{isClearing, reference, underAfter, tilesOf, componentsIn, componentsAt, componentsFrom, componentsOf, componentEvents, setupBy, phaseEvent, when}
@@ -42,14 +43,14 @@ tiles-found e z = let q = eqb-true (tilesOf e .number) 0 z in sym (ap (λ (x : S
 
 components-in : (e : List ℕ) → length (componentsIn e) ≤ length e
 components-in e =
-    by-test (eqb (tilesOf e .number) 0)
+    by-cases (eqb (tilesOf e .number) 0)
     (λ z. let t = starts-rise e (tiles-found e z) in
     rw z (omega (arith, parts-count e (startsOf (tilesOf e)), rises-count (length e) (startsOf (tilesOf e)) (rw (← tiles-are e (eqb-true (tilesOf e .number) 0 z) .0) at t .0))))
     (λ z. rw z (omega arith))
 
 components-at : (s : List ℕ) (at under : ℕ) → at ≤ elementEnd s at → elementEnd s at ≤ length s → length (componentsAt s at under) + at ≤ elementEnd s at
 components-at s at under h k =
-    by-test (eqb under 0 && eqb (getD s at 0) 0x1c)
+    by-cases (eqb under 0 && eqb (getD s at 0) 0x1c)
     (λ t. rw t (omega (arith, components-in (part s at (elementEnd s at)), part-length s at (elementEnd s at) k)))
     (λ t. rw t (omega arith))
 
@@ -57,7 +58,7 @@ pub components-from : (turns : ℕ) (s : List ℕ) (at under : ℕ) → at ≤ l
 unfolding elementsFit componentsFrom
 components-from zero s at under h f = never f
 components-from (suc turns) s at under h f =
-    by-test (eqb at (length s)) (λ e. rw e (omega arith))
+    by-cases (eqb at (length s)) (λ e. rw e (omega arith))
     (λ e. let both = rw e at f in
     let inside = leb-true (elementEnd s at) (length s) (and-left (leb (elementEnd s at) (length s)) _ both) in
     let rest = components-from turns s (elementEnd s at) (underAfter under (getD s at 0)) inside (and-right (leb (elementEnd s at) (length s)) _ both) in
@@ -151,14 +152,14 @@ tiles-whole (p ∷ ps) t h =
 
 in-whole : (e : List ℕ) → length e ≤ 257 → Wholes (componentsIn e)
 in-whole e h =
-    by-test (eqb (tilesOf e .number) 0)
+    by-cases (eqb (tilesOf e .number) 0)
     (λ z. let t = tiles e (tiles-found e z) in
     rw (z, tiles-are e (eqb-true (tilesOf e .number) 0 z) .0) (tiles-whole (partsOf e (startsOf (elementOf e))) (t .1) (omega (arith, ap length (t .0), length-drop 3 e))))
     (λ z. rw z tt)
 
 at-whole : (s : List ℕ) → ((i : ℕ) → getD s i 0 < 256) → (at under : ℕ) → elementEnd s at ≤ length s → Wholes (componentsAt s at under)
 at-whole s small at under h =
-    by-test (eqb under 0 && eqb (getD s at 0) 0x1c)
+    by-cases (eqb under 0 && eqb (getD s at 0) 0x1c)
     (λ t. rw t (in-whole (part s at (elementEnd s at)) (omega (arith, part-length s at (elementEnd s at) h, end-near s at (small (at + 1))))))
     (λ t. rw t tt)
 
@@ -166,7 +167,7 @@ from-whole : (s : List ℕ) → ((i : ℕ) → getD s i 0 < 256) → (turns at u
 unfolding elementsFit componentsFrom
 from-whole s small zero at under f = tt
 from-whole s small (suc turns) at under f =
-    by-test (eqb at (length s)) (λ e. rw e tt)
+    by-cases (eqb at (length s)) (λ e. rw e tt)
     (λ e. let both = rw e at f in
     rw e (wholes-append (componentsAt s at under) _ (at-whole s small at under (leb-true (elementEnd s at) (length s) (and-left (leb (elementEnd s at) (length s)) _ both)))
     (from-whole s small turns (elementEnd s at) (underAfter under (getD s at 0)) (and-right (leb (elementEnd s at) (length s)) _ both))))
@@ -193,13 +194,13 @@ under-shift = at-under
 framed-all : (n : ℕ) (l : List Message) → 1 ≤ n → firstUnframed n l ≡ 0 → allFramed l ≡ true
 framed-all n [] h e = refl
 framed-all n (m ∷ l) h e =
-    by-test (framed (m .octets)) (λ f. rw f (framed-all (n + 1) l (omega arith) (rw f at e)))
+    by-cases (framed (m .octets)) (λ f. rw f (framed-all (n + 1) l (omega arith) (rw f at e)))
     (λ f. let z : n ≡ 0 = rw f at e in absurd (omega arith))
 
 pub not-refused : (pairs octets : List ℕ) → verdictOf pairs octets .number ≡ 0 → (lengthsAddUp pairs (length octets) ≡ true) × (allFramed (messagesOf pairs octets) ≡ true)
 unfolding verdictOf
 not-refused pairs octets e =
-    by-test (lengthsAddUp pairs (length octets))
+    by-cases (lengthsAddUp pairs (length octets))
     (λ a. (
       a,
       by-number (firstUnframed 1 (messagesOf pairs octets)) 0 (λ z. framed-all 1 (messagesOf pairs octets) (omega arith) z)

@@ -3,8 +3,9 @@ use Rattle.prelude.proofs.Prelude.{_≡_, refl, sym, ap, _∙_, ℕ, zero, suc,
 use Rattle.prelude.proofs.Prelude.{leb, eqb}
 use Rattle.prelude.proofs.Prelude.{le-leb, leb-true, ne-eqb, eq-eqb, eqb-true, length-append, replicate}
 use Rattle.coding.{specs.Reader.part, proofs.Basic.and-left, proofs.Basic.and-right, proofs.Parts.part-cons, proofs.Parts.part-none, proofs.Parts.part-length}
-use Rattle.phases.{specs.Phases.Given, proofs.Choice.by-test, proofs.Choice.by-number, proofs.Choice.never}
-use Rattle.facility.{specs.declared.Starts.Starts, specs.Element.elementOf, specs.Parts.startsOf, specs.Parts.firstOr, specs.Parts.partsOf}
+use Rattle.phases.{specs.Phases.Given, proofs.Choice.by-number, proofs.Choice.never}
+use Rattle.prelude.proofs.Ways.{by-cases}
+use Rattle.facility.specs.{declared.Starts.Starts, Element.elementOf, Cut.startsOf, Cut.firstOr, Cut.partsOf}
 use Rattle.coding.{specs.Reader.Ans, specs.Reader.Ans.got, specs.Reader.Ans.halt, specs.Codec.pad}
 use Rattle.facility.specs.Element.{led, tiled, startsFound, malformed}
 use Rattle.pass.proofs.Order.{Rises, first-inside, starts-rise}
@@ -24,10 +25,10 @@ turns-alike : (t u : ℕ) (s : List ℕ) (at under : ℕ) → length s < t + at 
 unfolding elementsFit componentsFrom
 turns-alike zero u s at under h k f = never f
 turns-alike (suc t) zero s at under h k f =
-    by-test (eqb at (length s)) (λ e. rw e) (λ e. absurd (omega (arith, end-past s at, leb-true (elementEnd s at) (length s) (and-left (leb (elementEnd s at) (length s)) _ (rw e at f)))))
+    by-cases (eqb at (length s)) (λ e. rw e) (λ e. absurd (omega (arith, end-past s at, leb-true (elementEnd s at) (length s) (and-left (leb (elementEnd s at) (length s)) _ (rw e at f)))))
 turns-alike (suc t) (suc u) s at under h k f =
     let p = end-past s at in
-    by-test (eqb at (length s)) (λ e. rw e)
+    by-cases (eqb at (length s)) (λ e. rw e)
     (λ e. rw (e, turns-alike t u s (elementEnd s at) (underAfter under (getD s at 0)) (omega (arith, p)) (omega (arith, p)) (and-right (leb (elementEnd s at) (length s)) _ (rw e at f))))
 
 module _ (s : List ℕ) (at : ℕ) (more : at < length s) (fits : elementsFit (suc (length s)) s at ≡ true) (next : ℕ) (is : next ≡ elementEnd s at) where
@@ -158,7 +159,7 @@ element-long s = found-long (led s) (tiled (length s) s 3 (length s))
 
 pub starts-long : (s : List ℕ) (r : Starts) → r ≡ tilesOf s → r .count ≤ length (r .starts)
 unfolding tilesOf
-starts-long s r e = rw e (by-test (eqb (getD s 2 0) 0x91) (λ t. rw t (element-long s)) (λ t. rw t (omega arith)))
+starts-long s r e = rw e (by-cases (eqb (getD s 2 0) 0x91) (λ t. rw t (element-long s)) (λ t. rw t (omega arith)))
 
 -- ---- a message
 

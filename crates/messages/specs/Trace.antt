@@ -7,12 +7,12 @@ use lib.Dec.{eqb, leb}
 use Rattle.coding.specs.Reader.{part}
 use Rattle.types.specs.declared.Answer.{Answer}
 use Rattle.types.specs.Frames.{readOf}
-use Rattle.values.specs.Sets.{emptySet}
+use Rattle.requests.specs.Sets.{emptySet}
 use Rattle.phases.specs.declared.Event.{Event}
 use Rattle.phases.specs.Phases.{Setup, Connect, Clear, Released, Component, Request, noRequest, Given, event}
 use Rattle.facility.specs.declared.Starts.{Starts}
 use Rattle.facility.specs.Element.{elementOf, malformed}
-use Rattle.facility.specs.Parts.{startsOf, partsOf}
+use Rattle.facility.specs.Cut.{startsOf, partsOf}
 use Rattle.messages.specs.declared.Asked.{Asked}
 use Rattle.messages.specs.declared.Gives.{Gives}
 use Rattle.framing.specs.Framing.{elementEnd, typePlace, typeOf, framed, Message, messagesOf}

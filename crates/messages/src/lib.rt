@@ -1,6 +1,6 @@
 // What a message of a call gives: its type and reference, what is under a shift, the requests of a SETUP, and which events.
 use phases::Event;
-use values::Services;
+use requests::Services;
 ghost use mathlib.Core.Path.{_≡_};
 ghost use mathlib.Core.Bool.{true, _&&_};
 ghost use Prim.Native.Nat.{suc, _+_, _≤_, _<_};
@@ -8,7 +8,7 @@ ghost use lib.ListN.{length, getD};
 ghost use lib.Dec.{eqb};
 ghost use Rattle.coding.specs.Reader.{part};
 ghost use Rattle.types.specs.Frames.{readOf};
-ghost use Rattle.facility.specs.Parts.{firstOr};
+ghost use Rattle.facility.specs.Cut.{firstOr};
 ghost use Rattle.framing.specs.Framing.{elementEnd, elementsFit, typeOf, framed};
 ghost use Rattle.messages.specs.Trace.{underAfter, tilesOf, componentsIn, componentsAt, componentsFrom, firstRequest, askedBy, askedOf, setupBy, isClearing, reference, givesBy, clearedBy};
 
@@ -32,7 +32,7 @@ pub fn type_of(s: &[u8]) -> u8
     requires { ⌜ framed (now s) ≡ true ⌝ }
     ensures { λ r. ⌜ r ≡ typeOf (now (s .entry)) ⌝ }
 {
-    let place = 2 + framing::wide(s[1]);
+    let place = 2 + octets::wide(s[1]);
     s[place]
 }
 
@@ -44,11 +44,11 @@ pub fn reference_of(s: &[u8]) -> usize
     if s[1] == 0 {
         return 32768;
     }
-    let high = framing::wide(s[2]) % 128;
+    let high = octets::wide(s[2]) % 128;
     if s[1] == 1 {
         return high;
     }
-    high * 256 + framing::wide(s[3])
+    high * 256 + octets::wide(s[3])
 }
 
 pub fn under_after(under: u8, x: u8) -> u8
@@ -152,7 +152,7 @@ pub fn stop_of(starts: [u8; 127], count: usize, i: usize, end: usize) -> usize
 {
     let next = i + 1;
     if next < count {
-        return framing::wide(starts[next]);
+        return octets::wide(starts[next]);
     }
     end
 }
@@ -197,11 +197,11 @@ fn asked_in(s: &[u8], case: u8) -> Asked
         return Asked { mark: 0, id: 0 };
     }
     let starts = tiles.starts;
-    let count = framing::wide(tiles.count);
+    let count = octets::wide(tiles.count);
     let end = s.len();
     let mut i: usize = 0;
     while i < count {
-        let a = framing::wide(starts[i]);
+        let a = octets::wide(starts[i]);
         let b = stop_of(starts, count, i, end);
         let q = asked_by(&s[a..b], case);
         if q.mark != 0 {

@@ -1,7 +1,7 @@
 -- Adding a figure, way by way. Assumes nothing.
 use Rattle.prelude.proofs.Prelude.{ℕ, _<_, _≤_, _≡_, refl, _∙_, ap, true, false, not, _&&_, cond, leb, eqb-true, eq-eqb, ne-eqb, le-leb, lt-leb, leb-true, arith}
 use Rattle.coding.proofs.Basic.{picked, unpicked}
-use Rattle.phases.proofs.Choice.{by-test}
+use Rattle.prelude.proofs.Ways.{by-cases}
 use Rattle.types.specs.{declared.Charge.Charge, declared.Currency.Currency, Arguments.isKind}
 use Rattle.same_final.specs.Same.{upTo}
 use Rattle.closing.specs.Range.{inRange}
@@ -10,7 +10,7 @@ use Rattle.month.specs.declared.{Month.Month, Added.Added}
 use Rattle.month.specs.Month.{used, isNew, withMoney, withFree, withUnits, withFigure, withPlace, added, addOf}
 
 pub up-to-most : (most k : ℕ) → upTo most k ≤ most
-up-to-most most k = by-test (leb k most) (λ l. rw l (leb-true k most l)) (λ l. rw l (omega arith))
+up-to-most most k = by-cases (leb k most) (λ l. rw l (leb-true k most l)) (λ l. rw l (omega arith))
 
 module _ (m : Month) (service : ℕ) (c : Charge) where
   pub add-10 : inRange service c ≡ false → addOf m service c ≡ added 10 m
@@ -49,9 +49,9 @@ module _ (m : Month) (service : ℕ) (c : Charge) where
         pub add-money : (i ≡ 16 → ⊥) → addOf m service c ≡ done (withMoney m (c .figure .money))
         add-money e =
             let none : (isNew m x && leb 16 (used m)) ≡ false =
-            by-test (isNew m x)
+            by-cases (isNew m x)
             (λ t. let a = eqb-true (rowOf x (used m) (m .rows)) (used m) t in let y = up-to-most 16 (m .count) in
-            by-test (leb 16 (used m)) (λ l. absurd (e (let b = leb-true 16 (used m) l in omega (arith, a, b, y, found)))) (λ l. rw (t, l) refl))
+            by-cases (leb 16 (used m)) (λ l. absurd (e (let b = leb-true 16 (used m) l in omega (arith, a, b, y, found)))) (λ l. rw (t, l) refl))
             (λ t. rw t refl) in
             let t : (isKind 2 c && (isNew m x && leb 16 (used m))) ≡ false = rw (eq-eqb (c .figure .kind) 2 k) none in
             third ∙ unpicked _ _ t ∙ ap done (picked _ _ (eq-eqb (c .figure .kind) 2 k))

@@ -8,7 +8,7 @@ use Rattle.types.specs.{Charges.currencyLeaf, Charges.currency, Charges.money, 
 use Rattle.types.specs.{Charges.unassociated, Charges.association, Entries.unit, Entries.unitRows, Arguments.bare, Arguments.plain, Arguments.listFigure, Arguments.totalled}
 use Rattle.types.specs.{Arguments.associated, Arguments.sign, Arguments.inMoney, Arguments.inUnits, Arguments.during, Arguments.subtotals, Arguments.ending, Arguments.settled}
 use Rattle.types.specs.{Arguments.withAssociation, Arguments.finals, Arguments.rates, Arguments.arrangement, Arguments.available, Arguments.chargeOf}
-use Rattle.same_final.specs.Currency.{trimmed, equalCurrency}
+use Rattle.amounts.specs.Currency.{trimmed, equalCurrency}
 use Rattle.closing.specs.Range.{inRange}
 use Rattle.month_rows.specs.{declared.Row.Row, Rows.zeroRow, Rows.rowOf, Rows.raise, Sums.sumUnits, Sums.countAbsent}
 use Rattle.month.specs.{declared.Month.Month, Month.emptyMonth, Month.addOf, Totals.Posted, Totals.addAll, Totals.numbersOf}

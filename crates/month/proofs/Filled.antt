@@ -3,9 +3,11 @@ use Rattle.prelude.proofs.Prelude.{ℕ, suc, _+_, _-_, _*_, _^_, _<_, _≤_, _�
 use Rattle.prelude.proofs.Prelude.{ne-eqb, le-leb, arith, length, length-append, replicate, suc-mul}
 use lib.ListN.{length-map}
 use Rattle.coding.{specs.Codec.pad, proofs.Basic.picked, proofs.Basic.unpicked}
-use Rattle.phases.proofs.Choice.{by-test, by-number}
+use Rattle.prelude.proofs.Ways.{by-cases}
+use Rattle.phases.proofs.Choice.{by-number}
 use Rattle.types.specs.declared.Currency.{Currency}
-use Rattle.same_final.specs.{Currency.equalCurrency, Same.upTo}
+use Rattle.amounts.specs.Currency.{equalCurrency}
+use Rattle.same_final.specs.Same.{upTo}
 use Rattle.month_rows.specs.{declared.Row.Row, Rows.zeroRow, Rows.rowOf, Rows.raise}
 use Rattle.month.specs.declared.Month.{Month}
 use Rattle.month.specs.Month.{used, isNew, withMoney}
@@ -17,13 +19,13 @@ use Rattle.month.proofs.Ranges.{Fine, AllFine, none, more}
 
 pub fewer : {A : Type 0} (t : A → Bool) (h : List A) → length (which t h) ≤ length h
 fewer t [] = omega arith
-fewer t (p ∷ h) = let z = fewer t h in by-test (t p) (λ q. rw q (omega (arith, z))) (λ q. rw q (omega (arith, z)))
+fewer t (p ∷ h) = let z = fewer t h in by-cases (t p) (λ q. rw q (omega (arith, z))) (λ q. rw q (omega (arith, z)))
 
 pub sum-small : (t : Posted → Bool) {h : List Posted} → AllFine h → total amountIn (which t h) ≤ length h * 16777215000000
 sum-small t none = omega arith
 sum-small t (more {p} {h} f s) =
     let z = sum-small t s in let y = suc-mul (length h) 16777215000000 in let a = f .amount in
-    by-test (t p)
+    by-cases (t p)
     (λ q. let e : total amountIn (which t (p ∷ h)) ≡ amountIn p + total amountIn (which t h) = rw q refl in omega (arith, z, y, a, e))
     (λ q. let e : total amountIn (which t (p ∷ h)) ≡ total amountIn (which t h) = rw q refl in omega (arith, z, y, a, e))
 
@@ -52,7 +54,7 @@ unfolding rowOf
 search-known h c [] [] = refl
 search-known h c [] (z ∷ zs) = refl
 search-known h c (d ∷ l) zs =
-    by-test (equalCurrency d c)
+    by-cases (equalCurrency d c)
     (λ q. rw q (ne-eqb 0 (suc (length l)) (λ e. omega (arith, e))))
     (λ q. rw q (suc-eqb (rowOf c (length l) (map (rowBy h) l ++ zs)) (length l) ∙ search-known h c l zs))
 

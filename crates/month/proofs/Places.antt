@@ -5,7 +5,8 @@ use lib.Seq.{getD-set-same, getD-set-other}
 use Rattle.coding.proofs.Basic.{and-left, and-right, picked, unpicked}
 use Rattle.coding.proofs.Rows.{rows-table}
 use Rattle.coding.specs.Rows.{table}
-use Rattle.phases.proofs.Choice.{by-test, by-number}
+use Rattle.prelude.proofs.Ways.{by-cases}
+use Rattle.phases.proofs.Choice.{by-number}
 use Rattle.month_rows.specs.{Rows.plus, Places.lineRaised, Places.raisedAt, Places.serviceLine, Places.billingColumn}
 use Rattle.month.specs.Totals.{Posted, which, inPlace, lineBy}
 use Rattle.month.proofs.Adding.{up-to-most}
@@ -19,10 +20,10 @@ counts-more t p h few q =
     ∙ ap length (sym (picked (p ∷ which t h) (which t h) q))
 
 pub line-small : (s : ℕ) → serviceLine s < 2
-line-small s = by-test (eqb s 2) (λ q. rw q (omega arith)) (λ q. rw q (omega arith))
+line-small s = by-cases (eqb s 2) (λ q. rw q (omega arith)) (λ q. rw q (omega arith))
 
 pub column-small : (b k : ℕ) → billingColumn b k < 9
-column-small b k = by-test (eqb b 0) (λ q. rw q (omega arith)) (λ q. rw q (let z = up-to-most 7 k in omega (arith, z)))
+column-small b k = by-cases (eqb b 0) (λ q. rw q (omega arith)) (λ q. rw q (let z = up-to-most 7 k in omega (arith, z)))
 
 abbrev cell : List (List ℕ) → ℕ → ℕ → ℕ
 cell cells s b = getD (getD cells s []) b 0
@@ -67,7 +68,7 @@ table-more cells h p c few f =
     record {
       lines = length-set cells s (lineRaised (getD cells s []) b) ∙ c .lines;
       columns = λ i k. raised-columns cells s b (c .lines) hs i nine (c .columns i k);
-      counts = λ i j hi hj. by-test (eqb s i && eqb b j)
+      counts = λ i j hi hj. by-cases (eqb s i && eqb b j)
           (λ q. let e = eqb-same s i b j q in
           ap₂ (cell (raisedAt cells s b)) (sym (e .0)) (sym (e .1)) ∙ raised-here cells s b (c .lines) hs nine hb
           ∙ ap (λ (n : ℕ). plus 32 n 1) (ap₂ (cell cells) (e .0) (e .1) ∙ c .counts i j hi hj) ∙ counts-more (inPlace (i + 2) j) p h few (place i j ∙ q))

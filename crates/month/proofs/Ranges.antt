@@ -2,12 +2,13 @@
 use Rattle.prelude.proofs.Prelude.{ℕ, _+_, _*_, _≤_, _≡_, refl, sym, _∙_, ap, ap₂, List, [], _∷_, Bool, true, false, not, _&&_, _||_, cond, eqb, leb, eqb-true, eqb-false, eq-eqb}
 use Rattle.prelude.proofs.Prelude.{ne-eqb, le-leb, leb-true, arith, length, suc-mul}
 use Rattle.coding.{specs.Codec.all, proofs.Basic.and-left, proofs.Basic.and-right, proofs.Basic.picked, proofs.Basic.unpicked, proofs.Rows.table-length}
-use Rattle.phases.proofs.Choice.{by-test, by-number, never}
+use Rattle.prelude.proofs.Ways.{by-cases}
+use Rattle.phases.proofs.Choice.{by-number, never}
 use Rattle.types.specs.{declared.Units.Units, declared.Figure.Figure, declared.Charge.Charge, Entries.unit, Entries.unitAt, Entries.unitList, Arguments.isKind}
 use Rattle.write_tests.{specs.Fine.billingFine, specs.Fine.unbilled, specs.Fine.pricedMarks, specs.Fine.bareKind, specs.Fine.marksFine}
 use Rattle.write_tests.{specs.Fine.figureFine, specs.Fine.entriesFine, proofs.Valid.charge-fine}
 use Rattle.write_lists.proofs.{Charged.units-valid, Entry.unit-is}
-use Rattle.values.proofs.Bounded.{bounded}
+use Rattle.amounts.proofs.Bounded.{bounded}
 use Rattle.closing.{specs.Range.closingService, specs.Range.operationOf, specs.Range.inRange, proofs.Small.operation-range, proofs.Small.small}
 use Rattle.month_rows.specs.Places.{serviceLine, billingColumn}
 use Rattle.month.specs.Totals.{Posted, total, amountIn, isMoneyCall, isFreeCall, isUnitCall, entriesOf, columnOf}
@@ -46,33 +47,33 @@ module _ (f : Figure) where
 
   billed-small : (most : ℕ) → most ≤ 7 → billingFine most f ≡ true → f .billing ≤ 7
   billed-small most l v =
-      by-test (eqb (f .billed) 1) (λ q. let z = leb-true (f .billing) most (sym (picked _ _ q) ∙ v) in omega (arith, z, l))
+      by-cases (eqb (f .billed) 1) (λ q. let z = leb-true (f .billing) most (sym (picked _ _ q) ∙ v) in omega (arith, z, l))
       (λ q. not-billed (sym (unpicked _ _ q) ∙ v))
 
   priced-small : (during ending o : ℕ) → pricedMarks during ending o f ≡ true → f .billing ≤ 7
   priced-small during ending o v =
-      by-test (eqb o during)
+      by-cases (eqb o during)
       (λ q. billed-small 2 (omega arith) (and-right (leb (f .total) 1 && eqb 0 (f .arrangement)) _ (sym (picked _ _ q) ∙ v)))
       (λ q. let w = sym (unpicked _ _ q) ∙ v in
-      by-test (eqb o ending) (λ r. billed-small 7 (omega arith) (and-right (eqb 0 (f .total) && eqb 0 (f .arrangement)) _ (sym (picked _ _ r) ∙ w)))
+      by-cases (eqb o ending) (λ r. billed-small 7 (omega arith) (and-right (eqb 0 (f .total) && eqb 0 (f .arrangement)) _ (sym (picked _ _ r) ∙ w)))
       (λ r. never (sym (unpicked _ _ r) ∙ w)))
 
   marks-small : (o : ℕ) → marksFine o f ≡ true → f .billing ≤ 7
   unfolding marksFine
   marks-small o v =
-      by-test (eqb (f .kind) 2) (λ q. priced-small 33 35 o (sym (picked _ _ q) ∙ v))
+      by-cases (eqb (f .kind) 2) (λ q. priced-small 33 35 o (sym (picked _ _ q) ∙ v))
       (λ q. let w = sym (unpicked _ _ q) ∙ v in
-      by-test (eqb (f .kind) 3) (λ r. priced-small 34 36 o (sym (picked _ _ r) ∙ w))
+      by-cases (eqb (f .kind) 3) (λ r. priced-small 34 36 o (sym (picked _ _ r) ∙ w))
       (λ r. let x = sym (unpicked _ _ r) ∙ w in
-      by-test (eqb (f .kind) 5) (λ s. not-billed (and-right (eqb 0 (f .total) && (leb 1 (f .arrangement) && leb (f .arrangement) 10)) _ (and-right (eqb o 30 || eqb o 32) _ (sym (picked _ _ s) ∙ x))))
+      by-cases (eqb (f .kind) 5) (λ s. not-billed (and-right (eqb 0 (f .total) && (leb 1 (f .arrangement) && leb (f .arrangement) 10)) _ (and-right (eqb o 30 || eqb o 32) _ (sym (picked _ _ s) ∙ x))))
       (λ s. not-billed (and-right (eqb 0 (f .total) && eqb 0 (f .arrangement)) _ (and-right (bareKind o (f .kind)) _ (sym (unpicked _ _ s) ∙ x))))))
 
 -- ---- money, free or units, and no more than 32 entries
 
 late : (service kind : ℕ) → 33 ≤ operationOf service kind
 late service kind =
-    by-test (eqb service 2) (λ d. rw d (by-test (eqb kind 3) (λ u. rw u (omega arith)) (λ u. rw u (omega arith))))
-    (λ d. rw d (by-test (eqb kind 3) (λ u. rw u (omega arith)) (λ u. rw u (omega arith))))
+    by-cases (eqb service 2) (λ d. rw d (by-cases (eqb kind 3) (λ u. rw u (omega arith)) (λ u. rw u (omega arith))))
+    (λ d. rw d (by-cases (eqb kind 3) (λ u. rw u (omega arith)) (λ u. rw u (omega arith))))
 
 module _ (service : ℕ) (c : Charge) (v : inRange service c ≡ true) where
   abbrev o : ℕ
@@ -99,14 +100,14 @@ module _ (service : ℕ) (c : Charge) (v : inRange service c ≡ true) where
   unfolding marksFine bareKind
   only-units n2 n1 =
       let l = late service (c .figure .kind) in
-      by-test (eqb (c .figure .kind) 3) (λ e. e)
+      by-cases (eqb (c .figure .kind) 3) (λ e. e)
       (λ n3. let w = sym (unpicked _ _ n2 ∙ unpicked _ _ n3) ∙ marks in
-      by-test (eqb (c .figure .kind) 5)
+      by-cases (eqb (c .figure .kind) 5)
       (λ e. never (sym (ap₂ (λ (x y : Bool). x || y) (ne-eqb o 30 (λ y. omega (arith, y, l))) (ne-eqb o 32 (λ y. omega (arith, y, l))))
       ∙ and-left (eqb o 30 || eqb o 32) _ (sym (picked _ _ e) ∙ w)))
       (λ n5. let z = and-left (bareKind o (c .figure .kind)) _ (sym (unpicked _ _ n5) ∙ w) in
       let y = sym (unpicked _ _ (ne-eqb (c .figure .kind) 0 some-kind) ∙ unpicked _ _ n1) ∙ z in
-      by-test (eqb (c .figure .kind) 4) (λ e. let x = leb-true o 31 (sym (picked _ _ e) ∙ y) in absurd (omega (arith, x, l)))
+      by-cases (eqb (c .figure .kind) 4) (λ e. let x = leb-true o 31 (sym (picked _ _ e) ∙ y) in absurd (omega (arith, x, l)))
       (λ e. never (sym (unpicked _ _ e) ∙ y))))
 
   entries-valid : eqb (c .figure .kind) 3 ≡ true → (c .figure .count ≤ 32) × (all (unit .valid) (unitList (c .entries) (c .figure .count)) ≡ true)
@@ -122,7 +123,7 @@ range p v = record {
       ap (λ (k : ℕ). cond (eqb (p .charge .figure .billed) 0) 8 k) (sym (picked _ _ (le-leb (p .charge .figure .billing) 7 b)));
   kind = only-units (p .service) (p .charge) v;
   count = λ e. entries-valid (p .service) (p .charge) v e .0;
-  valid = by-test (isUnitCall p) (λ e. rw e (entries-valid (p .service) (p .charge) v e .1)) (λ e. rw e refl);
+  valid = by-cases (isUnitCall p) (λ e. rw e (entries-valid (p .service) (p .charge) v e .1)) (λ e. rw e refl);
 }
 
 -- a figure of one kind is of no other
@@ -137,7 +138,7 @@ unit-type u v = leb-true (u .kind) 16 (and-left (leb (u .kind) 16) _ (sym (unit-
 unit-small : (u : Units) → unit .valid u ≡ true → u .number ≤ 16777215
 unit-small u v =
     let w = and-right (leb (u .kind) 16) _ (sym (unit-is u) ∙ v) in
-    by-test (eqb (u .known) 1)
+    by-cases (eqb (u .known) 1)
     (λ q. leb-true (u .number) 16777215 (sym (picked _ _ q) ∙ w))
     (λ q. let z = eqb-true (u .number) 0 (and-right (eqb (u .known) 0) _ (sym (unpicked _ _ q) ∙ w)) in omega (arith, z))
 
@@ -153,7 +154,7 @@ valid-small (u ∷ l) v =
 module _ (p : Posted) (f : Fine p) where
   pub few-entries : length (entriesOf p) ≤ 32
   few-entries =
-      by-test (isUnitCall p)
+      by-cases (isUnitCall p)
       (λ e. rw e (let z = f .count e in let y = table-length (p .charge .figure .count) (unitAt (p .charge .entries)) in omega (arith, z, y)))
       (λ e. rw e (omega arith))
 

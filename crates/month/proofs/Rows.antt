@@ -1,45 +1,46 @@
 -- The rows of currencies: raising one of them is picking the rows out of the list with one figure more. Assumes nothing.
 use Rattle.prelude.proofs.Prelude.{ℕ, suc, _+_, _^_, _<_, _≡_, refl, sym, _∙_, ap, ap₂, List, [], _∷_, _++_, map, true, false, not, _||_, arith, length, not-true, mod-eq-of-lt}
 use Rattle.coding.proofs.Basic.{and-left, and-right, picked, unpicked}
-use Rattle.phases.proofs.Choice.{by-test, never}
+use Rattle.prelude.proofs.Ways.{by-cases}
+use Rattle.phases.proofs.Choice.{never}
 use Rattle.types.specs.declared.Currency.{Currency}
-use Rattle.same_final.{specs.Currency.equalCurrency, proofs.Currencies.reflexive, proofs.Currencies.symmetric, proofs.Currencies.transitive}
+use Rattle.amounts.{specs.Currency.equalCurrency, proofs.Currencies.reflexive, proofs.Currencies.symmetric, proofs.Currencies.transitive}
 use Rattle.month_rows.specs.{declared.Row.Row, Rows.plus, Rows.newRow, Rows.oneMore, Rows.raise}
 use Rattle.month.specs.Totals.{Posted, which, total, currencyOf, amountIn, isMoneyCall, inCurrency, appears, currencies, rowBy, rowsBy, allDiffer}
 
 -- ---- equal currencies
 
 pub turned-not : (c d : Currency) → equalCurrency c d ≡ false → equalCurrency d c ≡ false
-turned-not c d q = by-test (equalCurrency d c) (λ e. never (sym q ∙ symmetric d c e)) (λ e. e)
+turned-not c d q = by-cases (equalCurrency d c) (λ e. never (sym q ∙ symmetric d c e)) (λ e. e)
 
 -- what is equal to one of two equal ones is equal to the other
 pub same-right : (e c d : Currency) → equalCurrency c d ≡ true → equalCurrency e c ≡ equalCurrency e d
 same-right e c d q =
-    by-test (equalCurrency e c) (λ t. t ∙ sym (transitive e c d t q))
-    (λ t. t ∙ sym (by-test (equalCurrency e d) (λ u. never (sym t ∙ transitive e d c u (symmetric c d q))) (λ u. u)))
+    by-cases (equalCurrency e c) (λ t. t ∙ sym (transitive e c d t q))
+    (λ t. t ∙ sym (by-cases (equalCurrency e d) (λ u. never (sym t ∙ transitive e d c u (symmetric c d q))) (λ u. u)))
 
 pub appears-same : (c d : Currency) (l : List Currency) → equalCurrency c d ≡ true → appears c l ≡ appears d l
 appears-same c d [] q = refl
 appears-same c d (e ∷ l) q = ap₂ (λ a b. a || b) (same-right e c d q) (appears-same c d l q)
 
 pub appears-more : (c e : Currency) (l : List Currency) → appears c (l ++ (e ∷ [])) ≡ (appears c l || equalCurrency e c)
-appears-more c e [] = by-test (equalCurrency e c) (λ q. rw q refl) (λ q. rw q refl)
-appears-more c e (d ∷ l) = by-test (equalCurrency d c) (λ q. rw q refl) (λ q. rw q (appears-more c e l))
+appears-more c e [] = by-cases (equalCurrency e c) (λ q. rw q refl) (λ q. rw q refl)
+appears-more c e (d ∷ l) = by-cases (equalCurrency d c) (λ q. rw q refl) (λ q. rw q (appears-more c e l))
 
 -- ---- no two rows have equal currencies
 
 differ-more : (l : List Currency) (c : Currency) → appears c l ≡ false → allDiffer l ≡ true → allDiffer (l ++ (c ∷ [])) ≡ true
 differ-more [] c n a = refl
 differ-more (d ∷ l) c n a =
-    by-test (equalCurrency d c) (λ q. never (sym (rw q at n)))
+    by-cases (equalCurrency d c) (λ q. never (sym (rw q at n)))
     (λ q. let n′ : appears c l ≡ false = rw q at n in
-    by-test (appears d l) (λ k. never (rw k at a))
+    by-cases (appears d l) (λ k. never (rw k at a))
     (λ k. rw (appears-more d c l, k, turned-not d c q) (differ-more l c n′ (rw k at a))))
 
 pub differ : (h : List Posted) → allDiffer (currencies h) ≡ true
 differ [] = refl
 differ (p ∷ h) =
-    by-test (isMoneyCall p) (λ m. by-test (appears (currencyOf p) (currencies h))
+    by-cases (isMoneyCall p) (λ m. by-cases (appears (currencyOf p) (currencies h))
     (λ k. rw (m, k) (differ h)) (λ k. rw (m, k) (differ-more (currencies h) (currencyOf p) k (differ h))))
     (λ m. rw m (differ h))
 
@@ -48,14 +49,14 @@ differ (p ∷ h) =
 pub none-yet : (c : Currency) (h : List Posted) → appears c (currencies h) ≡ false → which (inCurrency c) h ≡ []
 none-yet c [] n = refl
 none-yet c (p ∷ h) n =
-    by-test (isMoneyCall p)
-    (λ m. by-test (appears (currencyOf p) (currencies h))
+    by-cases (isMoneyCall p)
+    (λ m. by-cases (appears (currencyOf p) (currencies h))
     (λ k. let n′ : appears c (currencies h) ≡ false = rw (m, k) at n in
     let e : equalCurrency c (currencyOf p) ≡ false =
-    by-test (equalCurrency c (currencyOf p)) (λ q. never (sym n′ ∙ appears-same c (currencyOf p) (currencies h) q ∙ k)) (λ q. q) in
+    by-cases (equalCurrency c (currencyOf p)) (λ q. never (sym n′ ∙ appears-same c (currencyOf p) (currencies h) q ∙ k)) (λ q. q) in
     rw (m, e) (none-yet c h n′))
     (λ k. let n′ : (appears c (currencies h) || equalCurrency (currencyOf p) c) ≡ false = sym (appears-more c (currencyOf p) (currencies h)) ∙ rw (m, k) at n in
-    by-test (appears c (currencies h)) (λ t. never (sym (rw t at n′)))
+    by-cases (appears c (currencies h)) (λ t. never (sym (rw t at n′)))
     (λ t. let e : equalCurrency c (currencyOf p) ≡ false = turned-not (currencyOf p) c (rw t at n′) in
     rw (m, e) (none-yet c h t))))
     (λ m. rw m (none-yet c h (rw m at n)))
@@ -80,7 +81,7 @@ module _ (p : Posted) (h : List Posted) where
     miss-all : (l : List Currency) → appears c l ≡ false → map (rowBy h) l ≡ map (rowBy (p ∷ h)) l
     miss-all [] n = refl
     miss-all (d ∷ l) n =
-        by-test (equalCurrency d c) (λ q. never (sym (rw q at n)))
+        by-cases (equalCurrency d c) (λ q. never (sym (rw q at n)))
         (λ q. ap₂ (λ (x : Row) (y : List Row). x ∷ y) (miss d (missed d q)) (miss-all l (rw q at n)))
 
     raise-new : (l : List Currency) (z : Row) (zs : List Row) → appears c l ≡ false → which (inCurrency c) h ≡ []
@@ -91,7 +92,7 @@ module _ (p : Posted) (h : List Posted) where
         ap (λ (t : ℕ). newRow c t ∷ zs) (let y : amountIn p ≡ amountIn p + 0 = omega arith in y)
         ∙ ap (λ (t : List Posted). record { currency = c; unused = 0; calls = length t; sum = total amountIn t } ∷ zs) (sym w)
     raise-new (d ∷ l) z zs k none =
-        by-test (equalCurrency d c) (λ q. never (sym (rw q at k)))
+        by-cases (equalCurrency d c) (λ q. never (sym (rw q at k)))
         (λ q. unpicked _ _ q ∙ ap₂ (λ (x : Row) (y : List Row). x ∷ y) (miss d (missed d q)) (raise-new l z zs (rw q at k) none))
 
     pub stays : appears c (currencies h) ≡ true → currencies (p ∷ h) ≡ currencies h
@@ -121,7 +122,7 @@ module _ (p : Posted) (h : List Posted) where
       unfolding raise
       raise-known [] zs a k = never k
       raise-known (d ∷ l) zs a k =
-          by-test (equalCurrency d c)
+          by-cases (equalCurrency d c)
           (λ q. picked _ _ q ∙ ap₂ (λ (x : Row) (y : List Row). x ∷ y ++ zs) (hit d q)
           (miss-all l (appears-same c d l (symmetric d c q) ∙ not-true (appears d l) (and-left (not (appears d l)) (allDiffer l) a))))
           (λ q. unpicked _ _ q ∙ ap₂ (λ (x : Row) (y : List Row). x ∷ y) (miss d (missed d q)) (raise-known l zs (and-right (not (appears d l)) (allDiffer l) a) (rw q at k)))

@@ -2,9 +2,10 @@
 use Rattle.prelude.proofs.Prelude.{ℕ, zero, suc, _+_, _-_, _<_, _≡_, refl, sym, _∙_, ap, ap₂, List, [], _∷_, _++_, map, append-nil, Bool, true, false, not, _&&_, _||_, cond, eqb}
 use Rattle.prelude.proofs.Prelude.{eqb-true, eq-eqb, ne-eqb, arith, length, replicate, not-true}
 use Rattle.coding.{specs.Codec.pad, specs.Rows.table, proofs.Basic.and-left, proofs.Basic.and-right, proofs.Basic.picked, proofs.Basic.unpicked}
-use Rattle.phases.proofs.Choice.{by-test, never}
+use Rattle.prelude.proofs.Ways.{by-cases}
+use Rattle.phases.proofs.Choice.{never}
 use Rattle.types.specs.declared.Currency.{Currency}
-use Rattle.same_final.{specs.Currency.equalCurrency, proofs.Currencies.reflexive, proofs.Currencies.symmetric, proofs.Currencies.transitive}
+use Rattle.amounts.{specs.Currency.equalCurrency, proofs.Currencies.reflexive, proofs.Currencies.symmetric, proofs.Currencies.transitive}
 use Rattle.month_rows.specs.{declared.Row.Row, Rows.zeroRow}
 use Rattle.month.specs.Totals.{Posted, which, total, currencyOf, isMoneyCall, isFreeCall, isUnitCall, inCurrency, appears, currencies, rowBy, rowsBy, columnOf, inPlace, lineBy}
 use Rattle.month.specs.Totals.{allDiffer, firsts, inOrder}
@@ -21,7 +22,7 @@ module _ {A : Type 0} where
 
   which-append : (t : A → Bool) (l m : List A) → which t (l ++ m) ≡ which t l ++ which t m
   which-append t [] m = refl
-  which-append t (x ∷ l) m = by-test (t x) (λ q. rw q (ap (λ (k : List A). x ∷ k) (which-append t l m))) (λ q. rw q (which-append t l m))
+  which-append t (x ∷ l) m = by-cases (t x) (λ q. rw q (ap (λ (k : List A). x ∷ k) (which-append t l m))) (λ q. rw q (which-append t l m))
 
 -- ---- the calls of all rows
 
@@ -33,7 +34,7 @@ module _ (p : Posted) (h : List Posted) where
   calls-miss [] n = refl
   calls-miss (d ∷ l) n =
       ap₂ _+_ (ap length (unpicked (p ∷ which (inCurrency d) h) (which (inCurrency d) h) (n d (rw (reflexive d) refl))))
-      (calls-miss l (λ e a. n e (by-test (equalCurrency d e) (λ q. rw q refl) (λ q. rw q a))))
+      (calls-miss l (λ e a. n e (by-cases (equalCurrency d e) (λ q. rw q refl) (λ q. rw q a))))
 
   module _ (m : isMoneyCall p ≡ true) where
     abbrev c : Currency
@@ -41,12 +42,12 @@ module _ (p : Posted) (h : List Posted) where
 
     -- none of those that appear is the figure's
     strange : (l : List Currency) → appears c l ≡ false → (d : Currency) → appears d l ≡ true → inCurrency d p ≡ false
-    strange l n d a = missed p h m d (by-test (equalCurrency d c) (λ q. never (sym n ∙ sym (appears-same d c l q) ∙ a)) (λ q. q))
+    strange l n d a = missed p h m d (by-cases (equalCurrency d c) (λ q. never (sym n ∙ sym (appears-same d c l q) ∙ a)) (λ q. q))
 
     calls-hit : (l : List Currency) → allDiffer l ≡ true → appears c l ≡ true → total (callsIn (p ∷ h)) l ≡ suc (total (callsIn h) l)
     calls-hit [] a k = never k
     calls-hit (d ∷ l) a k =
-        by-test (equalCurrency d c)
+        by-cases (equalCurrency d c)
         (λ q. let x : callsIn (p ∷ h) d ≡ suc (callsIn h d) = ap length (one-in p h m d q) in
         let y = calls-miss l (strange l (appears-same c d l (symmetric d c q) ∙ not-true (appears d l) (and-left (not (appears d l)) (allDiffer l) a))) in
         omega (arith, x, y))
@@ -57,9 +58,9 @@ module _ (p : Posted) (h : List Posted) where
 all-calls : (h : List Posted) → total (callsIn h) (currencies h) ≡ length (which isMoneyCall h)
 all-calls [] = refl
 all-calls (p ∷ h) =
-    by-test (isMoneyCall p)
+    by-cases (isMoneyCall p)
     (λ m. let w : length (which isMoneyCall (p ∷ h)) ≡ suc (length (which isMoneyCall h)) = ap length (picked (p ∷ which isMoneyCall h) (which isMoneyCall h) m) in
-    by-test (appears (currencyOf p) (currencies h))
+    by-cases (appears (currencyOf p) (currencies h))
     (λ k. ap (total (callsIn (p ∷ h))) (stays p h m k) ∙ calls-hit p h m (currencies h) (differ h) k ∙ ap suc (all-calls h) ∙ sym w)
     (λ k. let one : callsIn (p ∷ h) (currencyOf p) ≡ suc (callsIn h (currencyOf p)) = ap length (one-in p h m (currencyOf p) (reflexive (currencyOf p))) in
     let none-before : callsIn h (currencyOf p) ≡ 0 = ap length (none-yet (currencyOf p) h k) in
@@ -91,9 +92,9 @@ pub kinds-add-up : {h : List Posted} → AllFine h → length (which isMoneyCall
 kinds-add-up none = refl
 kinds-add-up (more {p} {h} f s) =
     let z = kinds-add-up s in
-    by-test (isMoneyCall p)
+    by-cases (isMoneyCall p)
     (λ m. rw (m, kind-not (p .charge) 2 1 (λ e. omega (arith, e)) m, kind-not (p .charge) 2 3 (λ e. omega (arith, e)) m) (omega (arith, z)))
-    (λ m. by-test (isFreeCall p)
+    (λ m. by-cases (isFreeCall p)
     (λ k. rw (m, k, kind-not (p .charge) 1 3 (λ e. omega (arith, e)) k) (omega (arith, z)))
     (λ k. rw (m, k, f .kind m k) (omega (arith, z))))
 
@@ -133,7 +134,7 @@ unfolding table
 places-add-up none = refl
 places-add-up (more {p} {h} f s) =
     let z = places-add-up s in
-    by-test (eqb (p .service) 2)
+    by-cases (eqb (p .service) 2)
     (λ q. let e = eqb-true (p .service) 2 q in
     let a = line-hit p h f 2 q in let b = line-miss p h f 3 (ne-eqb (p .service) 3 (λ y. omega (arith, y, e))) in omega (arith, a, b, z))
     (λ q. let a = line-miss p h f 2 q in let b = line-hit p h f 3 (f .line 1 ∙ ap (λ (k : ℕ). eqb k 1) (unpicked 0 1 q)) in omega (arith, a, b, z))
@@ -146,8 +147,8 @@ others d = which (λ e. not (equalCurrency d e))
 appears-kept : (d c : Currency) → equalCurrency d c ≡ false → (l : List Currency) → appears c (others d l) ≡ appears c l
 appears-kept d c n [] = refl
 appears-kept d c n (e ∷ l) =
-    by-test (equalCurrency d e)
-    (λ t. let u : equalCurrency e c ≡ false = by-test (equalCurrency e c) (λ q. never (sym n ∙ transitive d e c t q)) (λ q. q) in rw (t, u) (appears-kept d c n l))
+    by-cases (equalCurrency d e)
+    (λ t. let u : equalCurrency e c ≡ false = by-cases (equalCurrency e c) (λ q. never (sym n ∙ transitive d e c t q)) (λ q. q) in rw (t, u) (appears-kept d c n l))
     (λ t. rw t (ap (λ (b : Bool). equalCurrency e c || b) (appears-kept d c n l)))
 
 -- a currency more at the end: it comes last, unless it was there
@@ -156,15 +157,15 @@ firsts-more c [] = refl
 firsts-more c (d ∷ l) =
     let whole = ap (λ (k : List Currency). d ∷ others d k) (firsts-more c l) in
     let cut = ap (λ (k : List Currency). d ∷ k) (which-append (λ e. not (equalCurrency d e)) (firsts l) (c ∷ [])) in
-    by-test (equalCurrency d c)
+    by-cases (equalCurrency d c)
     (λ q. let none-new : others d (c ∷ []) ≡ [] = rw q refl in
-    whole ∙ by-test (appears c (firsts l)) (λ a. ap (λ (k : List Currency). d ∷ others d k) (picked _ _ a))
+    whole ∙ by-cases (appears c (firsts l)) (λ a. ap (λ (k : List Currency). d ∷ others d k) (picked _ _ a))
     (λ a. ap (λ (k : List Currency). d ∷ others d k) (unpicked _ _ a) ∙ cut ∙ ap (λ (k : List Currency). d ∷ others d (firsts l) ++ k) none-new
     ∙ ap (λ (k : List Currency). d ∷ k) (append-nil (others d (firsts l))))
     ∙ sym (picked _ _ (ap (λ (b : Bool). b || appears c (others d (firsts l))) q)))
     (λ q. let one-new : others d (c ∷ []) ≡ c ∷ [] = rw q refl in
     let there : (equalCurrency d c || appears c (others d (firsts l))) ≡ appears c (firsts l) = ap (λ (b : Bool). b || appears c (others d (firsts l))) q ∙ appears-kept d c q (firsts l) in
-    whole ∙ by-test (appears c (firsts l))
+    whole ∙ by-cases (appears c (firsts l))
     (λ a. ap (λ (k : List Currency). d ∷ others d k) (picked _ _ a) ∙ sym (picked _ _ (there ∙ a)))
     (λ a. ap (λ (k : List Currency). d ∷ others d k) (unpicked _ _ a) ∙ cut ∙ ap (λ (k : List Currency). d ∷ others d (firsts l) ++ k) one-new ∙ sym (unpicked _ _ (there ∙ a))))
 
@@ -179,10 +180,10 @@ first-order (p ∷ h) =
     let l : List Currency = map currencyOf (which isMoneyCall (inOrder h)) in
     let split : map currencyOf (which isMoneyCall (inOrder h ++ (p ∷ []))) ≡ l ++ map currencyOf (which isMoneyCall (p ∷ [])) =
     ap (map currencyOf) (which-append isMoneyCall (inOrder h) (p ∷ [])) ∙ map-append (which isMoneyCall (inOrder h)) (which isMoneyCall (p ∷ [])) in
-    by-test (isMoneyCall p)
+    by-cases (isMoneyCall p)
     (λ m. let e : map currencyOf (which isMoneyCall (p ∷ [])) ≡ c ∷ [] = rw m refl in
     let last = ap firsts (split ∙ ap (λ (k : List Currency). l ++ k) e) ∙ firsts-more c l ∙ ap (λ (k : List Currency). cond (appears c k) k (k ++ (c ∷ []))) (sym (first-order h)) in
-    by-test (appears c (currencies h)) (λ k. stays p h m k ∙ sym (last ∙ picked _ _ k)) (λ k. grows p h m k ∙ sym (last ∙ unpicked _ _ k)))
+    by-cases (appears c (currencies h)) (λ k. stays p h m k ∙ sym (last ∙ picked _ _ k)) (λ k. grows p h m k ∙ sym (last ∙ unpicked _ _ k)))
     (λ m. let e : map currencyOf (which isMoneyCall (p ∷ [])) ≡ [] = rw m refl in
     let same : currencies (p ∷ h) ≡ currencies h = rw m refl in
     same ∙ first-order h ∙ ap firsts (sym (split ∙ ap (λ (k : List Currency). l ++ k) e ∙ append-nil l)))

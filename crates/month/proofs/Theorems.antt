@@ -1,7 +1,7 @@
 -- The theorems on a month. Assumes nothing.
 use Rattle.prelude.proofs.Prelude.{ℕ, _+_, _≤_, _≡_, refl, sym, _∙_, ap, ap₂, subst, List, [], _∷_, map, true, not, _&&_, eqb, leb, eqb-true, leb-false, arith, length}
 use Rattle.coding.proofs.Basic.{picked, unpicked}
-use Rattle.phases.proofs.Choice.{by-test}
+use Rattle.prelude.proofs.Ways.{by-cases}
 use Rattle.types.specs.{declared.Charge.Charge, declared.Currency.Currency, Arguments.isKind}
 use Rattle.closing.specs.Range.{inRange}
 use Rattle.month_rows.specs.declared.Row.{Row}
@@ -21,9 +21,9 @@ use Rattle.month.proofs.Sums.{sum, padded-calls, kinds-add-up, places-a
 pub refused-stays : (m : Month) (service : ℕ) (c : Charge) → (addOf m service c .number ≡ 0 → ⊥) → addOf m service c .month ≡ m
 unfolding addOf
 refused-stays m service c e =
-    by-test (not (inRange service c)) (λ q. rw q refl)
-    (λ q. by-test (leb 4096 (m .added)) (λ l. rw (q, l) refl)
-    (λ l. by-test (isKind 2 c && (isNew m (c .figure .money .currency) && leb 16 (used m))) (λ n. rw (q, l, n) refl)
+    by-cases (not (inRange service c)) (λ q. rw q refl)
+    (λ q. by-cases (leb 4096 (m .added)) (λ l. rw (q, l) refl)
+    (λ l. by-cases (isKind 2 c && (isNew m (c .figure .money .currency) && leb 16 (used m))) (λ n. rw (q, l, n) refl)
     (λ n. absurd (e (rw (q, l, n) refl)))))
 
 -- ---- over any list of figures, refused ones among them
@@ -36,14 +36,14 @@ record Stand (m : Month) (h l : List Posted) : Type 0 where
 
 kept-few : (h : List Posted) (p : Posted) → length h ≤ 4096 → length (keptAfter h p) ≤ 4096
 kept-few h p few =
-    by-test (eqb (numberAfter h p) 0)
-    (λ z. by-test (leb 4096 (length h)) (λ l. absurd (let w = eqb-true (numberAfter h p) 0 z in refused w l))
+    by-cases (eqb (numberAfter h p) 0)
+    (λ z. by-cases (leb 4096 (length h)) (λ l. absurd (let w = eqb-true (numberAfter h p) 0 z in refused w l))
     (λ l. subst (λ (k : List Posted). length k ≤ 4096) (sym (picked (p ∷ h) h z)) (let w = leb-false 4096 (length h) l in omega (arith, w))))
     (λ z. subst (λ (k : List Posted). length k ≤ 4096) (sym (unpicked (p ∷ h) h z)) few)
   where
     refused : numberAfter h p ≡ 0 → leb 4096 (length h) ≡ true → ⊥
     refused w l =
-        by-test (not (inRange (p .service) (p .charge))) (λ q. let y : numberAfter h p ≡ 10 = picked _ _ q in omega (arith, w, y))
+        by-cases (not (inRange (p .service) (p .charge))) (λ q. let y : numberAfter h p ≡ 10 = picked _ _ q in omega (arith, w, y))
         (λ q. let y : numberAfter h p ≡ 46 = unpicked _ _ q ∙ picked _ _ l in omega (arith, w, y))
 
 all-stand : (l : List Posted) (m : Month) (h : List Posted) → Totals m h → AllFine h → length h ≤ 4096 → Stand m h l

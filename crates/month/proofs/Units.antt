@@ -3,7 +3,8 @@ use Rattle.prelude.proofs.Prelude.{ℕ, zero, suc, _+_, _*_, _^_, _<_, _≤_, _
 use Rattle.prelude.proofs.Prelude.{length, getD, set, length-set, mod-eq-of-lt, suc-mul}
 use lib.Seq.{getD-set-same, getD-set-other}
 use Rattle.coding.{specs.Codec.all, specs.Rows.table, proofs.Basic.and-left, proofs.Basic.and-right, proofs.Basic.picked, proofs.Basic.unpicked}
-use Rattle.phases.proofs.Choice.{by-test, by-number}
+use Rattle.prelude.proofs.Ways.{by-cases}
+use Rattle.phases.proofs.Choice.{by-number}
 use Rattle.types.specs.{declared.Units.Units, declared.Entries.Entries, Entries.unit, Entries.unitAt, Entries.unitList}
 use Rattle.same_final.specs.Same.{upTo}
 use Rattle.month_rows.specs.{Rows.plus, Sums.addUnit, Sums.sumUnits, Sums.countAbsent}
@@ -35,7 +36,7 @@ whole-list e n = from-table e 0 n ∙ table-same n (λ j. unitAt e (0 + j)) (uni
 -- ---- one entry
 
 kept-length : (u : Units) (s : List ℕ) → length (addUnit u s) ≡ length s
-kept-length u s = by-test (eqb (u .known) 1) (λ q. rw q (length-set s _ _)) (λ q. rw q refl)
+kept-length u s = by-cases (eqb (u .known) 1) (λ q. rw q (length-set s _ _)) (λ q. rw q refl)
 
 one-unit : (u : Units) (s : List ℕ) (k : ℕ) → unit .valid u ≡ true → length s ≡ 17 → k < 17 → getD s k 0 + u .number < 2 ^ 64
     → getD (addUnit u s) k 0 ≡ getD s k 0 + cond (ofType k u) (u .number) 0
@@ -44,7 +45,7 @@ one-unit u s k v n h f =
     let put : ℕ → List ℕ = λ (i : ℕ). set s i (plus 64 (getD s i 0) (u .number)) in
     let left : ofType k u ≡ false → getD s k 0 ≡ getD s k 0 + cond (ofType k u) (u .number) 0 =
     λ t. (let z : getD s k 0 ≡ getD s k 0 + 0 = omega arith in z) ∙ ap (λ (m : ℕ). getD s k 0 + m) (sym (unpicked _ _ t)) in
-    by-test (eqb (u .known) 1)
+    by-cases (eqb (u .known) 1)
     (λ q. by-number (u .kind) k
     (λ e. let t : ofType k u ≡ true = rw (q, eq-eqb (u .kind) k e) refl in
     ap (λ (l : List ℕ). getD l k 0) (picked _ _ q) ∙ ap (λ (i : ℕ). getD (put i) k 0) (same ∙ e)
@@ -79,7 +80,7 @@ pub absent-sum : (e : Entries) (i n s : ℕ) → s + n < 2 ^ 32 → countAbsent 
 unfolding countAbsent entriesFrom
 absent-sum e i zero s f = omega arith
 absent-sum e i (suc n) s f =
-    by-test (eqb (unitAt e i .known) 1)
+    by-cases (eqb (unitAt e i .known) 1)
     (λ q. let r = absent-sum e (i + 1) n s (omega (arith, f)) in rw q r)
     (λ q. let a : plus 32 s 1 ≡ s + 1 = mod-eq-of-lt (let z : s + 1 < 2 ^ 32 = omega (arith, f) in z) in
     let r = absent-sum e (i + 1) n (s + 1) (omega (arith, f)) in
@@ -96,7 +97,7 @@ units-length e i (suc n) s = units-length e (i + 1) n (addUnit (unitAt e i) s) �
 
 fewer-number : (t : Units → Bool) (l : List Units) → total number (which t l) ≤ total number l
 fewer-number t [] = omega arith
-fewer-number t (u ∷ l) = let z = fewer-number t l in by-test (t u) (λ q. rw q (omega (arith, z))) (λ q. rw q (omega (arith, z)))
+fewer-number t (u ∷ l) = let z = fewer-number t l in by-cases (t u) (λ q. rw q (omega (arith, z))) (λ q. rw q (omega (arith, z)))
 
 pub units-small : (k : ℕ) {h : List Posted} → AllFine h → total (unitsIn k) h ≤ length h * 536870880
 units-small k none = omega arith

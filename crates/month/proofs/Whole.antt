@@ -2,7 +2,7 @@
 use Rattle.prelude.proofs.Prelude.{ℕ, zero, suc, _+_, _*_, _^_, _<_, _≤_, _≡_, refl, sym, _∙_, ap, ap₂, subst, List, [], _∷_, map, Bool, true, false, not, _&&_, cond, eqb, leb}
 use Rattle.prelude.proofs.Prelude.{eqb-true, eqb-false, le-leb, lt-leb, leb-true, leb-false, arith, length, getD, replicate, mod-eq-of-lt}
 use Rattle.coding.{specs.Codec.all, specs.Codec.pad, specs.Rows.table, proofs.Basic.picked, proofs.Basic.unpicked, proofs.Rows.rows-table}
-use Rattle.phases.proofs.Choice.{by-test}
+use Rattle.prelude.proofs.Ways.{by-cases}
 use Rattle.types.specs.{declared.Units.Units, declared.Charge.Charge, declared.Currency.Currency, Entries.unit}
 use Rattle.same_final.specs.Same.{upTo}
 use Rattle.closing.specs.Range.{inRange}
@@ -175,14 +175,14 @@ module _ (m : Month) (h : List Posted) (p : Posted) (t : Totals m h) (fine : All
         let kind = eqb-true (p .charge .figure .kind) 2 money in
         let i : ℕ = rowOf x (used m) (m .rows) in
         let u = used-is m h (t .filled) in let y = up-to-most 16 (m .count) in
-        by-test (appears x (currencies h))
+        by-cases (appears x (currencies h))
         (λ k. let new : eqb i (used m) ≡ false = new-is m h (t .filled) x ∙ ap not k in
         let z = at-most x (used m) (m .rows) in
         let other : i ≡ 16 → ⊥ = λ e. eqb-false i (used m) new (omega (arith, e, y, z)) in let w : over ≡ false = rw (money, k) refl in
         stood m h p 0 _ (add-money m (p .service) (p .charge) q less kind i (used m) refl refl other) (in-list ∙ unpicked _ _ w)
         (money-totals m h p t few fine (range p q) money (filled-known m h (t .filled) p money few fine (range p q) k)))
         (λ k. let new : i ≡ used m = eqb-true i (used m) (new-is m h (t .filled) x ∙ ap not k) in
-        by-test (leb 16 (length (currencies h)))
+        by-cases (leb 16 (length (currencies h)))
         (λ l. let g = leb-true 16 (length (currencies h)) l in let w : over ≡ true = rw (money, k, l) refl in
         stood m h p 47 m (add-47 m (p .service) (p .charge) q less kind i (used m) refl refl (omega (arith, new, u, g, y))) (in-list ∙ picked _ _ w) t)
         (λ l. let g = leb-false 16 (length (currencies h)) l in let w : over ≡ false = rw (money, k, l) refl in
@@ -192,28 +192,28 @@ module _ (m : Month) (h : List Posted) (p : Posted) (t : Totals m h) (fine : All
     other-stands : isMoneyCall p ≡ false → Stood m h p
     other-stands k =
         let kind = eqb-false (p .charge .figure .kind) 2 k in let z : over ≡ false = rw k refl in let w = in-list ∙ unpicked _ _ z in
-        by-test (isFreeCall p)
+        by-cases (isFreeCall p)
         (λ f. stood m h p 0 _ (add-free m (p .service) (p .charge) q less kind (eqb-true (p .charge .figure .kind) 1 f)) w (free-totals m h p t few fine (range p q) k f))
         (λ f. stood m h p 0 _ (add-units m (p .service) (p .charge) q less kind (eqb-false (p .charge .figure .kind) 1 f)) w (units-totals m h p t few fine (range p q) k f))
 
   pub stands : Stood m h p
   stands =
-      by-test (inRange (p .service) (p .charge))
-      (λ q. let a = t .added in by-test (leb 4096 (length h))
+      by-cases (inRange (p .service) (p .charge))
+      (λ q. let a = t .added in by-cases (leb 4096 (length h))
       (λ l. let g = leb-true 4096 (length h) l in
       stood m h p 46 m (add-46 m (p .service) (p .charge) q (omega (arith, g, a))) (unpicked _ _ (ap not q) ∙ picked _ _ l) t)
       (λ l. let few = leb-false 4096 (length h) l in let less : m .added < 4096 = omega (arith, few, a) in
-      by-test (isMoneyCall p) (money-stands q few less) (other-stands q few less)))
+      by-cases (isMoneyCall p) (money-stands q few less) (other-stands q few less)))
       (λ q. stood m h p 10 m (add-10 m (p .service) (p .charge) q) (picked _ _ (ap not q)) t)
 
   accepted : eqb (numberAfter h p) 0 ≡ true → inRange (p .service) (p .charge) ≡ true
   accepted z =
-      by-test (inRange (p .service) (p .charge)) (λ q. q)
+      by-cases (inRange (p .service) (p .charge)) (λ q. q)
       (λ q. let y : numberAfter h p ≡ 10 = picked _ _ (ap not q) in let w = eqb-true (numberAfter h p) 0 z in absurd (omega (arith, y, w)))
 
   pub still-fine : AllFine (keptAfter h p)
   still-fine =
-      by-test (eqb (numberAfter h p) 0) (λ z. subst AllFine (sym (picked _ _ z)) (more (range p (accepted z)) fine)) (λ z. subst AllFine (sym (unpicked _ _ z)) fine)
+      by-cases (eqb (numberAfter h p) 0) (λ z. subst AllFine (sym (picked _ _ z)) (more (range p (accepted z)) fine)) (λ z. subst AllFine (sym (unpicked _ _ z)) fine)
 
 -- ---- the empty month
 

@@ -11,8 +11,8 @@ use Rattle.types.specs.declared.Currency.{Currency}
 use Rattle.types.specs.declared.Units.{Units}
 use Rattle.types.specs.Entries.{unitList}
 use Rattle.types.specs.Arguments.{isKind}
-use Rattle.same_final.specs.Currency.{equalCurrency}
-use Rattle.same_final.specs.Same.{thousandths}
+use Rattle.amounts.specs.Currency.{equalCurrency}
+use Rattle.amounts.specs.Amounts.{thousandths}
 use Rattle.closing.specs.Range.{inRange}
 use Rattle.month_rows.specs.declared.Row.{Row}
 use Rattle.month_rows.specs.Rows.{zeroRow}

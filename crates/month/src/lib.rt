@@ -58,7 +58,7 @@ fn with_money(mut m: Month, x: Money, i: usize, n: usize) -> Month
 {
     let c = x.currency;
     let rows = m.rows;
-    let next = month_rows::with_row(rows, i, n, c, values::thousandths(x.number, x.multiplier));
+    let next = month_rows::with_row(rows, i, n, c, amounts::thousandths(x.number, x.multiplier));
     m.rows = next;
     if i != n {
         return m;

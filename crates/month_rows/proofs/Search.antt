@@ -1,8 +1,9 @@
 -- The search for a currency's row, row by row, and the row stored at the place that is found. Assumes nothing.
 use Rattle.prelude.proofs.Prelude.{ℕ, zero, suc, _+_, _-_, _<_, _≤_, _≡_, refl, sym, _∙_, ap, List, [], _∷_, true, false, cond, arith, length, getD, set, drop}
-use Rattle.coding.proofs.Basic.{by-cases, picked, unpicked}
+use Rattle.prelude.proofs.Ways.{by-cases}
+use Rattle.coding.proofs.Basic.{picked, unpicked}
 use Rattle.types.specs.declared.Currency.{Currency}
-use Rattle.same_final.specs.Currency.{equalCurrency}
+use Rattle.amounts.specs.Currency.{equalCurrency}
 use Rattle.month_rows.specs.declared.Row.{Row}
 use Rattle.month_rows.specs.Rows.{newRow, oneMore, rowOf, raise}
 

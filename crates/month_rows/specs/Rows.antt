@@ -4,7 +4,7 @@ use mathlib.Core.List.{List, [], _∷_}
 use mathlib.Core.Bool.{cond}
 use Rattle.types.specs.declared.Currency.{Currency}
 use Rattle.types.specs.Charges.{noCurrency}
-use Rattle.same_final.specs.Currency.{equalCurrency}
+use Rattle.amounts.specs.Currency.{equalCurrency}
 use Rattle.month_rows.specs.declared.Row.{Row}
 
 -- a sum in w bits; it wraps where it has no room

@@ -52,7 +52,7 @@ pub fn row_of(rows: [Row; 16], n: usize, c: Currency) -> usize
     while i < n {
         let r = rows[i];
         let d = r.currency;
-        if same_final::same_currency(d, c) {
+        if amounts::same_currency(d, c) {
             return i;
         }
         i += 1;

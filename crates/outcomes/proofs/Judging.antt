@@ -3,7 +3,8 @@ use Rattle.prelude.proofs.Prelude.{ℕ, _≡_, refl, sym, _∙_, ap, List, [], 
 use Rattle.types.specs.{declared.Charge.Charge, Frames.readOf, Frames.refusedAt}
 use Rattle.same_final.specs.Same.{sameOf}
 use Rattle.phases.{specs.declared.Event.Event, specs.declared.Outcome.Outcome, specs.Phases.Idle, specs.Phases.Ended, specs.Phases.Setup, specs.Phases.Component, specs.Phases.S}
-use Rattle.phases.{specs.Phases.outcome, specs.Phases.noService, specs.Phases.clashes, specs.Phases.allowed, proofs.Choice.by-test, proofs.Choice.by-number, proofs.Choice.never}
+use Rattle.phases.{specs.Phases.outcome, specs.Phases.noService, specs.Phases.clashes, specs.Phases.allowed, proofs.Choice.by-number, proofs.Choice.never}
+use Rattle.prelude.proofs.Ways.{by-cases}
 use Rattle.phases.{proofs.Transitions.from-idle, proofs.Transitions.from-ended}
 use Rattle.outcomes.specs.Outcome.{among, isRefusal, Known, fits, runs, closes, judgeFigure, firstFinal, judgeRecord, judgeAnswer, judge, chargeIn, was, its, settles}
 use Rattle.outcomes.specs.Status.{isGiven}
@@ -23,9 +24,9 @@ phased-judge k e o q = rw q
 pub unsettled-now : (s : ℕ) (k : Known) (e : Event) (o : List ℕ) → k .phase ≡ Idle → settles s (judge k e o) ≡ false
 unfolding judge
 unsettled-now s k e o z =
-    by-test (eqb (e .kind) Setup)
+    by-cases (eqb (e .kind) Setup)
     (λ q. let c : eqb (e .kind) Component ≡ false = ap (λ (x : ℕ). eqb x Component) (eqb-true (e .kind) Setup q) in
-    by-test (allowed (e .kind) (k .phase)) (λ a. by-test (clashes e) (λ v. rw (a, c, q, v)) (λ v. rw (a, c, q, v))) (λ a. rw a))
+    by-cases (allowed (e .kind) (k .phase)) (λ a. by-cases (clashes e) (λ v. rw (a, c, q, v)) (λ v. rw (a, c, q, v))) (λ a. rw a))
     (λ q. rw (from-idle (e .kind) (k .phase) z q))
 
 -- ---- what is not read is refused by its own number in every phase: 27 comes after decoding
@@ -67,7 +68,7 @@ keeps r = (was 20 r || its S 24 r) || (was 21 r || was 22 r)
 -- a result that is kept is a list or a special arrangement
 fitting : (s : ℕ) (c : Charge) → fits s c ≡ true → keeps (outcome 24 s) ≡ true → isGiven c ≡ true
 fitting s c f q =
-    by-test (eqb s S)
+    by-cases (eqb s S)
     (λ t. by-number (c .figure .kind) 4 (λ k. rw k) (λ k. rw (eqb-true (c .figure .kind) 5 (rw (t, k) at f))))
     (λ t. let z : false ≡ true = rw t at q in cc)
 

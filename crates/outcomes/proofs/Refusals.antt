@@ -2,10 +2,11 @@
 use Rattle.prelude.proofs.Prelude.{ℕ, _≤_, _≡_, refl, sym, _∙_, ap, List, [], _∷_, Bool, true, false, not, _&&_, _||_, _⊎_, inl, inr, eqb, leb, arith, not-true, not-false, leb-true, le-leb}
 use Rattle.prelude.proofs.Prelude.{lt-leb}
 use Rattle.types.{specs.Frames.readOf, proofs.Theorems.refusal}
-use Rattle.same_final.{proofs.Each.each-fails}
+use Rattle.octets.proofs.Each.{each-fails}
 use Rattle.outcomes.specs.Outcome.{among, refusals, isRefusal}
-use Rattle.phases.proofs.Choice.{by-test, by-number, never, first-of, second-of}
-pub use Rattle.same_final.proofs.Ways.{ways}
+use Rattle.prelude.proofs.Ways.{by-cases}
+use Rattle.phases.proofs.Choice.{by-number, never, first-of, second-of}
+pub use Rattle.prelude.proofs.Ways.{ways}
 
 -- a number that passes a test is none that fails it
 pub apart : (t : ℕ → Bool) (n k : ℕ) → t n ≡ true → t k ≡ false → eqb n k ≡ false
@@ -29,7 +30,7 @@ decoding n = leb n 8 || (leb 40 n && leb n 45)
 in-list : (n : ℕ) → n ≤ 45 → (not (decoding n) || (eqb n 0 || isRefusal n)) ≡ true
 unfolding isRefusal
 in-list n h =
-    by-test (not (decoding n) || (eqb n 0 || isRefusal n)) (λ t. t)
+    by-cases (not (decoding n) || (eqb n 0 || isRefusal n)) (λ t. t)
     (λ f. never (sym (each-fails 46 (λ m. not (decoding m) || (eqb m 0 || isRefusal m)) n (omega arith) f)))
 
 pub decoding-refusal : (o : List ℕ) → eqb (readOf o .number) 0 ≡ false → isRefusal (readOf o .number) ≡ true

@@ -1,3 +1,3 @@
 pub mod Outcome
 pub mod Status
-pub mod Parts
+pub mod ByNumber

@@ -8,8 +8,8 @@ use Rattle.types.specs.declared.Front.{Front}
 use Rattle.types.specs.declared.Record.{Record}
 use Rattle.types.specs.declared.Answer.{Answer}
 use Rattle.types.specs.Frames.{readOf}
-use Rattle.values.specs.declared.Services.{Services}
-use Rattle.values.specs.Sets.{has}
+use Rattle.requests.specs.declared.Services.{Services}
+use Rattle.requests.specs.Sets.{has}
 use Rattle.same_final.specs.Same.{sameOf}
 use Rattle.phases.specs.declared.Event.{Event}
 use Rattle.phases.specs.declared.Outcome.{Outcome}

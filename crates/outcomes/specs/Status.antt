@@ -3,7 +3,7 @@ use Prim.Native.Nat.{ℕ}
 use mathlib.Core.Bool.{Bool, not, _||_, cond}
 use lib.Dec.{eqb}
 use Rattle.types.specs.declared.Charge.{Charge}
-use Rattle.values.specs.Sets.{with}
+use Rattle.requests.specs.Sets.{with}
 use Rattle.phases.specs.declared.Event.{Event}
 use Rattle.phases.specs.declared.Outcome.{Outcome}
 use Rattle.phases.specs.declared.Status.{Status}

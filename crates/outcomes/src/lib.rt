@@ -11,7 +11,8 @@ ghost use lib.Dec.{eqb};
 ghost use Rattle.phases.specs.Phases.{outcome};
 ghost use Rattle.outcomes.specs.Outcome.{serviceOf, holderOf, judgeFinal, judgeFailure, invokeService};
 ghost use Rattle.outcomes.specs.Status.{requestsOf, firstFigure, noted, placeOf};
-ghost use Rattle.outcomes.specs.Parts.{runsBy, closesBy, claimFigure, claimInvoke, fitsBy, claimResult, claimFrame, claimRecord, chargeFrom};
+ghost use Rattle.outcomes.specs.ByNumber.{runsBy, closesBy, claimFigure, claimInvoke, fitsBy, claimResult, claimFrame, claimRecord};
+ghost use Rattle.types.specs.Stored.{withList};
 
 // ---- the outcome of a component, but for comparing finals: one that is claimed is 22
 
@@ -243,7 +244,7 @@ pub fn final_outcome(
     rows: &[u8; 192],
     service: u8,
 ) -> Outcome
-    ensures { λ r. ⌜ r ≡ judgeFinal (firstFigure first) service (chargeFrom figure (now (numbers .entry)) (now (rows .entry))) ⌝ }
+    ensures { λ r. ⌜ r ≡ judgeFinal (firstFigure first) service (withList figure (now (numbers .entry)) (now (rows .entry))) ⌝ }
 {
     if first.figure.kind == 0 {
         return Outcome {

@@ -1,13 +1,10 @@
 -- The starts of an accepted element rise, so a place is among them once, and the place after it lies inside the element.
 use Rattle.prelude.proofs.Prelude.{ℕ, zero, suc, _+_, _-_, _≤_, _<_, arith, _≡_, refl, sym, ap, _∙_, Bool, true, false, List, [], _∷_, length, getD, take, eqb, eqb-true, eq-eqb, ne-eqb, cond}
+use Rattle.prelude.proofs.Ways.{by-cases}
 use Rattle.coding.{specs.declared.Extent.Extent, specs.Reader.lengthAt, specs.Reader.part, specs.Reader.Ans.got, proofs.Basic.never, proofs.Basic.chain, proofs.Basic.same-got}
 use Rattle.coding.{proofs.Basic.picked, proofs.Basic.unpicked, proofs.Parts.part-cons, proofs.Parts.part-none, proofs.Header.read-element, proofs.Header.element-range}
-use Rattle.facility.{specs.Element.tiled, specs.Element.led, specs.Element.elementOf, specs.Parts.startsOf, specs.Parts.firstOr, proofs.Tiles.answer-found, proofs.Tiles.led-long}
+use Rattle.facility.{specs.Element.tiled, specs.Element.led, specs.Element.elementOf, specs.Cut.startsOf, specs.Cut.firstOr, proofs.Tiles.answer-found, proofs.Tiles.led-long}
 use Rattle.pass.specs.{declared.Found.Found, Pass.noneAt, Pass.foundUpTo, Pass.amongStarts, Pass.foundAt, Places.afterIn, Pass.Reads, Pass.Passed, Pass.passWith}
-
-pub by-test : {P : Type 0} (b : Bool) → (b ≡ true → P) → (b ≡ false → P) → P
-by-test true f g = f refl
-by-test false f g = g refl
 
 -- each start lies below the next, the last below the end
 abbrev pub Rises : ℕ → List ℕ → Type 0
@@ -28,7 +25,7 @@ goes-on s i {v} {n} e =
 tiled-rises : (turns : ℕ) (s : List ℕ) (i : ℕ) (xs : List ℕ) {last : ℕ} → tiled turns s i (length s) ≡ got xs last → Rises (length s) xs × (firstOr (length s) xs ≡ i)
 unfolding tiled
 tiled-rises zero s i xs e = absurd (never e)
-tiled-rises (suc turns) s i xs {last} e = by-test (eqb i (length s))
+tiled-rises (suc turns) s i xs {last} e = by-cases (eqb i (length s))
     (λ q. same-got (λ ys m. Rises (length s) ys × (firstOr (length s) ys ≡ i)) (rw q at e) (tt, sym (eqb-true i (length s) q)))
     (λ q. let a = chain _ _ (rw q at e) in
     let b = chain _ _ (a .3) in
@@ -54,7 +51,7 @@ module _ (place end : ℕ) where
   pub among-found : (xs : List ℕ) → Rises end xs → (q : ℕ) → afterIn place end xs ≡ q → (q ≡ 0 → ⊥) → (place < q) × (q ≤ end) × (amongStarts place end xs ≡ foundUpTo q)
   unfolding afterIn amongStarts
   among-found [] r q e n = absurd (n (sym e))
-  among-found (a ∷ xs) r q e n = by-test (eqb a place)
+  among-found (a ∷ xs) r q e n = by-cases (eqb a place)
       (λ t. let z : a ≡ place = eqb-true a place t in
       let f : firstOr end xs ≡ q = rw t at e in
       (omega (arith, r .0), omega (arith, first-inside end xs (r .1)), rw t (ap foundUpTo f)))
@@ -63,7 +60,7 @@ module _ (place end : ℕ) where
   pub among-none : (xs : List ℕ) → Rises end xs → afterIn place end xs ≡ 0 → amongStarts place end xs ≡ noneAt 0 16
   unfolding afterIn amongStarts
   among-none [] r e = refl
-  among-none (a ∷ xs) r e = by-test (eqb a place)
+  among-none (a ∷ xs) r e = by-cases (eqb a place)
       (λ t. let f : firstOr end xs ≡ 0 = rw t at e in absurd (omega (arith, r .0))) (λ t. rw t (among-none xs (r .1) (rw t at e)))
 
 -- ---- the loop over the starts: what is left of them from i on

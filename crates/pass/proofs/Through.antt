@@ -3,7 +3,7 @@ use Rattle.prelude.proofs.Prelude.{ℕ, zero, suc, _≤_, _<_, arith, _≡_, re
 use Rattle.prelude.proofs.Prelude.{eqb-true}
 use Rattle.coding.proofs.Basic.{picked, unpicked}
 use Rattle.types.{specs.declared.Answer.Answer, specs.Frames.readOf, proofs.Places.pick}
-use Rattle.facility.specs.{Element.elementOf, Parts.startsOf, Parts.firstOr, Parts.partsOf}
+use Rattle.facility.specs.{Element.elementOf, Cut.startsOf, Cut.firstOr, Cut.partsOf}
 use Rattle.pass.specs.{declared.Found.Found, Places.afterIn, Pass.noneAt, Pass.foundUpTo, Pass.amongStarts, Pass.foundAt, Pass.Reads, Pass.Passed, Pass.atEnd, Pass.noComponent}
 use Rattle.pass.specs.Pass.{componentUpTo, passWith, Through, Through.over, Through.next, lines}
 use Rattle.pass.proofs.Order.{Rises, first-inside, starts-rise, among-found, among-none, find-end, find-among, pass-none, pass-some}

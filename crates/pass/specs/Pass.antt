@@ -9,7 +9,7 @@ use Rattle.coding.specs.Reader.{part}
 use Rattle.types.specs.declared.Answer.{Answer}
 use Rattle.types.specs.Frames.{refused, readOf}
 use Rattle.facility.specs.Element.{elementOf}
-use Rattle.facility.specs.Parts.{startsOf, firstOr}
+use Rattle.facility.specs.Cut.{startsOf, firstOr}
 use Rattle.read.specs.Whole.{wholeAnswer}
 use Rattle.pass.specs.declared.Next.{Next}
 use Rattle.pass.specs.declared.Found.{Found}

@@ -22,9 +22,9 @@ fn after_of(starts: [u8; 127], count: usize, place: usize, end: usize) -> usize
 {
     let mut i: usize = 0;
     while i < count {
-        if read_lengths::wide(starts[i]) == place {
+        if octets::wide(starts[i]) == place {
             if i + 1 < count {
-                return read_lengths::wide(starts[i + 1]);
+                return octets::wide(starts[i + 1]);
             }
             return end;
         }
@@ -61,7 +61,7 @@ fn find(octets: &[u8], place: usize) -> Found
         };
     }
     let starts = tiles.starts;
-    let count = read_lengths::wide(tiles.count);
+    let count = octets::wide(tiles.count);
     let after = after_of(starts, count, place, octets.len());
     if after == 0 {
         return Found {

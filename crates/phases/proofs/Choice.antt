@@ -1,18 +1,14 @@
 -- Choices by a test.
 use Rattle.prelude.proofs.Prelude.{ℕ, _≡_, refl, ap, Bool, true, false, not, _&&_, _||_, cond, and-false, or-false, eqb, arith, eqb-true, eq-eqb, ne-eqb, le-leb, lt-leb}
+use Rattle.prelude.proofs.Ways.{by-cases}
 
 pub if-same : {A : Type 0} (b : Bool) (x : A) → cond b x x ≡ x
 if-same true x = refl
 if-same false x = refl
 
--- by how a test comes out
-pub by-test : {P : Type 0} (b : Bool) → (b ≡ true → P) → (b ≡ false → P) → P
-by-test true p q = p refl
-by-test false p q = q refl
-
 -- by whether a number is another
 pub by-number : {P : Type 0} (n k : ℕ) → (n ≡ k → P) → (eqb n k ≡ false → P) → P
-by-number n k p q = by-test (eqb n k) (λ e. p (eqb-true n k e)) q
+by-number n k p q = by-cases (eqb n k) (λ e. p (eqb-true n k e)) q
 
 -- a test that fails and passes
 pub never : {P : Type 0} → false ≡ true → P

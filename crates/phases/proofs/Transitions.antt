@@ -1,10 +1,11 @@
 -- What the table of transitions says. A rule of the table is one test over its rows, which is computed; one law turns it into the rule of every event in every phase.
 use Rattle.prelude.proofs.Prelude.{ℕ, zero, suc, _≤_, _<_, _+_, _*_, _/_, _%_, _^_, _≡_, refl, sym, _∙_, List, [], _∷_, Bool, true, false, not, _&&_, _||_, eqb, leb, getD, arith, eqb-true}
 use Rattle.prelude.proofs.Prelude.{leb-true}
-use Rattle.same_final.{specs.Same.each, proofs.Each.each-fails}
+use Rattle.octets.{specs.Each.each, proofs.Each.each-fails}
 use Rattle.phases.specs.Phases.{Idle, Ended, Setup, Released, Component, Transition, goes, transitions, isFor, allowedBy, leadsBy, allowed, leadsTo}
-use Rattle.phases.specs.Parts.{nextPhase}
-use Rattle.phases.proofs.Choice.{by-test, first-of, second-of, implied, never}
+use Rattle.phases.specs.ByNumber.{nextPhase}
+use Rattle.prelude.proofs.Ways.{by-cases}
+use Rattle.phases.proofs.Choice.{first-of, second-of, implied, never}
 
 abbrev every : (Transition → Bool) → List Transition → Bool
 every q [] = true
@@ -21,14 +22,14 @@ its-row q r k p m t =
 row-rule : (q : Transition → Bool) (l : List Transition) (k p : ℕ) → every q l ≡ true → allowedBy l k p ≡ true → q (goes k p (leadsBy l k p)) ≡ true
 row-rule q [] k p t a = never a
 row-rule q (r ∷ l) k p t a =
-    by-test (isFor r k p)
+    by-cases (isFor r k p)
     (λ m. rw m (its-row q r k p m (first-of (q r) (every q l) t)))
     (λ m. rw m (row-rule q l k p (second-of (q r) (every q l) t) (rw m at a)))
 
 row-none : (l : List Transition) (k p : ℕ) → allowedBy l k p ≡ false → leadsBy l k p ≡ p
 row-none [] k p a = refl
 row-none (r ∷ l) k p a =
-    by-test (isFor r k p)
+    by-cases (isFor r k p)
     (λ m. never (sym (rw m at a)))
     (λ m. rw m (row-none l k p (rw m at a)))
 
@@ -44,7 +45,7 @@ stays = row-none transitions
 
 pub to-idle : (k p : ℕ) → leadsTo k p ≡ Idle → p ≡ Idle
 to-idle k p q =
-    by-test (allowed k p)
+    by-cases (allowed k p)
     (λ a. never (rw q at (rule (λ r. not (eqb (r .to) Idle)) refl k p a)))
     (λ a. sym (stays k p a) ∙ q)
 
@@ -52,7 +53,7 @@ to-idle k p q =
 
 pub from-ended : (k p : ℕ) → p ≡ Ended → allowed k p ≡ false
 from-ended k p q =
-    by-test (allowed k p)
+    by-cases (allowed k p)
     (λ a. never (rw q at (rule (λ r. not (eqb (r .from) Ended)) refl k p a)))
     (λ a. a)
 
@@ -60,7 +61,7 @@ from-ended k p q =
 
 pub from-idle : (k p : ℕ) → p ≡ Idle → eqb k Setup ≡ false → allowed k p ≡ false
 from-idle k p q s =
-    by-test (allowed k p)
+    by-cases (allowed k p)
     (λ a. never (rw (q, s) at (rule (λ r. not (eqb (r .from) Idle) || eqb (r .event) Setup) refl k p a)))
     (λ a. a)
 
@@ -71,8 +72,8 @@ setup-idle k p a s = eqb-true p Idle (implied (eqb k Setup) (eqb p Idle) s (rule
 
 pub to-ended : (k p : ℕ) → eqb k Released ≡ false → eqb p Ended ≡ false → eqb (leadsTo k p) Ended ≡ false
 to-ended k p r n =
-    by-test (eqb (leadsTo k p) Ended)
-    (λ t. by-test (allowed k p)
+    by-cases (eqb (leadsTo k p) Ended)
+    (λ t. by-cases (allowed k p)
     (λ a. never (sym r ∙ implied (eqb (leadsTo k p) Ended) (eqb k Released) t (rule (λ x. not (eqb (x .to) Ended) || eqb (x .event) Released) refl k p a)))
     (λ a. never (sym n ∙ rw (stays k p a) at t)))
     (λ t. t)
@@ -81,7 +82,7 @@ to-ended k p r n =
 
 pub component-stays : (p : ℕ) → leadsTo Component p ≡ p
 component-stays p =
-    by-test (allowed Component p)
+    by-cases (allowed Component p)
     (λ a. eqb-true _ _ (rule (λ r. not (eqb (r .event) Component) || eqb (r .to) (r .from)) refl Component p a))
     (stays Component p)
 
@@ -89,24 +90,24 @@ component-stays p =
 
 pub next-none : (k p n : ℕ) → n ≡ nextPhase k p → n ≡ Idle → allowed k p ≡ false
 next-none k p n e z =
-    by-test (allowed k p)
+    by-cases (allowed k p)
     (λ a. let q : leadsTo k p ≡ Idle = sym (rw a at e) ∙ z in never (rw q at (rule (λ r. not (eqb (r .to) Idle)) refl k p a)))
     (λ a. a)
 
 pub next-some : (k p n : ℕ) → n ≡ nextPhase k p → (n ≡ Idle → ⊥) → (allowed k p ≡ true) × (n ≡ leadsTo k p)
-next-some k p n e z = by-test (allowed k p) (λ a. (a, rw a at e)) (λ a. absurd (z (rw a at e)))
+next-some k p n e z = by-cases (allowed k p) (λ a. (a, rw a at e)) (λ a. absurd (z (rw a at e)))
 
 -- ---- the same as a number for each kind: its digit to the base 16 at a phase is where the kind leads from there
 
 pub past-kind : (k p : ℕ) → 7 < k → nextPhase k p ≡ 0
 past-kind k p h =
-    by-test (allowed k p)
+    by-cases (allowed k p)
     (λ a. let q : k ≤ 7 = leb-true _ _ (rule (λ r. leb (r .event) 7) refl k p a) in absurd (omega arith))
     (λ a. rw a)
 
 pub past-phase : (k p : ℕ) → 7 < p → nextPhase k p ≡ 0
 past-phase k p h =
-    by-test (allowed k p)
+    by-cases (allowed k p)
     (λ a. let q : p ≤ 7 = leb-true _ _ (rule (λ r. leb (r .from) 7) refl k p a) in absurd (omega arith))
     (λ a. rw a)
 
@@ -135,6 +136,6 @@ look-up k p hk hp =
     let i : ℕ = k * 8 + p in
     let kind : i / 8 ≡ k = omega arith in
     let phase : i % 8 ≡ p = omega arith in
-    by-test (right i)
+    by-cases (right i)
     (λ e. rw (kind, phase) at (eqb-true (getD byKind (i / 8) 0 / 2 ^ (i % 8 * 4) % 16) (nextPhase (i / 8) (i % 8)) e))
     (λ f. never (sym (each-fails 64 right i (omega arith) f) ∙ all-right))

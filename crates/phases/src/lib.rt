@@ -2,13 +2,13 @@
 //
 // What a host holds is flat structs of numbers: its memory may hold anything, and any value has its answer.
 // Services are numbered 1 S, 2 D, 3 E. Phases: 0 Idle, 1 Establishment, 2 Active, 3 Clearing, 4 Ended, 5 Suspended.
-use values::Services;
+use requests::Services;
 ghost use mathlib.Core.Path.{_≡_};
 ghost use mathlib.Core.Bool.{_&&_};
 ghost use lib.Dec.{eqb};
 ghost use Prim.Native.Nat.{ℕ};
 ghost use Rattle.phases.specs.Phases.{clash, asking, clashes, moved};
-ghost use Rattle.phases.specs.Parts.{nextPhase, moving, movingOf};
+ghost use Rattle.phases.specs.ByNumber.{nextPhase, moving, movingOf};
 
 // number: 20 to 32, a refusal, or 0 for a phase event that is not refused. service: 0 for none.
 #[repr(C)]

@@ -2,7 +2,8 @@
 use Rattle.prelude.proofs.Prelude.{ℕ, suc, _+_, _-_, _/_, _≤_, _<_, _≡_, refl, sym, _∙_, ap, List, reverse, Bool, true, false, not, _||_, _&&_, cond, eqb, eq-eqb, ne-eqb, arith, length, [], _∷_}
 use Rattle.types.specs.{declared.Charge.Charge, Arguments.noCharge}
 use Rattle.phases.{specs.declared.Outcome.Outcome, specs.Phases.S, specs.Phases.D, specs.Phases.E, specs.Phases.Given, specs.Phases.outcome}
-use Rattle.phases.proofs.Choice.{by-test, by-number}
+use Rattle.prelude.proofs.Ways.{by-cases}
+use Rattle.phases.proofs.Choice.{by-number}
 use Rattle.outcomes.specs.Outcome.{judge, chargeIn, was, its}
 use Rattle.outcomes.specs.Status.{isGiven, placeOf}
 use Rattle.account.specs.{declared.Closing.Closing}
@@ -52,26 +53,26 @@ last-alike t u e (j ∷ h) = rw (e (j .outcome), last-alike t u e h) refl
 
 place-1 : (r : Outcome) → eqb (placeOf r) 1 ≡ (was 20 r || its S 24 r)
 place-1 r =
-    by-test (was 20 r || its S 24 r) (λ a. rw a)
-    (λ a. by-test (was 21 r) (λ b. rw (a, b)) (λ b. by-test (its D 22 r) (λ c. rw (a, b, c)) (λ c. by-test (its E 22 r) (λ d. rw (a, b, c, d)) (λ d. rw (a, b, c, d)))))
+    by-cases (was 20 r || its S 24 r) (λ a. rw a)
+    (λ a. by-cases (was 21 r) (λ b. rw (a, b)) (λ b. by-cases (its D 22 r) (λ c. rw (a, b, c)) (λ c. by-cases (its E 22 r) (λ d. rw (a, b, c, d)) (λ d. rw (a, b, c, d)))))
 
 place-2 : (r : Outcome) → eqb (placeOf r) 2 ≡ was 21 r
 place-2 r =
     by-number (r .number) 21 (λ e. rw e refl)
-    (λ n. by-test (was 20 r || its S 24 r) (λ a. rw (a, n))
-    (λ a. by-test (its D 22 r) (λ c. rw (a, n, c)) (λ c. by-test (its E 22 r) (λ d. rw (a, n, c, d)) (λ d. rw (a, n, c, d)))))
+    (λ n. by-cases (was 20 r || its S 24 r) (λ a. rw (a, n))
+    (λ a. by-cases (its D 22 r) (λ c. rw (a, n, c)) (λ c. by-cases (its E 22 r) (λ d. rw (a, n, c, d)) (λ d. rw (a, n, c, d)))))
 
 place-3 : (r : Outcome) → eqb (placeOf r) 3 ≡ its D 22 r
 place-3 r =
     by-number (r .number) 22
-    (λ e. rw e (by-number (r .service) 2 (λ f. rw f) (λ f. by-test (eqb (r .service) 3) (λ g. rw (f, g)) (λ g. rw (f, g)))))
-    (λ n. by-test (was 20 r || its S 24 r) (λ a. rw (a, n)) (λ a. by-test (was 21 r) (λ b. rw (a, b, n)) (λ b. rw (a, b, n))))
+    (λ e. rw e (by-number (r .service) 2 (λ f. rw f) (λ f. by-cases (eqb (r .service) 3) (λ g. rw (f, g)) (λ g. rw (f, g)))))
+    (λ n. by-cases (was 20 r || its S 24 r) (λ a. rw (a, n)) (λ a. by-cases (was 21 r) (λ b. rw (a, b, n)) (λ b. rw (a, b, n))))
 
 place-4 : (r : Outcome) → eqb (placeOf r) 4 ≡ its E 22 r
 place-4 r =
     by-number (r .number) 22
-    (λ e. rw e (by-number (r .service) 2 (λ f. rw f) (λ f. by-test (eqb (r .service) 3) (λ g. rw (f, g)) (λ g. rw (f, g)))))
-    (λ n. by-test (was 20 r || its S 24 r) (λ a. rw (a, n)) (λ a. by-test (was 21 r) (λ b. rw (a, b, n)) (λ b. rw (a, b, n))))
+    (λ e. rw e (by-number (r .service) 2 (λ f. rw f) (λ f. by-cases (eqb (r .service) 3) (λ g. rw (f, g)) (λ g. rw (f, g)))))
+    (λ n. by-cases (was 20 r || its S 24 r) (λ a. rw (a, n)) (λ a. by-cases (was 21 r) (λ b. rw (a, b, n)) (λ b. rw (a, b, n))))
 
 module _ (h : List Judged) where
   pub rate-kept : last (λ j. eqb (placeOf (j .outcome)) 1) h ≡ currentRate h

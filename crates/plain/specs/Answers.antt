@@ -6,7 +6,7 @@ use lib.ListN.{length}
 use lib.Dec.{eqb}
 use Rattle.types.specs.declared.Charge.{Charge}
 use Rattle.types.specs.Arguments.{noCharge}
-use Rattle.values.specs.Sets.{emptySet}
+use Rattle.requests.specs.Sets.{emptySet}
 use Rattle.phases.specs.declared.Outcome.{Outcome}
 use Rattle.phases.specs.Phases.{Given, noService}
 use Rattle.outcomes.specs.Outcome.{judge}

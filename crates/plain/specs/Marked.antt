@@ -2,7 +2,7 @@
 use Prim.Native.Nat.{ℕ}
 use mathlib.Core.List.{List}
 use Rattle.types.specs.Charges.{flag}
-use Rattle.values.specs.declared.Services.{Services}
+use Rattle.requests.specs.declared.Services.{Services}
 use Rattle.phases.specs.Phases.{S, D, E}
 use Rattle.outcomes.specs.Outcome.{its}
 use Rattle.account.specs.History.{Judged, any}

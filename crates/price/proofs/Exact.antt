@@ -2,8 +2,8 @@
 use Rattle.prelude.proofs.Prelude.{_≡_, subst, ℕ, suc, _*_, _^_, _≤_, _<_, arith, Bool, true, false, T, le→leb, ℤ, pos, negsuc, pow-pos, Float, nan, inf, fin, binary64, up, down, ofInt}
 use Rattle.prelude.proofs.Prelude.{ofBits, div, round, inFloat, toUnsigned, HasValue, round-whole, unsigned-back, round-same}
 use Rattle.types.specs.declared.Charge.{Charge}
-use Rattle.values.proofs.Bounded.{bounded}
-use Rattle.same_final.specs.Same.{thousandths}
+use Rattle.amounts.proofs.Bounded.{bounded}
+use Rattle.amounts.specs.Amounts.{thousandths}
 use Rattle.closing.{specs.Range.inRange, proofs.Small.small}
 use Rattle.price.specs.Price.{asDouble, quotientOf}
 

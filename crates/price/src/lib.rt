@@ -37,7 +37,7 @@ fn priced_money(m: Money) -> Priced
     ensures { λ r. ⌜ r ≡ pricedMoney m ⌝ }
 {
     let c = m.currency;
-    let x = values::thousandths(m.number, m.multiplier) as f64;
+    let x = amounts::thousandths(m.number, m.multiplier) as f64;
     Priced {
         number: 0,
         free: 0,

@@ -3,7 +3,7 @@ use Rattle.prelude.proofs.Prelude.{ℕ, _≡_, ap, List}
 use Rattle.types.specs.declared.Answer.{Answer}
 use Rattle.read.{specs.declared.Refusal.Refusal, proofs.One.Filled, proofs.One.one-answer}
 use Rattle.trunks.specs.declared.TrunkAnswer.{TrunkAnswer}
-use Rattle.trunk_bodies.specs.Parts.{Spare}
+use Rattle.trunk_fields.specs.Fields.{Spare}
 use Rattle.trunk_read.proofs.One.{one-trunk}
 use Rattle.pass.specs.Pass.{Passed}
 use Rattle.profile.specs.{declared.Judged.Judged, declared.NextBy.NextBy, Profile.Either, Profile.eitherIn, Profile.nextIn}

@@ -4,7 +4,8 @@ use Rattle.coding.{specs.Reader.part, proofs.Basic.picked, proofs.Basic.unpicke
 use Rattle.types.specs.{declared.Answer.Answer, Frames.noRecord, Frames.refused, Frames.readOf}
 use Rattle.trunks.specs.{declared.Trunk.Trunk, Components.noTrunk}
 use Rattle.pass.specs.{declared.Found.Found, Pass.foundAt, Pass.Passed, Pass.passWith, Pass.lines}
-use Rattle.pass.proofs.{Order.by-test, Order.element-long, Order.find-malformed, Order.pass-none, Order.pass-some, Through.GivesOneOfFour, Through.one-of-four}
+use Rattle.prelude.proofs.Ways.{by-cases}
+use Rattle.pass.proofs.{Order.element-long, Order.find-malformed, Order.pass-none, Order.pass-some, Through.GivesOneOfFour, Through.one-of-four}
 use Rattle.profile.specs.Profile.{Either, readBy, families}
 
 module _ (s : List ℕ) (place : ℕ) (n : Passed Answer) (e : n ≡ passWith lines s place) where
@@ -53,7 +54,7 @@ module _ (s : List ℕ) (place : ℕ) (n : Passed Answer) (e : n ≡ passWith li
 
         long : 3 < length s
         long =
-            by-test (ltb 3 (length s)) (λ t. ltb-true 3 (length s) t)
+            by-cases (ltb 3 (length s)) (λ t. ltb-true 3 (length s) t)
             (λ t. absurd (some (same-after ∙ ap (λ (x : Found). x .after) (find-malformed s place (λ z. omega (arith, element-long s z, ltb-false 3 (length s) t))))))
 
         go : GivesOneOfFour lines s place (passWith lines s place) → (place < n .after) × (n .after ≤ length s) × (3 < length s)

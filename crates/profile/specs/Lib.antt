@@ -1,3 +1,2 @@
 pub mod Profile
 pub mod Replies
-pub mod Cases

@@ -5,7 +5,7 @@ ghost use Rattle.types.specs.Frames.{noRecord};
 ghost use Rattle.types.specs.Stored.{recordIn, storedCharge};
 ghost use Rattle.trunks.specs.Components.{noTrunk};
 ghost use Rattle.trunks.specs.Stored.{trunkIn};
-ghost use Rattle.trunk_bodies.specs.Parts.{Spare};
+ghost use Rattle.trunk_fields.specs.Fields.{Spare};
 ghost use Rattle.pass.specs.Pass.{passWith};
 ghost use Rattle.profile.specs.Profile.{readBy, families, eitherIn, nextIn};
 ghost use Rattle.profile.specs.Replies.{calledFor, replyProfile, leftProfile};

@@ -10,7 +10,7 @@ ghost use Rattle.types.specs.Arguments.{noCharge, chargeOf};
 ghost use Rattle.types.specs.Frames.{frontBy, request, carrying, refusedAt, offsetOf, answered, readOf};
 ghost use Rattle.types.specs.Stored.{Blank, frontIn};
 ghost use Rattle.read_heads.specs.Heads.{faultBy, tailOf};
-ghost use Rattle.read_lists.specs.Readers.{whole};
+ghost use Rattle.read_entries.specs.Answers.{whole};
 ghost use Rattle.read.specs.Whole.{wholeAnswer};
 ghost use Rattle.read.specs.Ways.{isRequest, held, plainAnswer, endsWell, Ended};
 

@@ -19,14 +19,6 @@ pub struct Opened {
     pub next: usize,
 }
 
-// An octet as a number.
-pub fn wide(x: u8) -> usize
-    ensures { λ r. ⌜ r ≡ x ⌝ }
-    ensures small { λ r. ⌜ r < 256 ⌝ }
-{
-    x as usize
-}
-
 // Whether the tag comes next.
 pub fn is_tag(s: &[u8], at: usize, end: usize, tag: u8) -> bool
     requires { ⌜ end ≤ length (now s) ⌝ }
@@ -80,7 +72,7 @@ fn one_more(s: &[u8], tag: usize, at: usize, end: usize) -> Opened
     if end < at + 2 {
         return halted(42, tag);
     }
-    let n = wide(s[at + 1]);
+    let n = octets::wide(s[at + 1]);
     within(tag, at + 2, n, end)
 }
 
@@ -93,7 +85,7 @@ fn two_more(s: &[u8], tag: usize, at: usize, end: usize) -> Opened
     if end < at + 3 {
         return halted(42, tag);
     }
-    let n = wide(s[at + 1]) * 256 + wide(s[at + 2]);
+    let n = octets::wide(s[at + 1]) * 256 + octets::wide(s[at + 2]);
     within(tag, at + 3, n, end)
 }
 
@@ -106,7 +98,7 @@ pub fn numbered_at(s: &[u8], tag: usize, at: usize, end: usize) -> Opened
     if end <= at {
         return halted(42, tag);
     }
-    let first = wide(s[at]);
+    let first = octets::wide(s[at]);
     if first < 0x80 {
         return within(tag, at + 1, first, end);
     }
@@ -239,7 +231,7 @@ pub fn short_length(s: &[u8], at: usize, end: usize, tag: u8) -> usize
     if s[at] != tag {
         return 256;
     }
-    let n = wide(s[at + 1]);
+    let n = octets::wide(s[at + 1]);
     if 128 <= n {
         return 256;
     }

@@ -1,3 +1,2 @@
 pub mod Stores
 pub mod Steps
-pub mod Kept

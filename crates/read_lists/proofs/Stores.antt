@@ -1,30 +1,13 @@
--- What stores into the parts of a charge make of it.
-use Rattle.prelude.proofs.Prelude.{ℕ, _≡_, refl, _∙_, Bool, true, List, leb, leb-true, set, drop, replicate, length-set}
+-- What was stored last into the parts of a charge, and the charge that it makes.
+use Rattle.prelude.proofs.Prelude.{ℕ, _≡_, Bool, List, set, drop, replicate}
 use Rattle.read_elements.specs.declared.Empty.{Empty}
-use Rattle.coding.specs.Reader.{part}
 use Rattle.types.specs.declared.Charge.{Charge}
 use Rattle.types.specs.Charges.{flag, noAssociation}
 use Rattle.types.specs.Arguments.{plain, moneyFigure, noCharge, totalled, associated}
 use Rattle.types.specs.Stored.{moneyIn, associationIn, figureIn, storedCharge, Blank, stored}
-use Rattle.types.proofs.Stored.{kind-stored, totalled-stored, unassociated-stored, money-long, money-figure, money-unassociated, beside-figure}
+use Rattle.types.proofs.Stored.{kind-stored, totalled-stored, money-long, money-figure, beside-figure}
 use Rattle.read_figures.{specs.Beside.Unassociated, specs.Beside.SameBeside, proofs.Answers.arrived, proofs.Kept.unassociated-none}
-use Rattle.read_lists.specs.Readers.{whole, Clear}
-
--- ---- no association is stored yet
-
-pub blank-clear : {figure numbers octets : List ℕ} → Blank figure numbers octets → Clear figure
-unfolding part
-blank-clear b = rw (b .figure-blank) (refl, refl)
-
-pub money-clear : (figure : List ℕ) → drop 16 figure ≡ replicate 32 0 → Clear figure
-money-clear figure h = (money-long figure h, money-unassociated figure h)
-
-pub stored-clear : (figure : List ℕ) (i x : ℕ) → leb 42 i ≡ true → Clear figure → Clear (set figure i x)
-stored-clear figure i x h u = (length-set figure i x ∙ u .0, unassociated-stored figure i x (leb-true 42 i h) ∙ u .1)
-
-pub ruleset clear = (blank-clear, money-clear, stored-clear)
-
--- ---- what was stored last, and the charge that it makes
+use Rattle.read_entries.specs.Answers.{whole, Clear}
 
 module _ (s numbers octets : List ℕ) {r : Empty} {v : ℕ × ℕ × Charge × ℕ} where
   -- a charge without a list

@@ -6,7 +6,7 @@ use Rattle.coding.{specs.Leaves.identifier, specs.Written.lead, specs.Written.f
 use Rattle.coding.{proofs.Leaves.identifierLaws, proofs.Small.small-length, proofs.Small.id-range, proofs.Small.id-length, proofs.Small.null-length, proofs.Writing.lead-length-short}
 use Rattle.types.{specs.declared.Record.Record, specs.Arguments.noCharge, specs.Frames.component, specs.Frames.outside, specs.Frames.rejects, specs.Frames.readOf, specs.Frames.accepted}
 use Rattle.types.{proofs.ArgumentLaws.chargeEqual, proofs.Theorems.reads-back, proofs.Places.pick}
-use Rattle.write.{specs.declared.Written.Written, specs.Parts.frontOf, specs.Parts.bodyOf, proofs.Valid.valid-parts, proofs.Octets.write-parts, specs.Outcome.writeOf}
+use Rattle.write.{specs.declared.Written.Written, specs.Halves.frontOf, specs.Halves.bodyOf, proofs.Valid.valid-parts, proofs.Octets.write-parts, specs.Outcome.writeOf}
 use Rattle.write_heads.specs.Fronts.{frontFine, frontOctets, idOctets, problemFine}
 use Rattle.read_heads.proofs.Entered.{tags, entered-ends}
 use Rattle.reply.specs.Reply.{valueOr0, identifierOf, firstOf, isSilentTo, replyBy, rejectTo, replyGiven, replyTo, replyOf}

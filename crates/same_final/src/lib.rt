@@ -1,13 +1,9 @@
 // When two finals of a call are the same. Every value of the structs has its answer: a count past its array counts as the array's length.
 use types::Charge;
-use types::Currency;
 use types::Entries;
-use types::Money;
 ghost use mathlib.Core.Path.{_≡_};
 ghost use Prim.Native.Nat.{_≤_, _<_};
-ghost use lib.ListN.{getD};
-ghost use Rattle.same_final.specs.Currency.{counted, equalCurrency};
-ghost use Rattle.same_final.specs.Same.{upTo, equalMoney, equalUnits, sameOf};
+ghost use Rattle.same_final.specs.Same.{upTo, equalUnits, sameOf};
 
 // How many places a count uses, of those there are.
 fn places(count: u8, most: usize) -> usize
@@ -15,45 +11,6 @@ fn places(count: u8, most: usize) -> usize
 {
     let n = count as usize;
     if n <= most { n } else { most }
-}
-
-// The octet at a place of a currency; past its count spaces go on.
-fn letter(c: Currency, i: usize) -> u8
-    requires { ⌜ i < 10 ⌝ }
-    ensures { λ r. ⌜ r ≡ getD (counted c) i 0x20 ⌝ }
-{
-    let n = c.count as usize;
-    if i < n {
-        return c.octets[i];
-    }
-    0x20
-}
-
-// Whether two currencies are equal, whatever spaces trail.
-pub fn same_currency(a: Currency, b: Currency) -> bool
-    ensures { λ r. ⌜ r ≡ equalCurrency a b ⌝ }
-{
-    let mut i: usize = 0;
-    while i < 10 {
-        if letter(a, i) != letter(b, i) {
-            return false;
-        }
-        i += 1;
-    }
-    true
-}
-
-fn same_money(a: Money, b: Money) -> bool
-    ensures { λ r. ⌜ r ≡ equalMoney a b ⌝ }
-{
-    let x = values::thousandths(a.number, a.multiplier);
-    let y = values::thousandths(b.number, b.multiplier);
-    if x != y {
-        return false;
-    }
-    let c = a.currency;
-    let d = b.currency;
-    same_currency(c, d)
 }
 
 // The first entries of two lists of units.
@@ -93,7 +50,7 @@ pub fn same(a: Charge, b: Charge) -> bool
     if f.kind == 2 {
         let m = f.money;
         let n = g.money;
-        return same_money(m, n);
+        return amounts::same_money(m, n);
     }
     if f.kind == 3 {
         if f.count != g.count {

@@ -1,17 +1,18 @@
 -- What the scans test is what the rules of outcomes say: an outcome of a service hangs on that service's request alone.
 use Rattle.prelude.proofs.Prelude.{ℕ, _≡_, refl, sym, _∙_, ap, List, Bool, true, false, not, _&&_, _||_, cond, eqb, eqb-true, eq-eqb, ne-eqb, and-false, or-false, _≤_, leb, arith}
 use Rattle.types.specs.{declared.Charge.Charge, declared.Front.Front, declared.Record.Record, declared.Answer.Answer, Frames.readOf}
-use Rattle.values.specs.Sets.{has}
+use Rattle.requests.specs.Sets.{has}
 use Rattle.same_final.specs.Same.{sameOf}
 use Rattle.phases.{specs.declared.Event.Event, specs.declared.Outcome.Outcome, specs.Phases.Suspended, specs.Phases.Setup, specs.Phases.Component, specs.Phases.S, specs.Phases.D, specs.Phases.E}
 use Rattle.phases.{specs.Phases.outcome, specs.Phases.noService, specs.Phases.allowed, specs.Phases.clashes, specs.Phases.Request, specs.Phases.clash}
-use Rattle.phases.proofs.Choice.{by-test, by-number, never, first-of, second-of}
+use Rattle.prelude.proofs.Ways.{by-cases}
+use Rattle.phases.proofs.Choice.{by-number, never, first-of, second-of}
 use Rattle.outcomes.{specs.Outcome.serviceOf, specs.Outcome.Requests, specs.Outcome.holderOf, specs.Outcome.Known, specs.Outcome.firstFinal, specs.Outcome.judgeFinal}
 use Rattle.outcomes.{specs.Outcome.judgeFailure, specs.Outcome.judgeRecord, specs.Outcome.judgeAnswer, specs.Outcome.judge, specs.Outcome.chargeIn, specs.Outcome.was, specs.Outcome.its}
 use Rattle.outcomes.{specs.Outcome.settles}
 use Rattle.outcomes.specs.Outcome.{invokeService, isRefusal}
-use Rattle.phases.specs.Parts.{movingOf}
-use Rattle.outcomes.specs.Parts.{runsBy, closesBy, fitsBy, claimFigure, claimInvoke, claimResult, claimFrame, claimRecord}
+use Rattle.phases.specs.ByNumber.{movingOf}
+use Rattle.outcomes.specs.ByNumber.{runsBy, closesBy, fitsBy, claimFigure, claimInvoke, claimResult, claimFrame, claimRecord}
 use Rattle.outcomes.proofs.Refusals.{decoding-refusal, apart}
 use Rattle.scans.specs.Claim.{bare, three, sole, claimAnswer, claimOf, compared}
 
@@ -46,7 +47,7 @@ unfolding judge claimOf isRefusal
 judge-claim k e o h =
     let kind : eqb (e .kind) Component ≡ true = first-of _ _ h in
     let met : allowed (e .kind) (k .phase) ≡ true = second-of (eqb (e .kind) Component) _ h in
-    by-test (eqb (readOf o .number) 0)
+    by-cases (eqb (readOf o .number) 0)
     (λ z. rw (kind, met, z) (sym (resolves k (readOf o .value))))
     (λ z. rw (kind, met, z) (rw (refused-apart o 22 z refl)))
 
@@ -55,8 +56,8 @@ pub judge-other : (k : Known) (e : Event) (o : List ℕ) → (eqb (e .kind) Comp
     → judge k e o ≡ cond (allowed (e .kind) (k .phase)) (cond (eqb (e .kind) Setup && clashes e) (noService 13) (noService 0)) (noService 14)
 unfolding judge
 judge-other k e o h =
-    by-test (allowed (e .kind) (k .phase))
-    (λ a. by-test (eqb (e .kind) Component) (λ c. never (sym (rw (c, a) at h))) (λ c. rw (a, c)))
+    by-cases (allowed (e .kind) (k .phase))
+    (λ a. by-cases (eqb (e .kind) Component) (λ c. never (sym (rw (c, a) at h))) (λ c. rw (a, c)))
     (λ a. rw a)
 
 other-settles : (s : ℕ) (a c : Bool) → settles s (cond a (cond c (noService 13) (noService 0)) (noService 14)) ≡ false
@@ -96,14 +97,14 @@ compared-final k r c s g =
 pub judge-settles : (k : Known) (e : Event) (o : List ℕ) (s : ℕ) → settles s (judge k e o) ≡ settles s (claimOf (k .phase) (k .pending) (e .kind) o)
 unfolding claimOf
 judge-settles k e o s =
-    by-test (eqb (e .kind) Component && allowed (e .kind) (k .phase))
+    by-cases (eqb (e .kind) Component && allowed (e .kind) (k .phase))
     (λ h. rw (judge-claim k e o h) (compared-settles k (claimOf (k .phase) (k .pending) (e .kind) o) (chargeIn o) s))
     (λ h. rw (judge-other k e o h, h) (other-settles s (allowed (e .kind) (k .phase)) (eqb (e .kind) Setup && clashes e)))
 
 pub judge-final : (k : Known) (e : Event) (o : List ℕ) (s : ℕ) → firstFinal k s .given ≡ false → its s 22 (judge k e o) ≡ its s 22 (claimOf (k .phase) (k .pending) (e .kind) o)
 unfolding claimOf
 judge-final k e o s g =
-    by-test (eqb (e .kind) Component && allowed (e .kind) (k .phase))
+    by-cases (eqb (e .kind) Component && allowed (e .kind) (k .phase))
     (λ h. rw (judge-claim k e o h) (compared-final k (claimOf (k .phase) (k .pending) (e .kind) o) (chargeIn o) s g))
     (λ h. rw (judge-other k e o h, h) (other-final s (allowed (e .kind) (k .phase)) (eqb (e .kind) Setup && clashes e)))
 
@@ -113,10 +114,10 @@ invoke-settles : (phase : ℕ) (q : Requests) (operation kind total s : ℕ) →
 invoke-settles phase q operation kind total s = search (by-way (λ r. settles s r ≡ false)) depth 12 fits 3000
 
 result-none : (u s kind : ℕ) → eqb u s ≡ false → settles s (claimResult u kind) ≡ false
-result-none u s kind f = by-test (eqb u 0) (λ z. rw z) (λ z. by-test (fitsBy u kind) (λ g. rw (z, g, f)) (λ g. rw (z, g)))
+result-none u s kind f = by-cases (eqb u 0) (λ z. rw z) (λ z. by-cases (fitsBy u kind) (λ g. rw (z, g, f)) (λ g. rw (z, g)))
 
 failure-none : (u s : ℕ) → eqb u s ≡ false → settles s (judgeFailure u) ≡ false
-failure-none u s f = by-test (eqb u 0) (λ z. rw z) (λ z. rw (z, f))
+failure-none u s f = by-cases (eqb u 0) (λ z. rw z) (λ z. rw (z, f))
 
 module _ (u v s : ℕ) (alike : eqb u s ≡ eqb v s) where
   result-alike : (kind : ℕ) → settles s (claimResult u kind) ≡ settles s (claimResult v kind)
@@ -208,8 +209,8 @@ holds q id = not (eqb (q .mark) 0) && eqb (q .id) id
 
 not-both : (p q : Request) (id : ℕ) → clash p q ≡ false → (holds p id && holds q id) ≡ false
 not-both p q id n =
-    by-test (eqb (p .mark) 0) (λ a. rw a)
-    (λ a. by-test (eqb (q .mark) 0) (λ b. rw (a, b) (and-false (eqb (p .id) id)))
+    by-cases (eqb (p .mark) 0) (λ a. rw a)
+    (λ a. by-cases (eqb (q .mark) 0) (λ b. rw (a, b) (and-false (eqb (p .id) id)))
     (λ b. by-number (p .id) id
     (λ e. by-number (q .id) id (λ f. never (sym (rw (a, b, e, f, eq-eqb id id refl) at n))) (λ f. rw (a, b, f) (and-false (eqb (p .id) id))))
     (λ e. rw (a, e))))
@@ -219,13 +220,13 @@ module _ (a b c : Request) (ab : clash a b ≡ false) (ac : clash a c ≡ false)
   all-apart = apart-three (holds a id) (holds b id) (holds c id) (not-both a b id ab) (not-both a c id ac) (not-both b c id bc)
 
   sole-1 : eqb (holderOf (sole 1 a) id) 1 ≡ holds a id
-  sole-1 = by-test (holds a id) (λ t. rw t) (λ t. rw t)
+  sole-1 = by-cases (holds a id) (λ t. rw t) (λ t. rw t)
 
   sole-2 : eqb (holderOf (sole 2 b) id) 2 ≡ holds b id
-  sole-2 = by-test (holds b id) (λ t. rw t) (λ t. rw t)
+  sole-2 = by-cases (holds b id) (λ t. rw t) (λ t. rw t)
 
   sole-3 : eqb (holderOf (sole 3 c) id) 3 ≡ holds c id
-  sole-3 = by-test (holds c id) (λ t. rw t) (λ t. rw t)
+  sole-3 = by-cases (holds c id) (λ t. rw t) (λ t. rw t)
 
   pub holder-1 : eqb (holderOf (three a b c) id) 1 ≡ eqb (holderOf (sole 1 a) id) 1
   holder-1 = all-apart .0 ∙ sym sole-1
@@ -249,8 +250,8 @@ figure-service phase s kind total low high =
 
 charge-service : (phase operation kind total : ℕ) → OfFinals (claimFigure phase (serviceOf operation) kind total)
 charge-service phase operation kind total =
-    by-test (leb operation 32) (λ a. rw a (λ w. never w))
-    (λ a. by-test (leb operation 34) (λ b. rw (a, b) (figure-service phase 2 kind total (omega arith) (omega arith))) (λ b. rw (a, b) (figure-service phase 3 kind total (omega arith) (omega arith))))
+    by-cases (leb operation 32) (λ a. rw a (λ w. never w))
+    (λ a. by-cases (leb operation 34) (λ b. rw (a, b) (figure-service phase 2 kind total (omega arith) (omega arith))) (λ b. rw (a, b) (figure-service phase 3 kind total (omega arith) (omega arith))))
 
 frame-service : (phase : ℕ) (q : Requests) (f : Front) (kind total : ℕ) → OfFinals (claimFrame phase q f kind total)
 frame-service phase q f kind total =
@@ -266,7 +267,7 @@ pub claim-service : (phase : ℕ) (q : Requests) (kind : ℕ) (o : List ℕ) →
 unfolding claimOf claimRecord isRefusal
 claim-service phase q kind o =
     by-way OfFinals (eqb kind Component && allowed kind phase) _ _
-    (by-test (eqb (readOf o .number) 0)
+    (by-cases (eqb (readOf o .number) 0)
     (λ z. rw z (by-way OfFinals (eqb phase Suspended) _ _ (λ w. never w)
     (frame-service phase q (readOf o .value .front) (readOf o .value .charge .figure .kind) (readOf o .value .charge .figure .total))))
     (λ z. rw z (λ w. never (sym (refused-apart o 22 z refl) ∙ w))))
@@ -277,13 +278,13 @@ claim-service phase q kind o =
 pub component-outcome : (k : Known) (e : Event) (o : List ℕ) (r : Outcome) → e .kind ≡ Component → r ≡ claimOf (k .phase) (k .pending) (e .kind) o → compared k r (chargeIn o) ≡ judge k e o
 unfolding claimOf
 component-outcome k e o r c is =
-    by-test (eqb (e .kind) Component && allowed (e .kind) (k .phase))
+    by-cases (eqb (e .kind) Component && allowed (e .kind) (k .phase))
     (λ h. rw is (sym (judge-claim k e o h)))
     (λ h. let a : allowed (e .kind) (k .phase) ≡ false = rw (eq-eqb (e .kind) Component c) at h in rw (is, judge-other k e o h, h, a) refl)
 
 pub phase-outcome : (k : Known) (e : Event) (o : List ℕ) → (e .kind ≡ Component → ⊥) → movingOf (bare (k .phase)) e .outcome ≡ judge k e o
 unfolding movingOf judge
 phase-outcome k e o n =
-    by-test (allowed (e .kind) (k .phase))
-    (λ p. by-test (eqb (e .kind) Setup && clashes e) (λ q. rw (p, q, ne-eqb (e .kind) Component n)) (λ q. rw (p, q, ne-eqb (e .kind) Component n)))
+    by-cases (allowed (e .kind) (k .phase))
+    (λ p. by-cases (eqb (e .kind) Setup && clashes e) (λ q. rw (p, q, ne-eqb (e .kind) Component n)) (λ q. rw (p, q, ne-eqb (e .kind) Component n)))
     (λ p. rw p)

@@ -1,10 +1,10 @@
 -- The outcome of one event at a status, by the code's tests.
 use Rattle.prelude.proofs.Prelude.{ℕ, _≡_, refl, sym, _∙_, ap, List, eq-eqb, ne-eqb}
 use Rattle.types.specs.{declared.Answer.Answer, Frames.readOf}
-use Rattle.phases.{specs.declared.Outcome.Outcome, specs.declared.Status.Status, specs.Phases.Idle, specs.Phases.noService, specs.Phases.Component, specs.Parts.nextPhase}
+use Rattle.phases.specs.{declared.Outcome.Outcome, declared.Status.Status, Phases.Idle, Phases.noService, Phases.Component, ByNumber.nextPhase}
 use Rattle.phases.proofs.Transitions.{next-none, next-some}
 use Rattle.phases.proofs.Choice.{by-number}
-use Rattle.outcomes.specs.{Status.requestsOf, Parts.claimRecord}
+use Rattle.outcomes.specs.{Status.requestsOf, ByNumber.claimRecord}
 use Rattle.scans.specs.Claim.{claimAnswer, claimOf}
 
 module _ (t : Status) (kind : ℕ) (o : List ℕ) where

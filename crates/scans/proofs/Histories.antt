@@ -8,9 +8,10 @@ use Rattle.phases.{specs.declared.Event.Event, specs.declared.Outcome.Outcome, 
 use Rattle.phases.{specs.Phases.Given}
 use Rattle.phases.{specs.Phases.outcome, specs.Phases.noService, specs.Phases.allowed, specs.Phases.leadsTo, specs.Phases.clashes, specs.Phases.Request, specs.Phases.noRequest}
 use Rattle.phases.{specs.Phases.requestFor, specs.Phases.clash}
-use Rattle.phases.proofs.Choice.{if-same, by-test, by-number, never, first-of, second-of}
+use Rattle.phases.proofs.Choice.{if-same, by-number, never, first-of, second-of}
+use Rattle.prelude.proofs.Ways.{by-cases}
 use Rattle.phases.proofs.Transitions.{to-idle, from-idle, setup-idle, component-stays}
-use Rattle.values.specs.Sets.{has}
+use Rattle.requests.specs.Sets.{has}
 use Rattle.outcomes.specs.Outcome.{Requests, holderOf, judge, chargeIn, was, its, settles, firstFinal}
 use Rattle.outcomes.proofs.Judging.{phased, phased-judge, unsettled-now, only-final}
 use Rattle.account.specs.History.{Judged, any, last, phase, named, pending, hasFinal, final, requests, known, judged}
@@ -18,7 +19,7 @@ use Rattle.events.specs.Events.{rowAt, countAt}
 use Rattle.events.proofs.Prefix.{before-next}
 use Rattle.events.specs.Prefix.{placeAt, octetsAt, givenAt, before}
 use Rattle.scans.specs.Scan.{FirstAt}
-use Rattle.phases.specs.Parts.{movingOf}
+use Rattle.phases.specs.ByNumber.{movingOf}
 use Rattle.scans.specs.Claim.{nextBy, bare, three, sole, claimOf, Asks}
 use Rattle.scans.proofs.Claims.{judge-settles, judge-final, claim-settles, claim-final, holder-1, holder-2, holder-3}
 
@@ -26,19 +27,19 @@ use Rattle.scans.proofs.Claims.{judge-settles, judge-final, claim-settl
 
 pub phase-next : (h : List Given) (g : Given) → phase (judged (g ∷ h)) ≡ nextBy (phase (judged h)) (g .event)
 phase-next h g =
-    by-test (eqb (g .event .kind) Component)
+    by-cases (eqb (g .event .kind) Component)
     (λ c. rw (eqb-true (g .event .kind) Component c) (simp (component-stays, if-same)))
     (λ c. rw (phased-judge (known (judged h)) (g .event) (g .octets) c)
-    (by-test (allowed (g .event .kind) (phase (judged h)))
-    (λ a. by-test (eqb (g .event .kind) Setup && clashes (g .event)) (λ u. rw (a, u)) (λ u. rw (a, u)))
+    (by-cases (allowed (g .event .kind) (phase (judged h)))
+    (λ a. by-cases (eqb (g .event .kind) Setup && clashes (g .event)) (λ u. rw (a, u)) (λ u. rw (a, u)))
     (λ a. rw a)))
 
 -- the same by the step of events that are no components
 pub moving-phase : (p : ℕ) (e : Event) → movingOf (bare p) e .status .phase ≡ nextBy p e
 unfolding movingOf
 moving-phase p e =
-    by-test (allowed (e .kind) p)
-    (λ a. by-test (eqb (e .kind) Setup && clashes e) (λ u. rw (a, u)) (λ u. rw (a, u)))
+    by-cases (allowed (e .kind) p)
+    (λ a. by-cases (eqb (e .kind) Setup && clashes e) (λ u. rw (a, u)) (λ u. rw (a, u)))
     (λ a. rw a)
 
 -- ---- what the accepted Setup named
@@ -52,13 +53,13 @@ accepted-idle h g q =
     let kind : g .event .kind ≡ Setup = eqb-true _ _ (first-of _ _ q) in
     let other : eqb (g .event .kind) Component ≡ false = ap (λ (n : ℕ). eqb n Component) kind in
     let zero-now = rw (phased-judge (known (judged h)) (g .event) (g .octets) other) at (second-of (eqb (g .event .kind) Setup) _ q) in
-    by-test (allowed (g .event .kind) (phase (judged h)))
-    (λ a. (setup-idle (g .event .kind) (phase (judged h)) a (first-of _ _ q), by-test (clashes (g .event)) (λ u. never (rw (a, u, eq-eqb _ _ kind) at zero-now)) (λ u. u)))
+    by-cases (allowed (g .event .kind) (phase (judged h)))
+    (λ a. (setup-idle (g .event .kind) (phase (judged h)) a (first-of _ _ q), by-cases (clashes (g .event)) (λ u. never (rw (a, u, eq-eqb _ _ kind) at zero-now)) (λ u. u)))
     (λ a. never (rw a at zero-now))
 
 -- before it the call is Idle and nothing is named
 pub idle-before : (h : List Given) (g : Given) → phase (judged (g ∷ h)) ≡ Idle → phase (judged h) ≡ Idle
-idle-before h g q = by-test (was 0 (judge (known (judged h)) (g .event) (g .octets))) (λ b. to-idle (g .event .kind) (phase (judged h)) (rw b at q)) (λ b. rw b at q)
+idle-before h g q = by-cases (was 0 (judge (known (judged h)) (g .event) (g .octets))) (λ b. to-idle (g .event .kind) (phase (judged h)) (rw b at q)) (λ b. rw b at q)
 
 accepted-phase : (h : List Given) (g : Given) → accepts h g ≡ true → phase (judged (g ∷ h)) ≡ 1
 unfolding leadsTo
@@ -68,7 +69,7 @@ accepted-phase h g a =
 pub idle-unnamed : (s : ℕ) (h : List Given) → phase (judged h) ≡ Idle → named s (judged h) ≡ noRequest
 idle-unnamed s [] q = refl
 idle-unnamed s (g ∷ h) q =
-    by-test (accepts h g)
+    by-cases (accepts h g)
     (λ a. never (sym (ap (λ (n : ℕ). eqb n 1) q) ∙ ap (λ (n : ℕ). eqb n 1) (accepted-phase h g a)))
     (λ a. rw a (idle-unnamed s h (idle-before h g q)))
 
@@ -77,7 +78,7 @@ pub busy-kept : (h : List Given) (g : Given) → eqb (phase (judged h)) Idle ≡
 busy-kept h g n = by-number (phase (judged (g ∷ h))) Idle (λ e. never (sym (sym (eq-eqb _ _ (idle-before h g e)) ∙ n))) (λ e. e)
 
 pub named-kept : (s : ℕ) (h : List Given) (g : Given) → eqb (phase (judged h)) Idle ≡ false → named s (judged (g ∷ h)) ≡ named s (judged h)
-named-kept s h g n = by-test (accepts h g) (λ a. never (sym (sym (eq-eqb _ _ (accepted-idle h g a .0)) ∙ n))) (λ a. rw a)
+named-kept s h g n = by-cases (accepts h g) (λ a. never (sym (sym (eq-eqb _ _ (accepted-idle h g a .0)) ∙ n))) (λ a. rw a)
 
 -- ---- no two requests have one identifier
 
@@ -106,7 +107,7 @@ setup-distinct e q =
 named-distinct : (h : List Given) → Distinct (named S (judged h)) (named D (judged h)) (named E (judged h))
 named-distinct [] = record { sd = refl; se = refl; de = refl }
 named-distinct (g ∷ h) =
-    by-test (accepts h g)
+    by-cases (accepts h g)
     (λ a. rw a (setup-distinct (g .event) (accepted-idle h g a .1)))
     (λ a. rw a (named-distinct h))
 
@@ -128,7 +129,7 @@ pending-distinct h =
 
 idle-claim : (p : ℕ) → p ≡ Idle → (q : Requests) (kind : ℕ) (o : List ℕ) → claimOf p q kind o ≡ noService 14
 unfolding claimOf
-idle-claim p z q kind o = by-test (eqb kind Component) (λ c. rw (eqb-true kind Component c, from-idle Component p z refl)) (λ c. rw c)
+idle-claim p z q kind o = by-cases (eqb kind Component) (λ c. rw (eqb-true kind Component c, from-idle Component p z refl)) (λ c. rw c)
 
 -- a service's own among three
 abbrev pick : ℕ → Request → Request → Request → Request
@@ -198,9 +199,9 @@ module _ (rows octets : List ℕ) where
     module _ (k r : ℕ) (f : FirstAt t rows octets k r) where
       pub found-by : (i : ℕ) → i ≤ k → passes i ≡ ltb r i
       found-by i h =
-          by-test (ltb r i)
+          by-cases (ltb r i)
           (λ l. rw l (any-up i (suc r) (omega (arith, ltb-true r i l)) (f .there (omega (arith, ltb-true r i l)))))
-          (λ l. rw l (by-test (passes i) (λ q. never (sym (f .none) ∙ any-up r i (omega (arith, ltb-false r i l)) q)) (λ q. q)))
+          (λ l. rw l (by-cases (passes i) (λ q. never (sym (f .none) ∙ any-up r i (omega (arith, ltb-false r i l)) q)) (λ q. q)))
 
 -- ---- a scan's phase, after one event more
 

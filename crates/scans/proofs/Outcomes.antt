@@ -1,7 +1,7 @@
 -- The outcome of event k, by the code's tests.
 use Rattle.prelude.proofs.Prelude.{ℕ, _+_, _-_, _≤_, _≡_, refl, sym, _∙_, ap, List, true, eqb, eq-eqb, ne-eqb, take, drop}
 use Rattle.types.specs.declared.Charge.{Charge}
-use Rattle.phases.{specs.declared.Event.Event, specs.declared.Outcome.Outcome, specs.declared.Status.Status, specs.declared.Moving.Moving, specs.Phases.Component, specs.Parts.movingOf}
+use Rattle.phases.specs.{declared.Event.Event, declared.Outcome.Outcome, declared.Status.Status, declared.Moving.Moving, Phases.Component, ByNumber.movingOf}
 use Rattle.outcomes.specs.Outcome.{Requests, Known, firstFinal, judgeFinal, judge, chargeIn, was}
 use Rattle.outcomes.specs.Status.{requestsOf}
 use Rattle.account.specs.History.{phase, requests, known, judged}

@@ -1,12 +1,13 @@
 -- The scans, one event more.
 use Rattle.prelude.proofs.Prelude.{ℕ, zero, suc, _+_, _-_, _/_, _≤_, _<_, _≡_, refl, sym, _∙_, ap, List, [], _∷_, Bool, true, false, not, _&&_, _||_, cond, eqb, ltb, eqb-true, eqb-false, eq-eqb}
 use Rattle.prelude.proofs.Prelude.{or-false, arith, length, take, drop, add-one, lt-ltb, le-ltb}
-use Rattle.values.specs.Sets.{emptySet}
+use Rattle.requests.specs.Sets.{emptySet}
 use Rattle.same_final.specs.Same.{sameOf}
 use Rattle.types.specs.declared.Charge.{Charge}
 use Rattle.phases.{specs.declared.Event.Event, specs.declared.Outcome.Outcome, specs.declared.Status.Status, specs.Phases.Idle, specs.Phases.Setup, specs.Phases.Component, specs.Phases.Given}
 use Rattle.phases.{specs.Phases.outcome, specs.Phases.allowed, specs.Phases.leadsTo, specs.Phases.clashes, specs.Phases.Request, specs.Phases.noRequest, specs.Phases.requestFor}
-use Rattle.phases.proofs.Choice.{if-same, by-test, by-number, never, first-of, second-of}
+use Rattle.phases.proofs.Choice.{if-same, by-number, never, first-of, second-of}
+use Rattle.prelude.proofs.Ways.{by-cases}
 use Rattle.phases.proofs.Transitions.{from-idle}
 use Rattle.outcomes.specs.Outcome.{Requests, judge, judgeFinal, chargeIn, was, its, settles, firstFinal}
 use Rattle.outcomes.specs.Status.{requestsOf}
@@ -23,10 +24,10 @@ use Rattle.events.proofs.Prefix.{before-next, place-next, ends-inside}
 -- an event that leaves Idle is the accepted Setup
 accepted-of : (h : List Given) (g : Given) → phase (judged h) ≡ Idle → (nextBy 0 (g .event) ≡ 0 → ⊥) → accepts h g ≡ true
 accepted-of h g idle n =
-    by-test (allowed (g .event .kind) 0)
-    (λ a. by-test (eqb (g .event .kind) Setup)
+    by-cases (allowed (g .event .kind) 0)
+    (λ a. by-cases (eqb (g .event .kind) Setup)
     (λ k. let other : eqb (g .event .kind) Component ≡ false = ap (λ (x : ℕ). eqb x Component) (eqb-true (g .event .kind) Setup k) in
-    by-test (clashes (g .event))
+    by-cases (clashes (g .event))
     (λ u. absurd (n (rw (a, k, u))))
     (λ u. rw (phased-judge (known (judged h)) (g .event) (g .octets) other, idle, a, k, u)))
     (λ k. never (sym (from-idle (g .event .kind) 0 refl k) ∙ a)))
@@ -150,7 +151,7 @@ module _ (rows octets : List ℕ) where
       final-now : i < k → final s (judged (before rows octets (suc i))) ≡ chargeIn (octetsAt rows octets i)
       unfolding before
       final-now h =
-          by-test (its s 22 (judge (known (judged (before rows octets i))) (rowAt rows i) (octetsAt rows octets i)))
+          by-cases (its s 22 (judge (known (judged (before rows octets i))) (rowAt rows i) (octetsAt rows octets i)))
           (λ t. rw t refl)
           (λ t. never (sym (f .none) ∙ rw t at (f .there h)))
 

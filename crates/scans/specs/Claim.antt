@@ -7,13 +7,13 @@ use lib.Dec.{eqb}
 use Rattle.types.specs.declared.Charge.{Charge}
 use Rattle.types.specs.declared.Answer.{Answer}
 use Rattle.types.specs.Frames.{readOf}
-use Rattle.values.specs.Sets.{emptySet}
+use Rattle.requests.specs.Sets.{emptySet}
 use Rattle.phases.specs.declared.Event.{Event}
 use Rattle.phases.specs.declared.Outcome.{Outcome}
 use Rattle.phases.specs.declared.Status.{Status}
 use Rattle.phases.specs.Phases.{Setup, Component, S, D, E, allowed, leadsTo, clashes, noService, Request, requestFor}
 use Rattle.outcomes.specs.Outcome.{Requests, Known, firstFinal, judgeFinal, was}
-use Rattle.outcomes.specs.Parts.{claimRecord}
+use Rattle.outcomes.specs.ByNumber.{claimRecord}
 use Rattle.account.specs.History.{Judged, named}
 use Rattle.scans.specs.declared.Ask.{Ask}
 

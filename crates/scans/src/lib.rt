@@ -4,8 +4,8 @@
 use phases::Event;
 use phases::Outcome;
 use phases::Status;
+use requests::Services;
 use types::Charge;
-use values::Services;
 ghost use mathlib.Core.Path.{_≡_};
 ghost use mathlib.Core.Bool.{true, cond};
 ghost use mathlib.Core.List.{List};

@@ -3,8 +3,9 @@ use Rattle.prelude.proofs.Prelude.{_≡_, refl, sym, ap, _∙_, ℕ, zero, suc,
 use Rattle.prelude.proofs.Prelude.{getD, leb, eqb, eqb-true, leb-true}
 use Rattle.coding.{specs.Reader.part, proofs.Basic.and-left, proofs.Basic.and-right, proofs.Parts.part-length}
 use Rattle.types.specs.Frames.{readOf}
-use Rattle.phases.{specs.Phases.Given, proofs.Choice.by-test, proofs.Choice.never}
-use Rattle.facility.{specs.Parts.joined, proofs.Tiles.tiles}
+use Rattle.phases.{specs.Phases.Given, proofs.Choice.never}
+use Rattle.prelude.proofs.Ways.{by-cases}
+use Rattle.facility.{specs.Cut.joined, proofs.Tiles.tiles}
 use Rattle.events.specs.Events.{eventsOf, addsUp}
 use Rattle.framing.specs.Framing.{elementEnd, elementsFit, typePlace, typeOf, headed, framed, Message, lengthsAddUp, messagesOf}
 use Rattle.messages.specs.Trace.{isClearing, reference, underAfter, tilesOf, componentsIn, componentsAt, componentsFrom, componentsOf, isRequest, firstRequest, componentEvents, setupBy}
@@ -19,7 +20,7 @@ use Rattle.messages.proofs.{Theorems.total, Theorems.few-events, Theorems.from-
 
 mark-small : (case : ℕ) (l : List (List ℕ)) → firstRequest case l .mark ≤ 1
 mark-small case [] = omega arith
-mark-small case (o ∷ l) = by-test (isRequest case (readOf o)) (λ t. rw t (omega arith)) (λ t. rw t (mark-small case l))
+mark-small case (o ∷ l) = by-cases (isRequest case (readOf o)) (λ t. rw t (omega arith)) (λ t. rw t (mark-small case l))
 
 all-append : (l m : List Given) → AllFine l → AllFine m → AllFine (l ++ m)
 all-append [] m v w = w
@@ -68,13 +69,13 @@ trace-adds-up l = adds-back (traceEvents l) (trace-fine l)
 
 in-octets : (e : List ℕ) → length (joined (componentsIn e)) ≤ length e
 in-octets e =
-    by-test (eqb (tilesOf e .number) 0)
+    by-cases (eqb (tilesOf e .number) 0)
     (λ z. rw (z, tiles-are e (eqb-true (tilesOf e .number) 0 z) .0) (omega (arith, ap length (tiles e (tiles-found e z) .0), length-drop 3 e)))
     (λ z. rw z (omega arith))
 
 at-octets : (s : List ℕ) (at under : ℕ) → at ≤ elementEnd s at → elementEnd s at ≤ length s → length (joined (componentsAt s at under)) + at ≤ elementEnd s at
 at-octets s at under h k =
-    by-test (eqb under 0 && eqb (getD s at 0) 0x1c)
+    by-cases (eqb under 0 && eqb (getD s at 0) 0x1c)
     (λ t. rw t (omega (arith, in-octets (part s at (elementEnd s at)), part-length s at (elementEnd s at) k)))
     (λ t. rw t (omega arith))
 
@@ -82,7 +83,7 @@ pub from-octets : (turns : ℕ) (s : List ℕ) (at under : ℕ) → at ≤ lengt
 unfolding elementsFit componentsFrom
 from-octets zero s at under h f = never f
 from-octets (suc turns) s at under h f =
-    by-test (eqb at (length s)) (λ e. rw e (omega arith))
+    by-cases (eqb at (length s)) (λ e. rw e (omega arith))
     (λ e. let both = rw e at f in
     let inside = leb-true (elementEnd s at) (length s) (and-left (leb (elementEnd s at) (length s)) _ both) in
     let rest = from-octets turns s (elementEnd s at) (underAfter under (getD s at 0)) inside (and-right (leb (elementEnd s at) (length s)) _ both) in

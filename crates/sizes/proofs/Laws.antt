@@ -1,9 +1,10 @@
 -- One run of events more is counted.
 use Rattle.prelude.proofs.Prelude.{_≡_, refl, sym, ap, _∙_, ℕ, suc, _+_, _-_, _≤_, arith, Bool, true, false, cond, List, [], _∷_, _++_, length, length-append, length-drop, getD, leb, eqb}
 use Rattle.prelude.proofs.Prelude.{eqb-true, eq-eqb, leb-true, leb-false}
-use Rattle.coding.{specs.Reader.part, proofs.Basic.by-cases, proofs.Parts.part-length}
+use Rattle.coding.{specs.Reader.part, proofs.Parts.part-length}
+use Rattle.prelude.proofs.Ways.{by-cases}
 use Rattle.phases.specs.Phases.{Given, Clear, Connect, Released}
-use Rattle.facility.{specs.declared.Starts.Starts, specs.Parts.joined, proofs.Tiles.tiles}
+use Rattle.facility.{specs.declared.Starts.Starts, specs.Cut.joined, proofs.Tiles.tiles}
 use Rattle.framing.{specs.Framing.elementsFit, proofs.Laws.past-end}
 use Rattle.messages.specs.{declared.Gives.Gives, Trace.tilesOf, Trace.componentsIn, Trace.componentsFrom, Trace.componentEvents, Trace.when, Trace.phaseEvent, Trace.setupBy, Trace.laidOut}
 use Rattle.messages.proofs.{Walk.tiles-are, Walk.parts-all, Walk.starts-long, Theorems.tiles-found, Theorems.parts-count, Theorems.events-count, Theorems.components-from}

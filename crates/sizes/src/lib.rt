@@ -23,7 +23,7 @@ fn of_tiles(s: &[u8]) -> Size
             octets: 0,
         };
     }
-    let events = framing::wide(tiles.count);
+    let events = octets::wide(tiles.count);
     let octets = s.len() - 3;
     Size { events, octets }
 }
@@ -108,7 +108,7 @@ fn of_message(s: &[u8], network: bool, cleared: bool) -> Size
     ensures { λ r. ⌜ Sizes (messageEvents cleared (message (now (s .entry)) network)) r ⌝ }
 {
     let g = messages::gives_of(messages::type_of(s), network, cleared);
-    let start = 3 + framing::wide(s[1]);
+    let start = 3 + octets::wide(s[1]);
     let some = of_given(s, start, g.components);
     let more = around(g);
     Size {

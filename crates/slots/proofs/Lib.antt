@@ -1,7 +1,7 @@
 pub mod Slots
 pub mod Table
 pub mod Rules
-pub mod Parts
+pub mod ByValue
 pub mod Refused
 pub mod Lives
 pub mod Examples

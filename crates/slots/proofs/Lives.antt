@@ -1,6 +1,7 @@
 -- Demand 3 for a call of the table, in its own words: what a host reads after each event of the call is what the rules pick out of the call's list of events, those refused 35 left out.
 use Rattle.prelude.proofs.Prelude.{ℕ, suc, _≡_, refl, sym, _∙_, ap, List, [], _∷_, _++_, Bool, true, false, _&&_, cond, eqb, eq-eqb, length, drop}
-use Rattle.phases.{specs.Phases.Given, specs.Phases.noService, specs.declared.Outcome.Outcome, proofs.Choice.by-test}
+use Rattle.phases.specs.{Phases.Given, Phases.noService, declared.Outcome.Outcome}
+use Rattle.prelude.proofs.Ways.{by-cases}
 use Rattle.outcomes.specs.Outcome.{judge, was}
 use Rattle.account.specs.{declared.Closing.Closing, History.judged, History.known, History.accountBy, History.currentRate, History.running, History.marks, History.Shown, History.shown}
 use Rattle.account.specs.{History.picked}
@@ -52,7 +53,7 @@ module _ (r : ℕ) where
   lives : (f : Given) (p l : List Given) → readings (ruledAlone (f ∷ p) (watched r l)) ≡ picked (f ∷ p) (noSetups l)
   lives f p [] = refl
   lives f p (g ∷ l) =
-      by-test {P = readings (ruledAlone (f ∷ p) (watched r (g ∷ l))) ≡ picked (f ∷ p) (noSetups (g ∷ l))} (isSetup g)
+      by-cases {P = readings (ruledAlone (f ∷ p) (watched r (g ∷ l))) ≡ picked (f ∷ p) (noSetups (g ∷ l))} (isSetup g)
       (λ k. passed-over g f p l k ∙ lives f p l ∙ sym (ap (picked (f ∷ p)) (skips g l k)))
       (λ k. read-next g f p l k ∙ ap (λ (m : List Shown). shown g (f ∷ p) ∷ m) (lives g (f ∷ p) l) ∙ sym (ap (picked (f ∷ p)) (takes g l k)))
     where

@@ -1,7 +1,8 @@
 -- Any list of operations from a fresh table: each answer is that of the rules over the reference's own call, and no other call changes it.
 use Rattle.prelude.proofs.Prelude.{ℕ, zero, suc, _+_, _<_, _≤_, _≡_, refl, sym, _∙_, ap, subst, List, [], _∷_, map, _++_, Bool, true, false, not, _&&_, cond, Option, none, some, eqb, eqb-true}
 use Rattle.prelude.proofs.Prelude.{eqb-false, eq-eqb, ne-eqb, not-true, arith, length, getD, replicate, length-replicate, _↔_, _⊎_, inl, inr}
-use Rattle.phases.{specs.Phases.Given, specs.Phases.noService, specs.Phases.Setup, specs.Phases.clashes, specs.Phases.allowed, specs.declared.Outcome.Outcome, proofs.Choice.by-test}
+use Rattle.phases.specs.{Phases.Given, Phases.noService, Phases.Setup, Phases.clashes, Phases.allowed, declared.Outcome.Outcome}
+use Rattle.prelude.proofs.Ways.{by-cases}
 use Rattle.phases.{proofs.Choice.by-number, proofs.Choice.never, proofs.Choice.first-of, proofs.Choice.second-of}
 use Rattle.outcomes.specs.Outcome.{among, was, judge}
 use Rattle.account.{specs.declared.Account.Account, specs.History.fresh, specs.History.judged, specs.History.known, specs.History.accountBy, proofs.Demand.step-stands}
@@ -68,8 +69,8 @@ by-rules l = run-ruled freshBoard [] l fresh-stands
 -- unless a Setup is refused because the table is full, the answer does not hang on how many calls are held
 same-ruled : (n : ℕ) (p : List Given) (x : Operation) → setupFull x (answerNumber (ruling n p x)) ≡ false → ruling n p x ≡ ruling 0 p x
 same-ruled n [] (happens r g) q =
-    by-test (isSetup g)
-    (λ k. by-test (eqb n 64)
+    by-cases (isSetup g)
+    (λ k. by-cases (eqb n 64)
     (λ f. let y : ruling n [] (happens r g) ≡ outcome (noService 36) = yes _ _ _ k ∙ yes _ _ _ f in
     let z : setupFull (happens r g) 36 ≡ true = rw k refl in
     never (sym q ∙ ap (λ (a : Answer). setupFull (happens r g) (answerNumber a)) y ∙ z))
@@ -130,7 +131,7 @@ module _ (b : Board) (r : ℕ) (g : Given) (k : isSetup g ≡ true) where
   -- a Setup that reaches 01's checks is 13 or 0
   setup-number : (judge (known (judged [])) (g .event) (g .octets) .number ≡ 13) ⊎ (judge (known (judged [])) (g .event) (g .octets) .number ≡ 0)
   unfolding judge allowed
-  setup-number = rw (eqb-true (g .event .kind) Setup k) (by-test (clashes (g .event)) (λ t. inl (rw t refl)) (λ t. inr (rw t refl)))
+  setup-number = rw (eqb-true (g .event .kind) Setup k) (by-cases (clashes (g .event)) (λ t. inl (rw t refl)) (λ t. inr (rw t refl)))
 
   -- its number where the reference is not held and the table is not full
   reaches : isHeld r b ≡ false → isFull b ≡ false → answerNumber (answerOn b (happens r g)) ≡ judge (known (judged [])) (g .event) (g .octets) .number
@@ -156,9 +157,9 @@ module _ (b : Board) (r : ℕ) (g : Given) (k : isSetup g ≡ true) where
       → (nextOn b (happens r g) ≡ withSlot b (lowest 0 (b .keys)) (keyOf r) (accountBy (judged (g ∷ [])))) × (getD (b .keys) (lowest 0 (b .keys)) 0 ≡ 0)
       × ((i : ℕ) → i < lowest 0 (b .keys) → getD (b .keys) i 0 ≡ 0 → ⊥)
   takes-lowest s q =
-      by-test (isHeld r b)
+      by-cases (isHeld r b)
       (λ h. let z : 35 ≡ 0 = sym (ap (λ (u : Boarded). u .outcome .number) (setup-held b r g k h)) ∙ q in absurd (omega (arith, z)))
-      (λ h. by-test (isFull b)
+      (λ h. by-cases (isFull b)
       (λ f. let z : 36 ≡ 0 = sym (ap (λ (u : Boarded). u .outcome .number) (setup-full b r g k h f)) ∙ q in absurd (omega (arith, z)))
       (λ f. let z : was 0 (judge (known (judged [])) (g .event) (g .octets)) ≡ true = eq-eqb _ 0 (sym (reaches h f) ∙ q) in
       (ap (λ (u : Boarded). u .board) (setup-new b r g k h f ∙ ap (admitted b r) (step-stands [] g) ∙ yes _ _ _ z), found 0 (b .keys) (none-full b s f) .1, none-lower 0 (b .keys))))

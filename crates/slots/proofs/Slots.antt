@@ -2,7 +2,8 @@
 use Rattle.prelude.proofs.Prelude.{ℕ, zero, suc, _+_, _<_, _≤_, _≡_, refl, sym, _∙_, ap, List, [], _∷_, Bool, true, false, not, _&&_, _||_, cond, eqb, eqb-true, eqb-false, eq-eqb, ne-eqb}
 use Rattle.prelude.proofs.Prelude.{not-true, arith, length, getD, set, drop, length-set}
 use lib.Seq.{getD-set-same, getD-set-other}
-use Rattle.phases.proofs.Choice.{by-test, by-number, never, first-of, second-of}
+use Rattle.prelude.proofs.Ways.{by-cases}
+use Rattle.phases.proofs.Choice.{by-number, never, first-of, second-of}
 use Rattle.outcomes.specs.Outcome.{among}
 use Rattle.slots.specs.Board.{lowest, heldIn}
 
@@ -46,46 +47,46 @@ kept-lowest j (x ∷ l) (suc i) k n o = ap (λ m. cond (eqb j x) 0 (suc m)) (kep
 pub new-among : (l : List ℕ) (i k : ℕ) → i < length l → among k (set l i k) ≡ true
 new-among [] i k h = absurd (omega arith)
 new-among (x ∷ l) zero k h = rw (eq-eqb k k refl) refl
-new-among (x ∷ l) (suc i) k h = by-test (eqb k x) (λ e. rw e refl) (λ e. rw e (new-among l i k (omega arith)))
+new-among (x ∷ l) (suc i) k h = by-cases (eqb k x) (λ e. rw e refl) (λ e. rw e (new-among l i k (omega arith)))
 
 pub new-lowest : (l : List ℕ) (i k : ℕ) → i < length l → among k l ≡ false → lowest k (set l i k) ≡ i
 unfolding lowest
 new-lowest [] i k h q = absurd (omega arith)
 new-lowest (x ∷ l) zero k h q = rw (eq-eqb k k refl) refl
 new-lowest (x ∷ l) (suc i) k h q =
-    by-test (eqb k x) (λ e. never (sym (rw e at q))) (λ e. rw e (ap suc (new-lowest l i k (omega arith) (rw e at q))))
+    by-cases (eqb k x) (λ e. never (sym (rw e at q))) (λ e. rw e (ap suc (new-lowest l i k (omega arith) (rw e at q))))
 
 -- ---- how many slots are held
 
 pub at-most : (l : List ℕ) → heldIn l ≤ length l
 unfolding heldIn
 at-most [] = omega arith
-at-most (x ∷ l) = by-test (eqb 0 x) (λ e. rw e (omega (arith, at-most l))) (λ e. rw e (omega (arith, at-most l)))
+at-most (x ∷ l) = by-cases (eqb 0 x) (λ e. rw e (omega (arith, at-most l))) (λ e. rw e (omega (arith, at-most l)))
 
 -- all of them exactly when none is free
 pub free-fewer : (l : List ℕ) → among 0 l ≡ true → heldIn l < length l
 unfolding heldIn
 free-fewer [] q = never q
-free-fewer (x ∷ l) q = by-test (eqb 0 x) (λ e. rw e (omega (arith, at-most l))) (λ e. rw e (omega (arith, free-fewer l (rw e at q))))
+free-fewer (x ∷ l) q = by-cases (eqb 0 x) (λ e. rw e (omega (arith, at-most l))) (λ e. rw e (omega (arith, free-fewer l (rw e at q))))
 
 pub none-free : (l : List ℕ) → among 0 l ≡ false → heldIn l ≡ length l
 unfolding heldIn
 none-free [] q = refl
-none-free (x ∷ l) q = by-test (eqb 0 x) (λ e. never (sym (rw e at q))) (λ e. rw e (ap suc (none-free l (rw e at q))))
+none-free (x ∷ l) q = by-cases (eqb 0 x) (λ e. never (sym (rw e at q))) (λ e. rw e (ap suc (none-free l (rw e at q))))
 
 pub held-more : (l : List ℕ) (i k : ℕ) → i < length l → getD l i 0 ≡ 0 → (0 ≡ k → ⊥) → heldIn (set l i k) ≡ suc (heldIn l)
 unfolding heldIn
 held-more [] i k h q n = absurd (omega arith)
 held-more (x ∷ l) zero k h q n = rw (q, ne-eqb 0 k n) refl
 held-more (x ∷ l) (suc i) k h q n =
-    by-test (eqb 0 x) (λ e. rw e (held-more l i k (omega arith) q n)) (λ e. rw e (ap suc (held-more l i k (omega arith) q n)))
+    by-cases (eqb 0 x) (λ e. rw e (held-more l i k (omega arith) q n)) (λ e. rw e (ap suc (held-more l i k (omega arith) q n)))
 
 pub held-less : (l : List ℕ) (i : ℕ) → i < length l → (0 ≡ getD l i 0 → ⊥) → suc (heldIn (set l i 0)) ≡ heldIn l
 unfolding heldIn
 held-less [] i h n = absurd (omega arith)
 held-less (x ∷ l) zero h n = rw (ne-eqb 0 x n) refl
 held-less (x ∷ l) (suc i) h n =
-    by-test (eqb 0 x) (λ e. rw e (held-less l i (omega arith) n)) (λ e. rw e (ap suc (held-less l i (omega arith) n)))
+    by-cases (eqb 0 x) (λ e. rw e (held-less l i (omega arith) n)) (λ e. rw e (ap suc (held-less l i (omega arith) n)))
 
 -- ---- the references held are all different
 
@@ -95,8 +96,8 @@ differ (x ∷ l) = (eqb 0 x || not (among x l)) && differ l
 
 still-none : (j : ℕ) (l : List ℕ) (i k : ℕ) → (j ≡ k → ⊥) → among j l ≡ false → among j (set l i k) ≡ false
 still-none j [] i k n q = refl
-still-none j (x ∷ l) zero k n q = rw (ne-eqb j k n) (by-test (eqb j x) (λ e. never (sym (rw e at q))) (λ e. rw e at q))
-still-none j (x ∷ l) (suc i) k n q = by-test (eqb j x) (λ e. never (sym (rw e at q))) (λ e. rw e (still-none j l i k n (rw e at q)))
+still-none j (x ∷ l) zero k n q = rw (ne-eqb j k n) (by-cases (eqb j x) (λ e. never (sym (rw e at q))) (λ e. rw e at q))
+still-none j (x ∷ l) (suc i) k n q = by-cases (eqb j x) (λ e. never (sym (rw e at q))) (λ e. rw e (still-none j l i k n (rw e at q)))
 
 -- a slot is freed
 pub differ-free : (l : List ℕ) (i : ℕ) → differ l ≡ true → differ (set l i 0) ≡ true
@@ -112,14 +113,14 @@ differ-free (x ∷ l) (suc i) q =
 pub differ-new : (l : List ℕ) (i k : ℕ) → among k l ≡ false → differ l ≡ true → differ (set l i k) ≡ true
 differ-new [] i k n q = refl
 differ-new (x ∷ l) zero k n q =
-    by-test (eqb k x) (λ e. never (sym (rw e at n)))
+    by-cases (eqb k x) (λ e. never (sym (rw e at n)))
     (λ e. let m : among k l ≡ false = rw e at n in
-    by-test (eqb 0 k) (λ z. rw z (second-of (eqb 0 x || not (among x l)) (differ l) q)) (λ z. rw (z, m) (second-of (eqb 0 x || not (among x l)) (differ l) q)))
+    by-cases (eqb 0 k) (λ z. rw z (second-of (eqb 0 x || not (among x l)) (differ l) q)) (λ z. rw (z, m) (second-of (eqb 0 x || not (among x l)) (differ l) q)))
 differ-new (x ∷ l) (suc i) k n q =
     by-number k x (λ e. never (sym (rw (eq-eqb k x e) at n)))
     (λ d. let m : among k l ≡ false = rw d at n in
     let rest = differ-new l i k m (second-of (eqb 0 x || not (among x l)) (differ l) q) in
-    by-test (eqb 0 x) (λ e. rw e rest)
+    by-cases (eqb 0 x) (λ e. rw e rest)
     (λ e. let q′ = first-of (eqb 0 x || not (among x l)) (differ l) q in
     rw (e, still-none x l i k (λ z. eqb-false k x d (sym z)) (not-true (among x l) (rw e at q′))) rest))
 
@@ -137,7 +138,7 @@ gone k (x ∷ l) n q =
 in-list : (l : List ℕ) (i : ℕ) → (getD l i 0 ≡ 0 → ⊥) → among (getD l i 0) l ≡ true
 in-list [] i n = absurd (n refl)
 in-list (x ∷ l) zero n = rw (eq-eqb x x refl) refl
-in-list (x ∷ l) (suc i) n = by-test (eqb (getD l i 0) x) (λ e. rw e refl) (λ e. rw e (in-list l i n))
+in-list (x ∷ l) (suc i) n = by-cases (eqb (getD l i 0) x) (λ e. rw e refl) (λ e. rw e (in-list l i n))
 
 -- two slots that are held by one reference are one slot
 pub one-slot : (l : List ℕ) → differ l ≡ true → (i j : ℕ) → (getD l i 0 ≡ 0 → ⊥) → getD l i 0 ≡ getD l j 0 → i ≡ j
@@ -177,6 +178,6 @@ search-ends k (x ∷ l) (suc i) h = search-ends k l i (omega arith)
 
 -- 64 slots: the search stops at 64 exactly where no slot has the key
 pub at-end : (k : ℕ) (l : List ℕ) → length l ≡ 64 → eqb (lowest k l) 64 ≡ not (among k l)
-at-end k l n = by-test (among k l)
+at-end k l n = by-cases (among k l)
     (λ q. rw q (ne-eqb (lowest k l) 64 (λ e. let z = found k l q .0 in omega (arith, z, n, e))))
     (λ q. rw q (eq-eqb (lowest k l) 64 (missing k l q ∙ n)))

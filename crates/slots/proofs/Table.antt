@@ -2,7 +2,8 @@
 use Rattle.prelude.proofs.Prelude.{ℕ, zero, suc, _+_, _-_, _<_, _≤_, _≡_, refl, sym, _∙_, ap, subst, List, [], _∷_, Bool, true, false, not, _&&_, cond, Option, none, some, eqb, eqb-true}
 use Rattle.prelude.proofs.Prelude.{eqb-false, eq-eqb, ne-eqb, arith, length, getD, set, replicate, length-set, length-replicate}
 use lib.Seq.{getD-set-same, getD-set-other, set-getD}
-use Rattle.phases.{specs.Phases.Given, specs.Phases.Setup, specs.Phases.Ended, specs.Phases.noService, specs.declared.Event.Event, specs.declared.Outcome.Outcome, proofs.Choice.by-test}
+use Rattle.phases.specs.{Phases.Given, Phases.Setup, Phases.Ended, Phases.noService, declared.Event.Event, declared.Outcome.Outcome}
+use Rattle.prelude.proofs.Ways.{by-cases}
 use Rattle.phases.{proofs.Choice.by-number, proofs.Choice.never}
 use Rattle.outcomes.specs.Outcome.{among, was, judge}
 use Rattle.account.{specs.declared.Account.Account, specs.declared.Stepped.Stepped, specs.History.judged, specs.History.known, specs.History.phase, specs.History.closing}
@@ -41,7 +42,7 @@ apart-keys j r n q = n (omega arith)
 -- a reference whose key is neither the old nor the new one
 put-other : (b : Board) (i k : ℕ) (a : Account) (j : ℕ) → (keyOf j ≡ k → ⊥) → (keyOf j ≡ getD (b .keys) i 0 → ⊥) → view j (withSlot b i k a) ≡ view j b
 put-other b i k a j n o =
-    by-test (isHeld j b)
+    by-cases (isHeld j b)
     (λ h. let at : lowest (keyOf j) (b .keys) ≡ i → ⊥ = λ z. o (sym (found (keyOf j) (b .keys) h .1) ∙ ap (λ m. getD (b .keys) m 0) z) in
     rw (kept-among (keyOf j) (b .keys) i k n o, kept-lowest (keyOf j) (b .keys) i k n o, h)
     (ap some (getD-set-other (b .calls) i (lowest (keyOf j) (b .keys)) a fresh at)))
@@ -116,10 +117,10 @@ module _ (b : Board) (s : Sound b) (r : ℕ) (a : Account) where
 -- ---- 64 slots are held exactly when none is free
 
 pub full-none : (b : Board) → Sound b → isFull b ≡ true → among 0 (b .keys) ≡ false
-full-none b s q = by-test (among 0 (b .keys)) (λ f. absurd (omega (arith, free-fewer (b .keys) f, s .keys, eqb-true (heldIn (b .keys)) 64 q))) (λ f. f)
+full-none b s q = by-cases (among 0 (b .keys)) (λ f. absurd (omega (arith, free-fewer (b .keys) f, s .keys, eqb-true (heldIn (b .keys)) 64 q))) (λ f. f)
 
 pub none-full : (b : Board) → Sound b → isFull b ≡ false → among 0 (b .keys) ≡ true
-none-full b s q = by-test (among 0 (b .keys)) (λ f. f) (λ f. absurd (eqb-false (heldIn (b .keys)) 64 q (none-free (b .keys) f ∙ s .keys)))
+none-full b s q = by-cases (among 0 (b .keys)) (λ f. f) (λ f. absurd (eqb-false (heldIn (b .keys)) 64 q (none-free (b .keys) f ∙ s .keys)))
 
 -- ---- what a view tells
 
@@ -227,7 +228,7 @@ module _ (b : Board) (n : ℕ) (s : Sound b) (c : heldIn (b .keys) ≡ n) (r : �
       let h : isHeld r b ≡ true = it-holds (isHeld r b) (callOf r b) _ v in
       let a : callOf r b ≡ accountBy (judged (g ∷ l)) = its-account (isHeld r b) (callOf r b) _ v in
       let q : eqb (callOf r b .status .phase) Ended ≡ eqb (phase (judged (g ∷ l))) Ended = ap (λ (u : Account). eqb (u .status .phase) Ended) a in
-      by-test (eqb (phase (judged (g ∷ l))) Ended)
+      by-cases (eqb (phase (judged (g ∷ l))) Ended)
       (λ e. let z : Off (emptied (record { number = 0; closing = closingOf (callOf r b) }) (withSlot b (lowest (keyOf r) (b .keys)) 0 fresh)) = collect-now b r h (q ∙ e) in
       let y : ruling n (g ∷ l) (collects r) ≡ collected (record { number = 0; closing = closing (judged (g ∷ l)) }) = yes _ _ _ e in
       let m : answerNumber (ruling n (g ∷ l) (collects r)) ≡ 0 = ap answerNumber y in
@@ -290,7 +291,7 @@ module _ (b : Board) (n : ℕ) (s : Sound b) (c : heldIn (b .keys) ≡ n) (r : �
     setup-went k [] v =
         let h : isHeld r b ≡ false = not-held (isHeld r b) (callOf r b) v in
         let w : steppedOf fresh (g .event) (g .octets) ≡ steppedBy g [] = step-stands [] g in
-        by-test (eqb n 64)
+        by-cases (eqb n 64)
         (λ f. let z : On b r g (boarded (noService 36) b) = setup-full b r g k h (ap (λ m. eqb m 64) c ∙ f) in
         let y : ruling n [] (happens r g) ≡ outcome (noService 36) = yes _ _ _ k ∙ yes _ _ _ f in
         let m : eqb (answerNumber (ruling n [] (happens r g))) 0 ≡ false = ap (λ (a : Answer). eqb (answerNumber a) 0) y in
@@ -300,7 +301,7 @@ module _ (b : Board) (n : ℕ) (s : Sound b) (c : heldIn (b .keys) ≡ n) (r : �
         let j : Outcome = judge (known (judged [])) (g .event) (g .octets) in
         let x : On b r g (admitted b r (steppedBy g [])) = setup-new b r g k h full ∙ ap (admitted b r) w in
         let y : ruling n [] (happens r g) ≡ outcome j = yes _ _ _ k ∙ no _ _ _ f in
-        by-test (was 0 j)
+        by-cases (was 0 j)
         (λ q. let z : On b r g (boarded j (withSlot b (lowest 0 (b .keys)) (keyOf r) (accountBy (judged (g ∷ []))))) = x ∙ yes _ _ _ q in
         let m : eqb (answerNumber (ruling n [] (happens r g))) 0 ≡ true = ap (λ (a : Answer). eqb (answerNumber a) 0) y ∙ q in
         let new : Account = accountBy (judged (g ∷ [])) in
@@ -318,6 +319,6 @@ module _ (b : Board) (n : ℕ) (s : Sound b) (c : heldIn (b .keys) ≡ n) (r : �
         stays b n (f ∷ l) (happens r g) s c v (told _ z ∙ sym y) (left _ z) (not-carried (num (f ∷ l)) (f ∷ l) k m) (not-counted (num (f ∷ l)) k m)
 
 pub goes : (b : Board) (n : ℕ) (l : List Given) (x : Operation) → Sound b → heldIn (b .keys) ≡ n → view (referenceOf x) b ≡ viewBy l → Went b n l x
-goes b n l (happens r g) s c v = by-test (isSetup g) (λ k. setup-went b n s c r g k l v) (λ k. other-went b n s c r g k l v)
+goes b n l (happens r g) s c v = by-cases (isSetup g) (λ k. setup-went b n s c r g k l v) (λ k. other-went b n s c r g k l v)
 goes b n l (collects r) s c v = collects-went b n s c r l v
 goes b n l (views r) s c v = views-went b n s c r l v

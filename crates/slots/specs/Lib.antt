@@ -1,3 +1,3 @@
 pub mod Board
-pub mod Parts
+pub mod ByValue
 pub mod Calls

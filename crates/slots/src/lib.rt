@@ -10,9 +10,9 @@ use phases::Outcome;
 ghost use Prim.Native.Nat.{_+_};
 ghost use mathlib.Core.Path.{_≡_};
 ghost use Rattle.account.specs.History.{freshStatus};
-ghost use Rattle.phases.specs.Parts.{movingOf};
+ghost use Rattle.phases.specs.ByNumber.{movingOf};
 ghost use Rattle.slots.specs.Board.{lowest, uncollected};
-ghost use Rattle.slots.specs.Parts.{seatOf, takenUp, freeOf, viewedOf};
+ghost use Rattle.slots.specs.ByValue.{seatOf, takenUp, freeOf, viewedOf};
 
 // A key is 0 where the slot is free, else one more than the reference that holds it.
 #[repr(C)]

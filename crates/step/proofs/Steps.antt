@@ -1,15 +1,16 @@
 -- The step by its parts.
 use Rattle.prelude.proofs.Prelude.{ℕ, _≡_, refl, sym, _∙_, ap, List, Bool, true, false, not, _&&_, cond, T, eqb, eqb→eq, is-false, eq-eqb, ne-eqb}
-use Rattle.phases.{proofs.Choice.if-same, proofs.Choice.by-test, specs.declared.Event.Event, specs.declared.Outcome.Outcome, specs.declared.Status.Status, specs.Phases.Idle}
+use Rattle.phases.{proofs.Choice.if-same, specs.declared.Event.Event, specs.declared.Outcome.Outcome, specs.declared.Status.Status, specs.Phases.Idle}
+use Rattle.prelude.proofs.Ways.{by-cases}
 use Rattle.phases.{specs.Phases.Setup, specs.Phases.Component, specs.Phases.noService, specs.Phases.clashes, specs.Phases.allowed, specs.Phases.Given, specs.Phases.event}
-use Rattle.phases.{specs.Parts.nextPhase, specs.Parts.movingOf, proofs.Transitions.next-none, proofs.Transitions.next-some}
+use Rattle.phases.{specs.ByNumber.nextPhase, specs.ByNumber.movingOf, proofs.Transitions.next-none, proofs.Transitions.next-some}
 use Rattle.types.specs.{declared.Record.Record, declared.Answer.Answer, Arguments.noCharge, Frames.readOf}
 use Rattle.account.{specs.declared.Account.Account, specs.declared.Change.Change, specs.declared.Stepped.Stepped, specs.History.judged, specs.History.accountBy, specs.History.steppedBy}
 use Rattle.account.{specs.Step.knownOf, specs.Step.changeBy, specs.Step.changeOf, specs.Step.changed, specs.Step.steppedOf, proofs.Demand.step-stands, proofs.Demand.notes-nothing}
 use Rattle.account.{proofs.Demand.keeps-nothing}
 use Rattle.outcomes.{specs.Outcome.isRefusal, specs.Outcome.fits, specs.Outcome.judgeRecord, specs.Outcome.judgeAnswer, specs.Outcome.judge, specs.Status.requestsOf, specs.Status.noted}
-use Rattle.outcomes.{specs.Status.placeOf, specs.Parts.claimRecord, proofs.Refusals.decoding-refusal}
-use Rattle.step.specs.Parts.{resolved, taken}
+use Rattle.outcomes.{specs.Status.placeOf, specs.ByNumber.claimRecord, proofs.Refusals.decoding-refusal}
+use Rattle.step.specs.Inner.{resolved, taken}
 
 -- ---- a final that is claimed, and then compared, is the final judged at once
 
@@ -59,16 +60,17 @@ module _ (a : Account) (o : List ℕ) {x : Answer} (read : x ≡ readOf o) where
 pub phase-change : (a : Account) (e : Event) (o : List ℕ) → (e .kind ≡ 5 → ⊥) → unkept (movingOf (a .status) e .outcome) (movingOf (a .status) e .status) ≡ changeOf a e o
 unfolding changeOf judge movingOf
 phase-change a e o n =
-    by-test (allowed (e .kind) (a .status .phase))
-    (λ p. by-test (eqb (e .kind) Setup && clashes e) (λ q. rw (p, q, ne-eqb (e .kind) 5 n)) (λ q. rw (p, q, ne-eqb (e .kind) 5 n)))
+    by-cases (allowed (e .kind) (a .status .phase))
+    (λ p. by-cases (eqb (e .kind) Setup && clashes e) (λ q. rw (p, q, ne-eqb (e .kind) 5 n)) (λ q. rw (p, q, ne-eqb (e .kind) 5 n)))
     (λ p. rw (p, ne-eqb (e .kind) 5 n))
 
 -- ---- any event
 
 module _ (a : Account) (e : Event) (o : List ℕ) (w : Change) (n : ℕ) (leads : n ≡ nextPhase (e .kind) (a .status .phase)) where
-  pub not-allowed : n ≡ Idle → w ≡ unkept (noService 14) (a .status) → w ≡ changeOf a e o
+  -- the number is asked for by itself: where it is another, the prover shows both
+  pub not-allowed : {k : ℕ} → w ≡ unkept (noService k) (a .status) → k ≡ 14 → n ≡ Idle → w ≡ changeOf a e o
   unfolding judge changeOf
-  not-allowed z u = u ∙ sym (rw (next-none (e .kind) (a .status .phase) n leads z) (simp if-same))
+  not-allowed u q z = u ∙ ap (λ (k : ℕ). unkept (noService k) (a .status)) q ∙ sym (rw (next-none (e .kind) (a .status .phase) n leads z) (simp if-same))
 
   pub heard : (n ≡ Idle → ⊥) → e .kind ≡ Component → w ≡ taken a (readOf o) → w ≡ changeOf a e o
   unfolding judge changeOf

@@ -18,10 +18,10 @@ ghost use mathlib.Core.List.{List};
 ghost use Rattle.types.specs.Arguments.{noCharge};
 ghost use Rattle.types.specs.Frames.{readOf};
 ghost use Rattle.phases.specs.Phases.{noService, Given, event};
-ghost use Rattle.outcomes.specs.Parts.{chargeFrom};
+ghost use Rattle.types.specs.Stored.{withList};
 ghost use Rattle.account.specs.History.{judged, accountBy, stepped, steppedBy};
 ghost use Rattle.account.specs.Step.{changeOf, changed, steppedOf};
-ghost use Rattle.step.specs.Parts.{resolved, taken};
+ghost use Rattle.step.specs.Inner.{resolved, taken};
 
 // ---- what a component does
 
@@ -32,7 +32,7 @@ fn resolved(
     numbers: &[u32; 32],
     rows: &[u8; 192],
 ) -> Outcome
-    ensures { λ r. ⌜ r ≡ resolved a o (chargeFrom figure (now (numbers .entry)) (now (rows .entry))) ⌝ }
+    ensures { λ r. ⌜ r ≡ resolved a o (withList figure (now (numbers .entry)) (now (rows .entry))) ⌝ }
 {
     if o.number != 22 {
         return o;

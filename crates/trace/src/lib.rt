@@ -1,7 +1,7 @@
 // The events of a trace, laid as an event list into two lent slices.
 use messages::Gives;
 use phases::Event;
-use values::Services;
+use requests::Services;
 ghost use mathlib.Core.Path.{_≡_};
 ghost use mathlib.Core.Bool.{true, false, cond};
 ghost use mathlib.Core.List.{List, [], _∷_};
@@ -65,7 +65,7 @@ fn put_event(rows: &mut [u16], out: &mut [u8], p: Put, e: Event, octets: &[u8]) 
     let r = p.rows;
     let o = p.octets;
     let row = put_row(rows, r, e, n as u16);
-    let end = write_elements::put_octets(out, o, octets, n);
+    let end = octets::put_octets(out, o, octets, n);
     Put {
         rows: row,
         octets: end,
@@ -112,12 +112,12 @@ fn put_tiles(rows: &mut [u16], out: &mut [u8], p: Put, s: &[u8]) -> Put
         return p;
     }
     let starts = tiles.starts;
-    let count = framing::wide(tiles.count);
+    let count = octets::wide(tiles.count);
     let end = s.len();
     let mut q = p;
     let mut i: usize = 0;
     while i < count {
-        let a = framing::wide(starts[i]);
+        let a = octets::wide(starts[i]);
         let b = messages::stop_of(starts, count, i, end);
         let next = put_component(rows, out, q, &s[a..b]);
         q = next;
@@ -237,7 +237,7 @@ fn put_message(
     ensures { λ r. ⌜ Puts (now (rows .entry)) (now (rows .exit)) (now (out .entry)) (now (out .exit)) p (messageEvents cleared (message (now (s .entry)) network)) r ⌝ }
 {
     let g = messages::gives_of(messages::type_of(s), network, cleared);
-    let start = 3 + framing::wide(s[1]);
+    let start = 3 + octets::wide(s[1]);
     put_all(rows, out, p, s, start, g)
 }
 

@@ -8,7 +8,7 @@ ghost use Prim.Native.Nat.{_≤_};
 ghost use lib.ListN.{length};
 ghost use Rattle.coding.specs.Written.{Wrote, Room};
 ghost use Rattle.types.specs.Charges.{association};
-ghost use Rattle.write_tests.specs.Fine.{withList};
+ghost use Rattle.types.specs.Stored.{withList};
 ghost use Rattle.trunks.specs.Bodies.{chargeFor};
 ghost use Rattle.trunk_charges.specs.Octets.{pricedOctets, figureOctets, Priced, Figured};
 

@@ -2,7 +2,8 @@
 use Rattle.prelude.proofs.Prelude.{ℕ, _+_, _-_, _≤_, _<_, min, arith, _≡_, refl, sym, _∙_, Bool, true, false, not, List, length, ltb, leb, eqb, lt-ltb}
 use Rattle.prelude.proofs.Prelude.{le-ltb, lt-leb, not-true, not-false}
 use Rattle.coding.{specs.Reader.part, specs.Contents.negative, specs.Contents.numberFrom}
-use Rattle.coding.{specs.Codec.oneOf, specs.Codec.all, specs.Leaves.listing, specs.Shown.verdict, proofs.Basic.by-cases}
+use Rattle.coding.specs.{Codec.oneOf, Codec.all, Leaves.listing, Shown.verdict}
+use Rattle.prelude.proofs.Ways.{by-cases}
 use Rattle.coding.{proofs.Parts.part-length}
 use Rattle.trunks.specs.Components.{trunkOperations}
 use Rattle.read_heads.proofs.Codes.{has-below, list-known, none-of, count, counted}

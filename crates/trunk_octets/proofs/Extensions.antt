@@ -2,7 +2,8 @@
 use Rattle.prelude.proofs.Prelude.{ℕ, _+_, _≤_, _≡_, sym, ap, _∙_, [], _∷_, _++_, true, cond, arith, length, take, length-append, length-take, eqb, eqb-true, eqb-false, eq-eqb}
 use Rattle.prelude.proofs.Prelude.{ne-eqb}
 use Rattle.coding.{specs.Reader.Reader, specs.Codec.canonical, specs.Codec.over, specs.Codec.sort, specs.Codec.nothing, specs.Codec.lengthOctets, specs.Kept.asReceived, specs.Written.lead}
-use Rattle.coding.proofs.{Basic.and-left, Basic.and-right, Basic.picked, Basic.unpicked, Holds.tested}
+use Rattle.coding.proofs.Basic.{and-left, and-right, picked, unpicked}
+use Rattle.prelude.proofs.Ways.{by-cases}
 use Rattle.trunks.specs.declared.Extension.{Extension}
 use Rattle.trunks.specs.Extensions.{noExtension, sameExtension, extensionBy, keptOctets, inOne, inList, extensionAt, unextended, someExtension, extension, parameter}
 use Rattle.trunk_octets.specs.Octets.{extensionOctets, Counted}
@@ -26,14 +27,14 @@ module _ (x : Extension) where
   unfolding extension sort
   extension-counted v = record {
     octets = λ k.
-        tested (eqb (x .kind) 1) (λ q. at-same 0xa1 1 inOne (rw q at v) .1) (λ q.
-        tested (eqb (x .kind) 2) (λ r. at-same 0xa2 2 inList (rw (q, r) at v) .1) (λ r. absurd (k (none-kind (rw (q, r) at v)))));
+        by-cases (eqb (x .kind) 1) (λ q. at-same 0xa1 1 inOne (rw q at v) .1) (λ q.
+        by-cases (eqb (x .kind) 2) (λ r. at-same 0xa2 2 inList (rw (q, r) at v) .1) (λ r. absurd (k (none-kind (rw (q, r) at v)))));
   }
 
   pub parameter-counted : parameter .valid x ≡ true → Counted x
   unfolding parameter sort
   parameter-counted v = record {
-    octets = λ k. tested (eqb (x .kind) 1) (λ q. at-same 0x30 1 inOne (rw q at v) .1) (λ q. absurd (k (none-kind (rw q at v))));
+    octets = λ k. by-cases (eqb (x .kind) 1) (λ q. at-same 0x30 1 inOne (rw q at v) .1) (λ q. absurd (k (none-kind (rw q at v))));
   }
 
   -- ---- what is written
@@ -68,7 +69,7 @@ module _ (x : Extension) where
   pub some-valid : someExtension .valid x ≡ true → (extension .valid x ≡ true) × (someExtension .write x ≡ extension .write x)
   unfolding someExtension extension sort
   some-valid v =
-      tested (eqb (x .kind) 1) (λ q. (rw q (rw q at v), rw q)) (λ q.
+      by-cases (eqb (x .kind) 1) (λ q. (rw q (rw q at v), rw q)) (λ q.
       let w : (extensionAt 0xa2 2 inList) .valid x ≡ true = rw q at v in
       let e = eq-eqb (x .kind) 2 (sym (at-same 0xa2 2 inList w .0)) in (rw (q, e) w, rw (q, e)))
 
@@ -107,12 +108,12 @@ module _ (x : Extension) where
     pub extension-length : extension .valid x ≡ true → n ≡ length (extension .write x)
     unfolding extension sort
     extension-length v =
-        tested (eqb (x .kind) 1) (λ q. let e = eqb-true (x .kind) 1 q in there 1 0xa1 e (λ z. omega arith) ∙ sym (ap length (extension-one e))) (λ q.
-        tested (eqb (x .kind) 2) (λ r. let e = eqb-true (x .kind) 2 r in there 2 0xa2 e (λ z. omega arith) ∙ sym (ap length (extension-list e)))
+        by-cases (eqb (x .kind) 1) (λ q. let e = eqb-true (x .kind) 1 q in there 1 0xa1 e (λ z. omega arith) ∙ sym (ap length (extension-one e))) (λ q.
+        by-cases (eqb (x .kind) 2) (λ r. let e = eqb-true (x .kind) 2 r in there 2 0xa2 e (λ z. omega arith) ∙ sym (ap length (extension-list e)))
         (λ r. none (none-kind (rw (q, r) at v)) ∙ sym (ap length (extension-none (eqb-false (x .kind) 1 q) (eqb-false (x .kind) 2 r)))))
 
     pub parameter-length : parameter .valid x ≡ true → n ≡ length (parameter .write x)
     unfolding parameter sort
     parameter-length v =
-        tested (eqb (x .kind) 1) (λ q. let e = eqb-true (x .kind) 1 q in there 1 0x30 e (λ z. omega arith) ∙ sym (ap length (parameter-one e)))
+        by-cases (eqb (x .kind) 1) (λ q. let e = eqb-true (x .kind) 1 q in there 1 0x30 e (λ z. omega arith) ∙ sym (ap length (parameter-one e)))
         (λ q. none (none-kind (rw q at v)) ∙ sym (ap length (parameter-none (eqb-false (x .kind) 1 q))))

@@ -5,7 +5,8 @@ use Rattle.prelude.proofs.Prelude.{length-append, leb, eqb, eqb-true, eq-eqb, n
 use Rattle.coding.{specs.Codec.Run, specs.Codec.oneOf, specs.Codec.prim, specs.Codec.cons, specs.Codec.pair, specs.Codec.alt, specs.Codec.sort, specs.Codec.canonical, specs.Codec.over}
 use Rattle.coding.{specs.Codec.leads, specs.Codec.barring, specs.Codec.marked, specs.Codec.frames, specs.Codec.nothing, specs.Codec.pickRun, specs.Leaves.number, specs.Leaves.identifier}
 use Rattle.coding.{specs.Leaves.listed}
-use Rattle.coding.{specs.Written.lead, specs.Written.fullNumber, proofs.Basic.and-left, proofs.Basic.and-right, proofs.Basic.or-false, proofs.Holds.holds, proofs.Holds.tested}
+use Rattle.coding.{specs.Written.lead, specs.Written.fullNumber, proofs.Basic.and-left, proofs.Basic.and-right, proofs.Basic.or-false, proofs.Holds.holds}
+use Rattle.prelude.proofs.Ways.{by-cases}
 use Rattle.coding.{proofs.Small.null-write, proofs.Small.small-length}
 use Rattle.coding.proofs.{Small.id-length, Writing.number-write}
 use Rattle.types.specs.{declared.Record.Record, Frames.value, Frames.caller, Frames.problem, Frames.problems, Frames.reject, Frames.frontBy, Frames.sameFront, Frames.sameRecord}
@@ -39,22 +40,22 @@ last-operation o h a b c d e f = eqb-true o 65 (or-false (eqb o 65) (rw (a, b, c
 argument-alike : (o : ℕ) (b : Body) → oneOf trunkOperations o ≡ true → Alike (argumentOf o) (bodyOf o) b
 unfolding argumentOf bodyOf innerOf finalCharge interim tariff complete diverted chargeFor users diverting
 argument-alike o b h =
-    tested (eqb o 59) (λ q. rw (eqb-true o 59 q) (refl, refl)) (λ q1.
-    tested (eqb o 60) (λ q. rw (eqb-true o 60 q) (refl, refl)) (λ q2.
-    tested (eqb o 61) (λ q. rw (eqb-true o 61 q) (refl, refl)) (λ q3.
-    tested (eqb o 62) (λ q. rw (eqb-true o 62 q) (refl, refl)) (λ q4.
-    tested (eqb o 63) (λ q. rw (eqb-true o 63 q) (refl, refl)) (λ q5.
-    tested (eqb o 64) (λ q. rw (eqb-true o 64 q) (refl, refl)) (λ q6. rw (last-operation o h q1 q2 q3 q4 q5 q6) (refl, refl)))))))
+    by-cases (eqb o 59) (λ q. rw (eqb-true o 59 q) (refl, refl)) (λ q1.
+    by-cases (eqb o 60) (λ q. rw (eqb-true o 60 q) (refl, refl)) (λ q2.
+    by-cases (eqb o 61) (λ q. rw (eqb-true o 61 q) (refl, refl)) (λ q3.
+    by-cases (eqb o 62) (λ q. rw (eqb-true o 62 q) (refl, refl)) (λ q4.
+    by-cases (eqb o 63) (λ q. rw (eqb-true o 63 q) (refl, refl)) (λ q5.
+    by-cases (eqb o 64) (λ q. rw (eqb-true o 64 q) (refl, refl)) (λ q6. rw (last-operation o h q1 q2 q3 q4 q5 q6) (refl, refl)))))))
 
 result-alike : (o : ℕ) (b : Body) → Alike (resultOf o) (bodyOf (resultForm o)) b
 unfolding resultOf bodyOf innerOf
-result-alike o b = tested (eqb o 59) (λ q. rw q (refl, refl)) (λ q. rw q (refl, refl))
+result-alike o b = by-cases (eqb o 59) (λ q. rw q (refl, refl)) (λ q. rw q (refl, refl))
 
 -- ---- a reject's two parts
 
 call : (u i : ℕ) → caller .write (cond (eqb u 1) (inl tt) (inr i)) ≡ cond (eqb u 1) (lead 0x05 0) ((prim 0x02 identifier) .write i)
 unfolding caller alt
-call u i = tested (eqb u 1) (λ q. rw (q, null-write 0x05 tt)) (λ q. rw q)
+call u i = by-cases (eqb u 1) (λ q. rw (q, null-write 0x05 tt)) (λ q. rw q)
 
 module _ (c : Unit {0} ⊎ ℕ) (r : Record) where
   abbrev Tagged : Type 0
@@ -74,9 +75,9 @@ module _ (c : Unit {0} ⊎ ℕ) (r : Record) where
   problem-held : (problems c) .valid r ≡ true → (r .front .detail < 128) × Tagged
   unfolding problems sort
   problem-held v =
-      tested (eqb (r .front .problem) 0x80) (λ q. (below 0x80 2 (omega arith) (rw q at v) .1, inl (eqb-true _ _ q))) (λ q1.
-      tested (eqb (r .front .problem) 0x81) (λ q. (below 0x81 7 (omega arith) (rw (q1, q) at v) .1, inr (inl (eqb-true _ _ q)))) (λ q2.
-      tested (eqb (r .front .problem) 0x82) (λ q. (below 0x82 2 (omega arith) (rw (q1, q2, q) at v) .1, inr (inr (inl (eqb-true _ _ q))))) (λ q3.
+      by-cases (eqb (r .front .problem) 0x80) (λ q. (below 0x80 2 (omega arith) (rw q at v) .1, inl (eqb-true _ _ q))) (λ q1.
+      by-cases (eqb (r .front .problem) 0x81) (λ q. (below 0x81 7 (omega arith) (rw (q1, q) at v) .1, inr (inl (eqb-true _ _ q)))) (λ q2.
+      by-cases (eqb (r .front .problem) 0x82) (λ q. (below 0x82 2 (omega arith) (rw (q1, q2, q) at v) .1, inr (inr (inl (eqb-true _ _ q))))) (λ q3.
       let w = below 0x83 4 (omega arith) (rw (q1, q2, q3) at v) in (w .1, inr (inr (inr (last-tag c (r .front .detail) (w .0))))))))
 
   problem-write : Tagged → (problems c) .write r ≡ fullNumber (r .front .problem) (r .front .detail)
@@ -199,12 +200,12 @@ module _ (front lent figure numbers rows : List ℕ) where
         and-right (sameTrunk (trunkBy (leadBy 3 0 (two front 2) code 0 0) (extending (extensionIn lent))) whole) _ p
 
     pub error-parameter : parameter .valid (extensionIn lent) ≡ true
-    error-parameter = tested (eqb code 1008) (λ t. rw t at error-parts) (λ t. bare-parameter (extensionIn lent) (rw t at error-parts) .0)
+    error-parameter = by-cases (eqb code 1008) (λ t. rw t at error-parts) (λ t. bare-parameter (extensionIn lent) (rw t at error-parts) .0)
 
     pub error-octets : trunkError .write whole ≡ errorOctets front lent
     unfolding trunkError leads failing canonical over trunkIn bodyIn errorOctets unextended nothing
     error-octets =
-        tested (eqb code 1008) (λ t. rw (t, value-write 8 trunkErrors code))
+        by-cases (eqb code 1008) (λ t. rw (t, value-write 8 trunkErrors code))
         (λ t. rw (t, value-write 8 trunkErrors code, bare-parameter (extensionIn lent) (rw t at error-parts) .1))
 
   -- ---- A4

@@ -20,14 +20,6 @@ ghost use Rattle.trunks.specs.Stored.{modesIn, extensionIn};
 ghost use Rattle.trunks.specs.Forms.{innerOf};
 ghost use Rattle.trunk_octets.specs.Octets.{given, bodyGiven, innerGiven, extensionOctets, Counted, mode, modeAt, usersOctets, detailIn, modesOf, modesOctets, bodyOf, resultForm, callerOctets, rejectOctets, errorOctets, NetworkFine, networkOctets, contentsOf};
 
-// A count that is kept in an octet.
-fn wide(x: u8) -> usize
-    ensures { λ r. ⌜ r ≡ x ⌝ }
-    ensures few { λ r. ⌜ r < 256 ⌝ }
-{
-    x as usize
-}
-
 // ---- extensions
 
 // Whatever its tag; nothing where there is none.
@@ -39,7 +31,7 @@ fn extension_size(lent: &[u8; 244]) -> usize
     if lent[0] == 0 {
         return 0;
     }
-    let n = wide(lent[1]);
+    let n = octets::wide(lent[1]);
     write_figures::sized(n)
 }
 
@@ -50,7 +42,7 @@ fn put_kept(buf: &mut [u8], at: usize, tag: u8, lent: &[u8; 244]) -> usize
     ensures { λ r. ⌜ Wrote (now (buf .entry)) (now (buf .exit)) at (extensionOctets tag (extensionIn (now (lent .entry)))) r ⌝ }
 {
     let all: &[u8] = lent;
-    let n = wide(lent[1]);
+    let n = octets::wide(lent[1]);
     write_elements::put_string(buf, at, tag, &all[2..], n)
 }
 
@@ -105,7 +97,7 @@ fn put_modes(buf: &mut [u8], at: usize, front: &[u8; 48]) -> usize
     requires { ⌜ Room (now buf) at (modesOctets (now front)) ⌝ }
     ensures { λ r. ⌜ Wrote (now (buf .entry)) (now (buf .exit)) at (modesOctets (now (front .entry))) r ⌝ }
 {
-    let n = wide(front[8]);
+    let n = octets::wide(front[8]);
     let p = write_elements::put_lead(buf, at, 0x30, 3 * n);
     put_places(buf, p, front, n)
 }
@@ -154,7 +146,7 @@ fn inner_size(
         return 3;
     }
     if form == 59 {
-        let n = wide(front[8]);
+        let n = octets::wide(front[8]);
         return 2 + 3 * n;
     }
     if form == 64 {

@@ -1,14 +1,10 @@
 -- Frames read in the code's steps.
 use Rattle.prelude.proofs.Prelude.{ℕ, _≡_, refl, List, length, getD}
 use Rattle.coding.{specs.Reader.after, specs.Reader.blamed, specs.Reader.opened, specs.Reader.closed, specs.Reader.constructed, specs.Reader.enteredAny, specs.Reader.Ans.got, specs.Reader.Fault.named}
-use Rattle.coding.{specs.Codec.prim, specs.Codec.cons, specs.Codec.sort, specs.Codec.canonical, specs.Codec.over, specs.Codec.leads, specs.Codec.marked, specs.Codec.frames, specs.Leaves.identifier}
-use Rattle.coding.proofs.Reading.{flat}
-use Rattle.types.specs.Frames.{outside, inArgument, value, caller, problem, problems, reject, rejects}
-use Rattle.read_heads.specs.Heads.{problemIn, problemsIn}
-use Rattle.trunks.specs.Bodies.{extending, network, argumentOf, resultOf}
-use Rattle.trunks.specs.Components.{leadBy, trunkBy, trunkOperations, answerable, trunkErrors, carryingBody, trunkInvoke, trunkResult, failing, trunkError, ofReject, rejected, inNetwork}
-use Rattle.trunks.specs.Components.{facility, tags, trunkFrame, trunkComponent}
-use Rattle.trunk_read.specs.Parts.{failure}
+use Rattle.coding.{specs.Codec.prim, specs.Codec.cons, specs.Codec.canonical, specs.Codec.over, specs.Codec.leads, specs.Codec.marked, specs.Codec.frames, specs.Leaves.identifier, proofs.Reading.flat}
+use Rattle.types.specs.Frames.{outside, inArgument, value}
+use Rattle.trunks.specs.Bodies.{argumentOf, resultOf}
+use Rattle.trunks.specs.Components.{leadBy, trunkBy, trunkOperations, answerable, carryingBody, trunkInvoke, trunkResult, tags, trunkFrame, trunkComponent}
 
 module _ (s : List ℕ) (at end : ℕ) where
   pub invoke-read :
@@ -24,23 +20,6 @@ module _ (s : List ℕ) (at end : ℕ) where
       after (blamed inArgument ((resultOf o) .read s n (x .stop))) (λ b last. closed (trunkBy (leadBy 2 0 i 0 o 0) b) last (x .stop) next))))
   unfolding trunkResult leads cons constructed carryingBody canonical over marked
   answer-read = simp flat
-
-  pub error-read :
-      trunkError .read s at end ≡
-      after ((prim 0x02 identifier) .read s at end) (λ i m. after ((value 8 trunkErrors) .read s m end) (λ e n.
-      after ((failure e) .read s n end) (λ x last. got (trunkBy (leadBy 3 0 i e 0 0) (extending x)) last)))
-  unfolding trunkError leads failing canonical over
-  error-read = refl
-
-  pub rejected-read :
-      rejected .read s at end ≡
-      after (caller .read s at end) (λ c m. after (problemsIn s m end) (λ p n. got (ofReject (rejects c (p .tag) (p .detail))) n))
-  unfolding rejected reject leads problems sort problem canonical over problemsIn problemIn
-  rejected-read = simp flat
-
-  pub facility-read : facility .read s at end ≡ after (blamed inNetwork (network .read s at end)) (λ b n. got (trunkBy (leadBy 10 0 0 0 0 0) b) n)
-  unfolding facility canonical over marked
-  facility-read = refl
 
 pub component-read : (s : List ℕ) →
     trunkComponent .read s 0 (length s) ≡

@@ -1,48 +1,19 @@
 // Components of a trunk: read whole.
 //
 // What is read is stored in the parts that are lent: a front of 48 octets, an extension of 244, a figure of 48 and a list's two arrays.
-// A body is stored first, and the lead last: it is all in the first eight octets of the front, which no body uses.
 ghost use mathlib.Core.Path.{_≡_};
-ghost use Prim.Native.Nat.{ℕ, _≤_};
-ghost use mathlib.Core.List.{List};
-ghost use lib.ListN.{length, replicate};
+ghost use Prim.Native.Nat.{_≤_};
+ghost use lib.ListN.{length};
 ghost use Rattle.coding.specs.Shown.{shown};
-ghost use Rattle.types.specs.declared.Charge.{Charge};
-ghost use Rattle.types.specs.Arguments.{noCharge};
 ghost use Rattle.types.specs.Frames.{offsetOf};
-ghost use Rattle.types.specs.Stored.{stored, storedCharge};
-ghost use Rattle.trunks.specs.Extensions.{noExtension};
-ghost use Rattle.trunks.specs.Stored.{extensionIn, bodyIn, trunkIn};
-ghost use Rattle.trunks.specs.Components.{noTrunk, leadBy, trunkBy, trunkInvoke, trunkResult, trunkError, rejected, facility, trunkFrame, trunkComponent, readTrunk};
-ghost use Rattle.trunk_bodies.specs.Parts.{Bare, Spare};
-ghost use Rattle.trunk_read.specs.Parts.{framed, failure};
+ghost use Rattle.types.specs.Stored.{storedCharge};
+ghost use Rattle.trunks.specs.Components.{noTrunk, trunkInvoke, trunkResult, trunkFrame, trunkComponent, readTrunk};
+ghost use Rattle.trunk_fields.specs.Fields.{Spare};
+ghost use Rattle.trunk_bodies.specs.Bodied.{Bare};
+ghost use Rattle.trunk_frames.specs.Framed.{framed};
 ghost use Rattle.trunk_read.specs.Whole.{wholeTrunk};
 
 // ---- frames
-
-// The lead, put into a front that holds a body.
-fn keep_lead(
-    front: &mut [u8; 48],
-    frame: u8,
-    unnamed: u8,
-    id: u16,
-    error: u16,
-    operation: u8,
-    problem: u8,
-)
-    requires { ⌜ Spare (now front) ⌝ }
-    ensures { λ _. ⌜ ((lent : List ℕ) (c : Charge) → trunkIn (now (front .exit)) lent c ≡ trunkBy (leadBy frame unnamed id error operation problem) (bodyIn (now (front .entry)) lent c)) ⌝ }
-    ensures spare { λ _. ⌜ Spare (now (front .exit)) ⌝ }
-{
-    front[0] = frame;
-    front[1] = unnamed;
-    front[2] = (id % 256) as u8;
-    front[3] = (id / 256) as u8;
-    front[4] = (error % 256) as u8;
-    front[5] = (error / 256) as u8;
-    front[6] = operation;
-    front[7] = problem;
-}
 
 // A1: identifier, operation, argument.
 fn invoke_at(
@@ -84,7 +55,7 @@ fn invoke_at(
         return read_figures::halted(read_heads::inner(b.fault), b.place);
     }
     let id = i.value as u16;
-    keep_lead(front, 1, 0, id, 0, operation, 0);
+    trunk_frames::keep_lead(front, 1, 0, id, 0, operation, 0);
     read_figures::reached(b.next)
 }
 
@@ -137,98 +108,8 @@ fn answer_at(
         return read_figures::halted(41, b.next);
     }
     let id = i.value as u16;
-    keep_lead(front, 2, 0, id, 0, operation, 0);
+    trunk_frames::keep_lead(front, 2, 0, id, 0, operation, 0);
     read_figures::reached(e.next)
-}
-
-// The parameter of error 1008; others have none.
-fn failing_at(
-    s: &[u8],
-    at: usize,
-    end: usize,
-    error: u16,
-    lent: &mut [u8; 244],
-) -> read_elements::Empty
-    requires { ⌜ end ≤ length (now s) ⌝ }
-    requires { ⌜ now lent ≡ replicate 244 0 ⌝ }
-    ensures { λ r. ⌜ (r .fault, r .place, stored noExtension (r .fault) (extensionIn (now (lent .exit))), r .next) ≡ shown noExtension ((failure error) .read (now (s .entry)) at end) ⌝ }
-{
-    if error == 1008 {
-        return trunk_extensions::parameter_at(s, at, end, lent);
-    }
-    read_figures::reached(at)
-}
-
-// A3: identifier, error, and what may follow it.
-fn error_at(
-    s: &[u8],
-    at: usize,
-    end: usize,
-    front: &mut [u8; 48],
-    lent: &mut [u8; 244],
-) -> read_elements::Empty
-    requires { ⌜ end ≤ length (now s) ⌝ }
-    requires { ⌜ (now front ≡ replicate 48 0) × (now lent ≡ replicate 244 0) ⌝ }
-    ensures { λ r. ⌜ framed r (now (front .exit)) (now (lent .exit)) noCharge ≡ shown noTrunk (trunkError .read (now (s .entry)) at end) ⌝ }
-    ensures spare { λ _. ⌜ Spare (now (front .exit)) ⌝ }
-{
-    let i = read_elements::identifier_at(s, at, end, 0x02);
-    if i.fault != 0 {
-        return read_figures::halted(i.fault, i.place);
-    }
-    let e = trunk_heads::value_at(s, i.next, end, 3);
-    if e.fault != 0 {
-        return read_figures::halted(e.fault, e.place);
-    }
-    let error = e.value as u16;
-    let x = failing_at(s, e.next, end, error, lent);
-    if x.fault != 0 {
-        return read_figures::halted(x.fault, x.place);
-    }
-    let id = i.value as u16;
-    keep_lead(front, 3, 0, id, error, 0, 0);
-    read_figures::reached(x.next)
-}
-
-// A4: as document 01 has it.
-fn reject_at(s: &[u8], at: usize, end: usize, front: &mut [u8; 48]) -> read_elements::Empty
-    requires { ⌜ end ≤ length (now s) ⌝ }
-    requires { ⌜ now front ≡ replicate 48 0 ⌝ }
-    ensures { λ r. ⌜ framed r (now (front .exit)) (replicate 244 0) noCharge ≡ shown noTrunk (rejected .read (now (s .entry)) at end) ⌝ }
-    ensures spare { λ _. ⌜ Spare (now (front .exit)) ⌝ }
-{
-    let i = read_heads::caller_at(s, at, end);
-    if i.fault != 0 {
-        return read_figures::halted(i.fault, i.place);
-    }
-    let p = read_heads::problems_at(s, i.next, end);
-    if p.fault != 0 {
-        return read_figures::halted(p.fault, p.place);
-    }
-    front[42] = p.value.detail;
-    keep_lead(front, 4, i.value.unnamed, i.value.id, 0, 0, p.value.tag);
-    read_figures::reached(p.next)
-}
-
-// AA: every fault inside is 6.
-fn facility_at(
-    s: &[u8],
-    at: usize,
-    end: usize,
-    front: &mut [u8; 48],
-    figure: &mut [u8; 48],
-) -> read_elements::Empty
-    requires { ⌜ end ≤ length (now s) ⌝ }
-    requires { ⌜ (now front ≡ replicate 48 0) × (now figure ≡ replicate 48 0) ⌝ }
-    ensures { λ r. ⌜ framed r (now (front .exit)) (replicate 244 0) (storedCharge (now (figure .exit)) (replicate 32 0) (replicate 192 0)) ≡ shown noTrunk (facility .read (now (s .entry)) at end) ⌝ }
-    ensures spare { λ _. ⌜ Spare (now (front .exit)) ⌝ }
-{
-    let b = trunk_bodies::network_at(s, at, end, front, figure);
-    if b.fault != 0 {
-        return read_figures::halted(106, b.place);
-    }
-    keep_lead(front, 10, 0, 0, 0, 0, 0);
-    read_figures::reached(b.next)
 }
 
 // By the first octet.
@@ -255,12 +136,12 @@ fn frame_at(
         return answer_at(s, at, end, front, lent, numbers, rows, figure);
     }
     if tag == 0xa3 {
-        return error_at(s, at, end, front, lent);
+        return trunk_frames::error_at(s, at, end, front, lent);
     }
     if tag == 0xa4 {
-        return reject_at(s, at, end, front);
+        return trunk_frames::reject_at(s, at, end, front);
     }
-    facility_at(s, at, end, front, figure)
+    trunk_frames::facility_at(s, at, end, front, figure)
 }
 
 // ---- whole

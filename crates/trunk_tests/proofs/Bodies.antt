@@ -2,7 +2,8 @@
 use Rattle.prelude.proofs.Prelude.{ℕ, _≡_, refl, sym, ap, ap₂, subst, _∙_, List, [], _∷_, Bool, true, false, _&&_, _||_, true≢false, cond, length, leb, eqb, leb·zero, eqb-true}
 use Rattle.coding.{specs.Codec.Run, specs.Codec.canonical, specs.Codec.over, specs.Codec.prim, specs.Codec.cons, specs.Codec.pair, specs.Codec.sort, specs.Codec.nothing}
 use Rattle.coding.{specs.Codec.any·more}
-use Rattle.coding.{specs.Codec.all, specs.Codec.pad, specs.Codec.oneOf, specs.Codec.pickRun, specs.Leaves.number, specs.Leaves.nullLeaf, specs.Kept.asReceived, proofs.Basic.by-cases}
+use Rattle.coding.specs.{Codec.all, Codec.pad, Codec.oneOf, Codec.pickRun, Leaves.number, Leaves.nullLeaf, Kept.asReceived}
+use Rattle.prelude.proofs.Ways.{by-cases}
 use Rattle.coding.{proofs.Tests.ands, proofs.Tests.and-true, proofs.Tests.eqb-self}
 use Rattle.types.{specs.declared.Association.Association, specs.declared.Charge.Charge, specs.Charges.noAssociation, specs.Charges.sameAssociation, specs.Charges.partyNumber}
 use Rattle.types.{specs.Charges.association}

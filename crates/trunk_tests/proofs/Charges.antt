@@ -2,7 +2,8 @@
 use Rattle.prelude.proofs.Prelude.{ℕ, _≤_, _≡_, refl, sym, ap, _∙_, List, Bool, true, false, _&&_, and-false, or-false, cond, arith, leb, eqb, leb·zero, lt-leb, leb-true, eqb-true}
 use Rattle.coding.{specs.Codec.Leaf, specs.Codec.canonical, specs.Codec.over, specs.Codec.prim, specs.Codec.pair, specs.Codec.sort, specs.Leaves.number, specs.Leaves.only}
 use Rattle.coding.{specs.Leaves.nullLeaf}
-use Rattle.coding.{proofs.Padded.eqbEqual, proofs.Padded.listEqual, proofs.Basic.by-cases, proofs.Tests.and-true, proofs.Tests.eqb-self, specs.Codec.sameList}
+use Rattle.coding.{proofs.Padded.eqbEqual, proofs.Padded.listEqual, proofs.Tests.and-true, proofs.Tests.eqb-self, specs.Codec.sameList}
+use Rattle.prelude.proofs.Ways.{by-cases}
 use Rattle.types.specs.{declared.Money.Money, declared.Association.Association, declared.Figure.Figure, declared.Entries.Entries, declared.Charge.Charge, Charges.money, Charges.association}
 use Rattle.types.specs.{Charges.noMoney, Charges.noAssociation, Charges.sameAssociation, Arguments.noCharge, Arguments.sameMoney, Arguments.sameCharge, Arguments.sign, Arguments.inMoney}
 use Rattle.types.specs.{Arguments.totalled, Arguments.associated, Arguments.ending, Arguments.settled, Arguments.withAssociation, Arguments.rates, Arguments.isKind}

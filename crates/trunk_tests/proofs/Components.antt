@@ -2,7 +2,7 @@
 use Rattle.prelude.proofs.Prelude.{ℕ, _+_, _≡_, refl, sym, ap, subst, _∙_, arith, Bool, true, false, _&&_, cond, leb, eqb, leb·zero, eqb-true, eqb-false, ne-eqb, _⊎_, inl, inr}
 use Rattle.coding.{specs.Codec.oneOf, specs.Codec.prim, specs.Codec.cons, specs.Codec.alt, specs.Codec.canonical, specs.Codec.over, specs.Codec.sort, specs.Codec.frames, specs.Codec.leads}
 use Rattle.coding.{specs.Codec.barring, specs.Codec.marked, specs.Codec.pickRun, specs.Leaves.number, specs.Leaves.nullLeaf, specs.Leaves.identifier, specs.Leaves.listed}
-use Rattle.coding.{proofs.Basic.by-cases}
+use Rattle.prelude.proofs.Ways.{by-cases}
 use Rattle.coding.{proofs.Tests.ands, proofs.Tests.and-assoc, proofs.Tests.and-true, proofs.Tests.eqb-self}
 use Rattle.types.specs.{declared.Record.Record, Frames.value, Frames.reject, Frames.caller, Frames.problem, Frames.problems, Frames.frontBy, Frames.uncharged, Frames.rejects}
 use Rattle.types.specs.{Frames.sameRecord}

@@ -1,15 +1,16 @@
 -- The tests of a component's parts, in the order in which the code makes them.
-use Rattle.prelude.proofs.Prelude.{ℕ, suc, _+_, _-_, _≤_, _<_, _≡_, refl, sym, ap, ap₂, _∙_, List, [], _∷_, _++_, Bool, true, false, not, _&&_, _||_, cond, arith, length, getD, take, drop}
+use Rattle.prelude.proofs.Prelude.{ℕ, _+_, _-_, _≤_, _<_, _≡_, refl, sym, ap, ap₂, _∙_, List, [], _∷_, _++_, Bool, true, false, not, _&&_, _||_, cond, arith, length, getD, take, drop}
 use Rattle.prelude.proofs.Prelude.{length-drop, take-take, take-all, drop-drop, drop-append-seam, replicate, ltb, leb, eqb, lt-ltb, eq-eqb, ne-eqb, eqb-true, eqb-false, leb-true, le-leb}
 use Rattle.prelude.proofs.Prelude.{lt-leb, ltb-true, not-true, not-false}
 use Rattle.coding.{specs.Reader.part, specs.Contents.every, specs.Codec.all, specs.Codec.oneOf, specs.Codec.sameList, proofs.Parts.part-length, proofs.Parts.part-split}
-use Rattle.coding.{proofs.Basic.by-cases, proofs.Tests.ands, proofs.Tests.and-true}
+use Rattle.prelude.proofs.Ways.{by-cases}
+use Rattle.coding.proofs.Tests.{ands, and-true}
 use Rattle.coding.{specs.Reader.Ans, specs.Reader.Reader, specs.Reader.Ans.got, specs.Reader.Ans.halt, specs.Codec.sort, specs.Codec.canonical, specs.Codec.over, specs.Codec.nothing}
 use Rattle.coding.{specs.Shown.shown}
-use Rattle.coding.{specs.Kept.isOctet, specs.Kept.isGot, specs.Kept.judgedAlone, specs.Kept.keptValid, specs.Kept.asReceived, proofs.Laws.Octets, proofs.Combine.octets-part}
+use Rattle.coding.{specs.Kept.isGot, specs.Kept.judgedAlone, specs.Kept.keptValid, specs.Kept.asReceived, proofs.Laws.Octets, proofs.Combine.octets-part, proofs.Kept.every-octet}
 use Rattle.coding.{proofs.Reading.some-code}
 use Rattle.coding.proofs.Tests.{and-assoc, eqb-self}
-use Rattle.types.specs.{declared.Association.Association, declared.Figure.Figure, declared.Entries.Entries, declared.Charge.Charge, Stored.associationIn, Charges.noAssociation}
+use Rattle.types.specs.{declared.Association.Association, declared.Figure.Figure, declared.Entries.Entries, declared.Charge.Charge, Stored.associationIn, Stored.figureIn, Charges.noAssociation}
 use Rattle.types.specs.{Charges.sameAssociation, Charges.partyNumber}
 use Rattle.trunks.specs.{declared.Lead.Lead, declared.Trunk.Trunk, Components.trunkComponent, Components.trunkOperations, Components.answerable, Components.trunkErrors, Stored.modesIn}
 use Rattle.trunks.specs.{Stored.extensionIn, Stored.bodyIn}
@@ -142,11 +143,6 @@ module _ {r : Bool} (a : Association) where
 
 -- ---- the extension, where it lies in its octets
 
-octets-hold : (xs : List ℕ) → Octets xs → every isOctet xs ≡ true
-unfolding every
-octets-hold [] os = refl
-octets-hold (x ∷ xs) os = rw (lt-ltb x 256 (os 0)) (octets-hold xs (λ i. os (suc i)))
-
 -- no fault is what was judged to be good
 pub judged-good : (r : Ans (Unit {0})) {k p n : ℕ} → (k, p, tt, n) ≡ shown tt r → eqb k 0 ≡ isGot r
 unfolding shown
@@ -189,7 +185,7 @@ module _ (s : List ℕ) (e : length s ≡ 244) (os : Octets s) where
   kept-is : (tag k : ℕ) (judge : Reader (Unit {0})) → kind ≡ k → (extensionAt tag k judge) .valid (extensionIn s) ≡ leb count 242 && (zeroPast && good judge)
   unfolding extensionAt canonical over asReceived keptValid part
   kept-is tag k judge q =
-      rw (eq-eqb k kind (sym q), counted-is count 242 (drop 2 s) long, rest-is, first-is, octets-hold (part s 2 (2 + count)) (octets-part s (2 + count - 2) 2 os))
+      rw (eq-eqb k kind (sym q), counted-is count 242 (drop 2 s) long, rest-is, first-is, every-octet (part s 2 (2 + count)) (octets-part s (2 + count - 2) 2 os))
       (and-assoc (leb count 242) zeroPast (good judge))
 
   none-is : kind ≡ 0 → sameExtension noExtension (extensionIn s) ≡ leb count 242 && (zeroPast && eqb count 0)
@@ -246,10 +242,12 @@ module _ (s : List ℕ) (e : length s ≡ 244) (os : Octets s) where
 
 -- ---- the whole, in the order in which the code tests
 
-pub as-charge : {r : Bool} (form : ℕ) (f g : Figure) (e : Entries) → f ≡ g
-    → r ≡ markedFine form f && (amountIf f && (otherFine form (f .association) && listIf (record { figure = f; entries = e }))) → r ≡ chargeFits form (record { figure = g; entries = e })
-unfolding chargeFits
-as-charge {r} form f g e q h = rw (← q) (simp and-assoc h)
+-- the figure taken out of its octets
+pub as-charge : {r : Bool} (form : ℕ) (f : Figure) (s : List ℕ) (e : Entries) → f ≡ figureIn s
+    → r ≡ markedFine form f && (amountIf (figureIn s) && (otherFine form (associationIn s) && listIf (record { figure = f; entries = e })))
+    → r ≡ chargeFits form (record { figure = figureIn s; entries = e })
+unfolding chargeFits figureIn
+as-charge form f s e q h = h ∙ rw q (simp and-assoc)
 
 -- the user taken out of the front
 pub as-front : {r : Bool} (k p : ℕ) (s : List ℕ) (u : Association) → u ≡ associationIn s

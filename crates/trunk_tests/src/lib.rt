@@ -7,7 +7,7 @@ ghost use mathlib.Core.Bool.{true, _||_};
 ghost use Rattle.types.specs.Charges.{association};
 ghost use lib.Dec.{eqb};
 ghost use lib.ListN.{length};
-ghost use Rattle.types.specs.Stored.{storedCharge};
+ghost use Rattle.types.specs.Stored.{storedCharge, associationIn, figureIn};
 ghost use Rattle.write_tests.specs.Fine.{laid};
 ghost use Rattle.trunks.specs.Stored.{leadIn, modesIn, extensionIn, bodyIn, trunkIn};
 ghost use Rattle.trunks.specs.Components.{trunkComponent};
@@ -204,15 +204,15 @@ fn modes_fine(front: &[u8; 48], form: u8) -> bool
         if n != 0 {
             return false;
         }
-        return read_elements::below(all, 9, 16, 1);
+        return octets::below(all, 9, 16, 1);
     }
     if 7 < n {
         return false;
     }
-    if !read_elements::below(all, 9 + n, 16, 1) {
+    if !octets::below(all, 9 + n, 16, 1) {
         return false;
     }
-    read_elements::below(all, 9, 9 + n, 7)
+    octets::below(all, 9, 9 + n, 7)
 }
 
 // ---- numbers and associations, their digits lent beside them
@@ -274,7 +274,8 @@ fn association_fine(a: Association, digits: &[u8; 20]) -> bool
     write_tests::number_fine(a)
 }
 
-fn other_fine(a: Association, digits: &[u8; 20], form: u8) -> bool
+// An association that was taken out of a figure.
+fn associated_fine(a: Association, digits: &[u8; 20], form: u8) -> bool
     requires { ⌜ now digits ≡ a .digits ⌝ }
     ensures { λ r. ⌜ r ≡ otherFine form a ⌝ }
 {
@@ -285,6 +286,19 @@ fn other_fine(a: Association, digits: &[u8; 20], form: u8) -> bool
         return number_if(a, digits);
     }
     write_tests::no_association(a, digits)
+}
+
+// None is zeros where one would lie, and is not copied.
+fn other_fine(figure: &[u8; 48], form: u8) -> bool
+    ensures { λ r. ⌜ r ≡ otherFine form (associationIn (now (figure .entry))) ⌝ }
+{
+    let all: &[u8] = figure;
+    if all[20] == 0 {
+        return octets::zeros(&all[16..42]);
+    }
+    let a = parts::association_of(figure);
+    let digits = a.digits;
+    associated_fine(a, &digits, form)
 }
 
 // ---- the charge
@@ -353,15 +367,16 @@ fn marked_fine(f: Figure, form: u8) -> bool
     billed_fine(f, form)
 }
 
-fn amount_fine(f: Figure, currency: &[u8; 10]) -> bool
-    requires { ⌜ now currency ≡ f .money .currency .octets ⌝ }
-    ensures { λ r. ⌜ r ≡ amountIf f ⌝ }
+// Money, or zeros where it would lie.
+fn amount_fine(figure: &[u8; 48]) -> bool
+    ensures { λ r. ⌜ r ≡ amountIf (figureIn (now (figure .entry))) ⌝ }
 {
-    let m = f.money;
-    if f.kind == 2 {
+    let all: &[u8] = figure;
+    if all[42] == 2 {
+        let m = parts::money_of(figure);
         return write_tests::money_fine(m, true);
     }
-    write_tests::no_money(m, currency)
+    octets::zeros(&all[0..16])
 }
 
 // Rates, or none.
@@ -384,18 +399,13 @@ fn charge_fine(figure: &[u8; 48], numbers: &[u32; 32], rows: &[u8; 192], form: u
     let places: &[u32] = numbers;
     let octets: &[u8] = rows;
     let f = parts::figure_of(figure);
-    let money = f.money;
-    let association = f.association;
-    let named = money.currency;
-    let currency = named.octets;
-    let digits = association.digits;
     if !marked_fine(f, form) {
         return false;
     }
-    if !amount_fine(f, &currency) {
+    if !amount_fine(figure) {
         return false;
     }
-    if !other_fine(association, &digits, form) {
+    if !other_fine(figure, form) {
         return false;
     }
     list_fine(f, numbers, rows)
@@ -420,7 +430,7 @@ fn most_extension(form: u8) -> u8
 }
 
 // Its contents are judged as the reader judges them, and what is past them is zero.
-fn extension_fine(lent: &[u8; 244], form: u8) -> bool
+fn extended_fine(lent: &[u8; 244], form: u8) -> bool
     ensures { λ r. ⌜ r ≡ extensionFine form (extensionIn (now (lent .entry))) ⌝ }
 {
     let all: &[u8] = lent;
@@ -432,7 +442,7 @@ fn extension_fine(lent: &[u8; 244], form: u8) -> bool
     if 242 < n {
         return false;
     }
-    if !write_tests::zeros(&all[2 + n..244]) {
+    if !octets::zeros(&all[2 + n..244]) {
         return false;
     }
     if kind == 0 {
@@ -440,6 +450,17 @@ fn extension_fine(lent: &[u8; 244], form: u8) -> bool
     }
     let j = trunk_extensions::judged(&all[2..2 + n], kind);
     j.fault == 0
+}
+
+// None fits every form.
+fn extension_fine(lent: &[u8; 244], form: u8) -> bool
+    ensures { λ r. ⌜ r ≡ extensionFine form (extensionIn (now (lent .entry))) ⌝ }
+{
+    let all: &[u8] = lent;
+    if octets::zeros(all) {
+        return true;
+    }
+    extended_fine(lent, form)
 }
 
 // ---- the whole
@@ -453,6 +474,11 @@ fn front_fine(front: &[u8; 48], form: u8, problem: u8) -> bool
     }
     if !entity_fine(form, front[43]) {
         return false;
+    }
+    // No modes and no user.
+    let all: &[u8] = front;
+    if octets::zeros(&all[8..42]) {
+        return !names(form);
     }
     if !modes_fine(front, form) {
         return false;

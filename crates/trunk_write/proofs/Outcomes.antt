@@ -1,7 +1,8 @@
 -- What writing answers and leaves, by how many octets the frame holds.
 use Rattle.prelude.proofs.Prelude.{ℕ, _+_, _≤_, _<_, arith, _≡_, ap, sym, _∙_, Bool, true, not, List, _++_, length, ltb, ltb-true, ltb-false}
 use Rattle.prelude.proofs.Prelude.{not-true}
-use Rattle.coding.{specs.Codec.frames, specs.Written.Wrote, specs.Written.Room, specs.Written.lead, proofs.Basic.picked, proofs.Basic.unpicked, proofs.Holds.tested, proofs.Writing.lead-length}
+use Rattle.coding.{specs.Codec.frames, specs.Written.Wrote, specs.Written.Room, specs.Written.lead, proofs.Basic.picked, proofs.Basic.unpicked, proofs.Writing.lead-length}
+use Rattle.prelude.proofs.Ways.{by-cases}
 use Rattle.coding.proofs.Writing.{lead-length-short, lead-length-long, Split, split-length, room-first, room-rest, wrote-parts}
 use Rattle.trunks.specs.{declared.Trunk.Trunk, Components.trunkComponent}
 use Rattle.write.{specs.declared.Written.Written, specs.Outcome.done, specs.Outcome.no}
@@ -45,7 +46,7 @@ module _ {spare : Bool} {t : Trunk} {m : ℕ} (c : Sized spare t m) where
 
   pub too-long : (before : List ℕ) {w : Written} → 251 < m → w ≡ no 11 → Answers spare t before w before
   too-long before h e =
-      rw e (as-family t before (c .clear) (Family.refused-11 trunkComponent t before (c .fine) (tested (ltb m 256)
+      rw e (as-family t before (c .clear) (Family.refused-11 trunkComponent t before (c .fine) (by-cases (ltb m 256)
       (λ q. omega (arith, whole, lead-length-long (tag t) m (omega arith) (ltb-true m 256 q))) (λ q. omega (arith, whole, lead-length (tag t) m, ltb-false m 256 q)))))
 
 -- and k in all
@@ -58,7 +59,7 @@ module _ {spare : Bool} {t : Trunk} {m k : ℕ} (c : Whole spare t m k) where
   whole-is : (length (trunkComponent .write t) ≡ k) × (k ≤ 254)
   whole-is = (
     omega (arith, whole (c .sized), c .is (tag t)),
-    tested (ltb m 128) (λ q. omega (arith, c .most, c .is (tag t), lead-length-short (tag t) m (ltb-true m 128 q)))
+    by-cases (ltb m 128) (λ q. omega (arith, c .most, c .is (tag t), lead-length-short (tag t) m (ltb-true m 128 q)))
         (λ q. omega (arith, c .most, c .is (tag t), lead-length-long (tag t) m (ltb-false m 128 q) (omega (arith, c .most)))),
   )
 

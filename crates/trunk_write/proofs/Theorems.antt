@@ -1,6 +1,7 @@
 -- What the writer's answer and what it leaves say of reading a component of a trunk.
 use Rattle.prelude.proofs.Prelude.{ℕ, _+_, _≤_, _≡_, refl, ap, sym, _∙_, Bool, true, List, length, getD, getD-drop, take, drop, replicate, arith, eq-eqb}
-use Rattle.coding.{proofs.Laws.Octets, proofs.Whole.Encodes, proofs.Basic.and-both, proofs.Holds.tested}
+use Rattle.coding.proofs.{Laws.Octets, Whole.Encodes, Basic.and-both}
+use Rattle.prelude.proofs.Ways.{by-cases}
 use Rattle.trunks.specs.{declared.Trunk.Trunk, Components.trunkComponent, Components.readTrunk, Components.trunkAccepted}
 use Rattle.trunks.proofs.Theorems as Trunks
 use Rattle.write.specs.Outcome.{done}
@@ -22,7 +23,7 @@ module _ (spare : Bool) (t : Trunk) (before : List ℕ) where
       → (trunkWriteOf spare t (length before) .count ≡ size) × (size ≤ 254) × (readTrunk (take size (trunkLeftOf spare t before)) ≡ trunkAccepted t)
   unfolding trunkWriteOf trunkLeftOf
   written-reads e =
-      tested spare (λ s. rw s (Family.written-reads trunkComponent t before readTrunk trunkAccepted (Trunks.reads-back t) (rw s at e))) (λ s. absurd (omega (arith, rw s at e)))
+      by-cases spare (λ s. rw s (Family.written-reads trunkComponent t before readTrunk trunkAccepted (Trunks.reads-back t) (rw s at e))) (λ s. absurd (omega (arith, rw s at e)))
 
   -- no octets that mean the component are fewer, and those that are as many are those written
   pub written-shortest : (s : List ℕ) → Octets s → length s ≤ 254 → Encodes trunkComponent t s → (size ≤ length s) × (length s ≡ size → s ≡ trunkComponent .write t)
@@ -31,7 +32,7 @@ module _ (spare : Bool) (t : Trunk) (before : List ℕ) where
   -- a refusal is 10, 11 or 12 and leaves the buffer as it was
   pub refused-untouched : (trunkWriteOf spare t (length before) .number ≡ 0 → ⊥) → trunkLeftOf spare t before ≡ before
   unfolding trunkWriteOf trunkLeftOf
-  refused-untouched h = tested spare (λ s. rw s (Family.refused-untouched trunkComponent t before (rw s at h))) (λ s. rw s)
+  refused-untouched h = by-cases spare (λ s. rw s (Family.refused-untouched trunkComponent t before (rw s at h))) (λ s. rw s)
 
 -- a component that was read is never refused 10 or 11, and its written form is not longer than what was read
 pub read-writes : (s : List ℕ) (t : Trunk) (room : ℕ) → Octets s → readTrunk s ≡ trunkAccepted t → length s ≤ room

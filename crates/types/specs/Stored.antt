@@ -42,6 +42,10 @@ figureIn s = record {
 
 -- ---- the record
 
+-- a charge whose list lies in two arrays
+abbrev pub withList : Figure → List ℕ → List ℕ → Charge
+withList f numbers rows = record { figure = f; entries = record { numbers = numbers; octets = rows } }
+
 abbrev pub storedCharge : List ℕ → List ℕ → List ℕ → Charge
 storedCharge figure numbers rows = record { figure = figureIn figure; entries = record { numbers = numbers; octets = rows } }
 

@@ -4,7 +4,8 @@ use Rattle.phases.specs.{declared.Event.Event, Phases.Given, Phases.event}
 use Rattle.account.{specs.History.judged, proofs.Demand.step-stands}
 use Rattle.events.specs.Events.{rowAt, countAt, eventsFrom, eventsOf, Going}
 use Rattle.events.proofs.Laws.{from-start, nothing-left, next-event}
-use Rattle.why.specs.{declared.State.State, Reasons.explained, Reasons.reasonOf, Seeing.concluded, Seeing.start, Seeing.turnOf, Seeing.runFrom, Seeing.stateBy}
+use Rattle.reasons.specs.{Reasons.explained, Reasons.reasonOf, Seeing.concluded}
+use Rattle.why.specs.{declared.State.State, Seeing.start, Seeing.turnOf, Seeing.runFrom, Seeing.stateBy}
 
 -- a state that stands for a history goes on to one that stands for the history with the event
 turn-stands : (h : List Given) (g : Given) → turnOf (stateBy (judged h)) (g .event) (g .octets) (length (judged h) + 1) ≡ stateBy (judged (g ∷ h))

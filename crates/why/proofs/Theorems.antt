@@ -1,11 +1,12 @@
 -- The reason given holds with its event, no reason earlier in the order holds with any event, and it holds with no earlier event.
 use Rattle.prelude.proofs.Prelude.{ℕ, _+_, _≤_, _<_, _≡_, refl, Bool, true, false, cond, List, [], _∷_, reverse, arith, length, eqb, lit<, eqb-false, ne-eqb}
-use Rattle.phases.{proofs.Choice.by-test, proofs.Choice.by-number, specs.Phases.Ended, specs.Phases.D, specs.Phases.E, specs.Phases.Given}
+use Rattle.prelude.proofs.Ways.{by-cases}
+use Rattle.phases.{proofs.Choice.by-number, specs.Phases.Ended, specs.Phases.D, specs.Phases.E, specs.Phases.Given}
 use Rattle.outcomes.specs.Outcome.{was, its}
 use Rattle.account.specs.History.{Judged, judged, phase}
 use Rattle.events.proofs.Earliest.{Passes, found, none-found, first}
-use Rattle.why.specs.declared.Reason.{Reason}
-use Rattle.why.specs.Reasons.{passedOver, toldAbsent, unread, because, ifFound, explained, reasonOf}
+use Rattle.reasons.specs.declared.Reason.{Reason}
+use Rattle.reasons.specs.Reasons.{passedOver, toldAbsent, unread, because, ifFound, explained, reasonOf}
 
 -- a reason holds with an event (0: with none)
 pub data Holds (h : List Judged) : ℕ → ℕ → Type 0 where
@@ -56,7 +57,7 @@ still-open m n true rest h l = l
 still-open m n false rest h l = record { reason = omega arith; event = λ z. omega arith }
 
 skip : (k m n e : ℕ) (rest : Reason) → k < m → Least m n rest → Least m n (ifFound k e rest)
-skip k m n e rest h l = by-test (eqb e 0) (λ q. rw q l) (λ q. rw q (record { reason = omega arith; event = λ z. omega arith }))
+skip k m n e rest h l = by-cases (eqb e 0) (λ q. rw q l) (λ q. rw q (record { reason = omega arith; event = λ z. omega arith }))
 
 hit : (m n e : ℕ) (rest : Reason) → (e ≡ 0 → ⊥) × (e ≤ n) → Least m n (ifFound m e rest)
 hit m n e rest p = rw (ne-eqb e 0 (p .0)) (record { reason = omega arith; event = λ _. p .1 })

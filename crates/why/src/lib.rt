@@ -4,33 +4,15 @@
 use account::Account;
 use phases::Event;
 use phases::Outcome;
+use reasons::Reason;
+use reasons::Seen;
 ghost use mathlib.Core.Path.{_≡_};
 ghost use mathlib.Core.Bool.{true};
 ghost use lib.ListN.{length};
 ghost use Rattle.types.specs.Frames.{readOf};
-ghost use Rattle.outcomes.specs.Outcome.{its};
 ghost use Rattle.events.specs.Events.{addsUp, eventsOf};
-ghost use Rattle.why.specs.Reasons.{isFigure, passedOver, toldAbsent, unread, because, ifFound, reasonOf, whyOf};
-ghost use Rattle.why.specs.Seeing.{concluded, seenNext, turnOf};
-
-// number: 48 for slices that are no event list, and then the rest is 0. reason: 1 to 7. event: its number, from 1; 0 for none.
-#[repr(C)]
-pub struct Reason {
-    pub number: u32,
-    pub reason: u32,
-    pub event: u64,
-}
-
-// The earliest event of each sort, by its number; 0 for none yet.
-#[repr(C)]
-struct Seen {
-    pub efinal: u64,
-    pub dfinal: u64,
-    pub figure: u64,
-    pub absent: u64,
-    pub running: u64,
-    pub refused: u64,
-}
+ghost use Rattle.reasons.specs.Reasons.{isFigure, passedOver, reasonOf, whyOf};
+ghost use Rattle.why.specs.Seeing.{turnOf};
 
 #[repr(C)]
 struct State {
@@ -38,7 +20,7 @@ struct State {
     pub seen: Seen,
 }
 
-// ---- which events count
+// ---- which components count
 
 fn is_figure(octets: &[u8]) -> bool
     ensures { λ r. ⌜ r ≡ isFigure (readOf (now (octets .entry)) .value) ⌝ }
@@ -65,53 +47,7 @@ fn passed_over(o: Outcome, octets: &[u8]) -> bool
     false
 }
 
-fn is_its(o: Outcome, service: u8, number: u8) -> bool
-    ensures { λ r. ⌜ r ≡ its service number o ⌝ }
-{
-    if o.number != number {
-        return false;
-    }
-    o.service == service
-}
-
-fn told_absent(o: Outcome) -> bool
-    ensures { λ r. ⌜ r ≡ toldAbsent o ⌝ }
-{
-    if is_its(o, 2, 23) {
-        return true;
-    }
-    is_its(o, 3, 23)
-}
-
-fn is_unread(o: Outcome) -> bool
-    ensures { λ r. ⌜ r ≡ unread o ⌝ }
-{
-    if events::within(1, o.number, 9) {
-        return true;
-    }
-    events::within(40, o.number, 45)
-}
-
 // ---- one event
-
-fn seen_next(s: Seen, o: Outcome, octets: &[u8], n: u64) -> Seen
-    ensures { λ r. ⌜ r ≡ seenNext s o (now (octets .entry)) n ⌝ }
-{
-    let efinal = events::or_else(s.efinal, is_its(o, 3, 22), n);
-    let dfinal = events::or_else(s.dfinal, is_its(o, 2, 22), n);
-    let figure = events::or_else(s.figure, passed_over(o, octets), n);
-    let absent = events::or_else(s.absent, told_absent(o), n);
-    let running = events::or_else(s.running, o.number == 21, n);
-    let refused = events::or_else(s.refused, is_unread(o), n);
-    Seen {
-        efinal,
-        dfinal,
-        figure,
-        absent,
-        running,
-        refused,
-    }
-}
 
 fn turn(t: State, e: Event, octets: &[u8], n: u64) -> State
     ensures { λ r. ⌜ r ≡ turnOf t e (now (octets .entry)) n ⌝ }
@@ -121,45 +57,12 @@ fn turn(t: State, e: Event, octets: &[u8], n: u64) -> State
     let outcome = w.outcome;
     let account = w.account;
     let s = t.seen;
-    let seen = seen_next(s, outcome, octets, n);
+    let figure = passed_over(outcome, octets);
+    let seen = reasons::seen_next(s, outcome, figure, n);
     State { account, seen }
 }
 
 // ---- the list
-
-fn because(reason: u32, event: u64) -> Reason
-    ensures { λ r. ⌜ r ≡ because reason event ⌝ }
-{
-    Reason {
-        number: 0,
-        reason,
-        event,
-    }
-}
-
-fn if_found(reason: u32, event: u64, rest: Reason) -> Reason
-    ensures { λ r. ⌜ r ≡ ifFound reason event rest ⌝ }
-{
-    if event == 0 {
-        return rest;
-    }
-    because(reason, event)
-}
-
-fn concluded(phase: u8, s: Seen) -> Reason
-    ensures { λ r. ⌜ r ≡ concluded phase s ⌝ }
-{
-    if phase != 4 {
-        return because(1, 0);
-    }
-    let nothing = because(7, 0);
-    let refused = if_found(6, s.refused, nothing);
-    let running = if_found(5, s.running, refused);
-    let absent = if_found(4, s.absent, running);
-    let figure = if_found(3, s.figure, absent);
-    let dfinal = if_found(2, s.dfinal, figure);
-    if_found(2, s.efinal, dfinal)
-}
 
 fn explained(rows: &[u16], octets: &[u8]) -> Reason
     requires { ⌜ addsUp (now rows) (length (now octets)) ≡ true ⌝ }
@@ -187,7 +90,7 @@ fn explained(rows: &[u16], octets: &[u8]) -> Reason
         at = end;
     }
     let last = state.seen;
-    concluded(state.account.status.phase, last)
+    reasons::concluded(state.account.status.phase, last)
 }
 
 // One reason, from an event list in slices.

@@ -1,6 +1,7 @@
 -- What writing answers and leaves, of a value of any family of frames.
 use Rattle.prelude.proofs.Prelude.{ℕ, _≤_, _<_, arith, zero-add, _≡_, refl, ap, _∙_, true, false, List, _++_, length, take, drop, take-append-seam, sets-eq, leb, leb-true, le-leb, lt-leb}
-use Rattle.coding.{specs.Codec.Run, specs.Written.Wrote, proofs.Holds.tested}
+use Rattle.coding.specs.{Codec.Run, Written.Wrote}
+use Rattle.prelude.proofs.Ways.{by-cases}
 use Rattle.write.specs.{declared.Written.Written, Outcome.done, Outcome.no, Outcome.writeFamily, Outcome.leftFamily}
 
 module _ {A : Type 0} (family : Run A) (x : A) (before : List ℕ) where
@@ -32,7 +33,7 @@ module _ {A : Type 0} (family : Run A) (x : A) (before : List ℕ) where
       → writeFamily family x (length before) .number ≡ 0
       → (writeFamily family x (length before) .count ≡ size) × (size ≤ 254) × (read (take size (leftFamily family x before)) ≡ accepted x)
   written-reads read accepted back e =
-      tested (family .valid x) (λ p. tested (leb size 254) (λ q. tested (leb size (length before))
+      by-cases (family .valid x) (λ p. by-cases (leb size 254) (λ q. by-cases (leb size (length before))
       (λ f. let l = leb-true size 254 q in
       rw (p, q, f) (refl, l, ap read (take-append-seam (family .write x) (drop size before)) ∙ back p l))
       (λ f. absurd (omega (arith, rw (p, q, f) at e)))) (λ q. absurd (omega (arith, rw (p, q) at e)))) (λ p. absurd (omega (arith, rw p at e)))
@@ -40,7 +41,7 @@ module _ {A : Type 0} (family : Run A) (x : A) (before : List ℕ) where
   -- a refusal leaves the buffer as it was
   pub refused-untouched : (writeFamily family x (length before) .number ≡ 0 → ⊥) → leftFamily family x before ≡ before
   refused-untouched h =
-      tested (family .valid x) (λ p. tested (leb size 254) (λ q. tested (leb size (length before))
+      by-cases (family .valid x) (λ p. by-cases (leb size 254) (λ q. by-cases (leb size (length before))
       (λ f. absurd ((rw (p, q, f) at h) refl)) (λ f. rw (p, q, f))) (λ q. rw (p, q))) (λ p. rw p)
 
 -- a value that may be written and whose written form is not longer than at most 254 octets for which there is room is never refused

@@ -3,7 +3,8 @@ use Rattle.prelude.proofs.Prelude.{ℕ, zero, suc, _+_, arith, _≡_, ap, ap₂
 use Rattle.prelude.proofs.Prelude.{length-append, eqb}
 use Rattle.coding.{specs.Codec.prim, specs.Codec.cons, specs.Codec.alt, specs.Codec.canonical, specs.Codec.over, specs.Codec.sort, specs.Codec.frames, specs.Codec.leads, specs.Codec.barring}
 use Rattle.coding.{specs.Codec.marked, specs.Codec.lengthOctets, specs.Leaves.number, specs.Leaves.identifier, specs.Leaves.listed, specs.Written.Wrote, specs.Written.Room}
-use Rattle.coding.{specs.Written.lead, specs.Written.fullNumber, proofs.Basic.picked, proofs.Basic.unpicked, proofs.Small.small-length, proofs.Small.null-write, proofs.Holds.tested}
+use Rattle.coding.{specs.Written.lead, specs.Written.fullNumber, proofs.Basic.picked, proofs.Basic.unpicked, proofs.Small.small-length, proofs.Small.null-write}
+use Rattle.prelude.proofs.Ways.{by-cases}
 use Rattle.coding.{proofs.Writing.number-write, proofs.Writing.wrote-as, proofs.Writing.Split, proofs.Writing.room-first, proofs.Writing.room-rest, proofs.Writing.room-as}
 use Rattle.coding.{proofs.Writing.wrote-parts}
 use Rattle.types.specs.{declared.Front.Front, declared.Record.Record, declared.Charge.Charge, Arguments.chargeOf, Frames.operations, Frames.errors, Frames.component, Frames.frame}
@@ -11,7 +12,7 @@ use Rattle.types.specs.{Frames.invoke, Frames.returnResult, Frames.returnError,
 use Rattle.types.specs.{Frames.problem, Frames.problems, Frames.frontBy}
 use Rattle.write_heads.specs.Fronts.{charged, frontFine, frontOctets}
 use Rattle.write_heads.proofs.Sizes.{small-operation, reject-problem, problem-tag}
-use Rattle.write.specs.Parts.{frontOf, recordOf, chargeOctets, bodyOf}
+use Rattle.write.specs.Halves.{frontOf, recordOf, chargeOctets, bodyOf}
 
 -- an operation or error value
 value-write : (unknown : ℕ) (known : List ℕ) (n : ℕ) → (value unknown known) .write n ≡ fullNumber 0x02 n
@@ -30,7 +31,7 @@ module _ (u i o e p d : ℕ) (c : Charge) where
   body-1 : Law 1
   unfolding frame invoke leads argument request carrying canonical over marked frontOctets
   body-1 v =
-      tested (eqb o 30) (λ q. rw (q, value-write 7 operations o, number-write 0x0a 0 2 d, append-nil))
+      by-cases (eqb o 30) (λ q. rw (q, value-write 7 operations o, number-write 0x0a 0 2 d, append-nil))
       (λ q. rw (q, value-write 7 operations o, append-nil) (sym (append-assoc wid (fullNumber 0x02 o) ((chargeOf o) .write c))))
 
   body-2 : Law 2
@@ -48,7 +49,7 @@ module _ (u i o e p d : ℕ) (c : Charge) where
 
   call : caller .write (cond (eqb u 1) (inl tt) (inr i)) ≡ cond (eqb u 1) (lead 0x05 0) wid
   unfolding caller alt
-  call = tested (eqb u 1) (λ q. rw (q, null-write 0x05 tt)) (λ q. rw q)
+  call = by-cases (eqb u 1) (λ q. rw (q, null-write 0x05 tt)) (λ q. rw q)
 
   tagged : (p ≡ 0x80) ⊎ ((p ≡ 0x81) ⊎ ((p ≡ 0x82) ⊎ (p ≡ 0x83)))
       → (problems (cond (eqb u 1) (inl tt) (inr i))) .write (recordOf (frontBy 4 u i o e p d) c) ≡ fullNumber p d

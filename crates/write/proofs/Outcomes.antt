@@ -1,12 +1,13 @@
 -- What writing answers and leaves, by how many octets there are.
 use Rattle.prelude.proofs.Prelude.{ℕ, _+_, _≤_, _<_, arith, _≡_, refl, ap, sym, Bool, true, not, _∙_, List, _++_, length, length-append, ltb}
 use Rattle.prelude.proofs.Prelude.{ltb-true, ltb-false}
-use Rattle.coding.{specs.Written.Wrote, specs.Written.Room, specs.Written.lead, proofs.Basic.and-left, proofs.Holds.tested, proofs.Writing.lead-length, proofs.Writing.lead-length-short}
+use Rattle.coding.{specs.Written.Wrote, specs.Written.Room, specs.Written.lead, proofs.Basic.and-left, proofs.Writing.lead-length, proofs.Writing.lead-length-short}
+use Rattle.prelude.proofs.Ways.{by-cases}
 use Rattle.coding.{proofs.Writing.lead-length-long, proofs.Writing.Split, proofs.Writing.room-first, proofs.Writing.room-rest, proofs.Writing.wrote-parts, proofs.Writing.split-length}
 use Rattle.types.specs.{declared.Record.Record, Frames.component}
 use Rattle.write_heads.{specs.Fronts.frontFine, specs.Fronts.frontOctets, proofs.Sizes.front-least}
-use Rattle.write_rates.proofs.Prices.{was-false}
-use Rattle.write.specs.{declared.Written.Written, Outcome.done, Outcome.no, Outcome.writeOf, Outcome.leftOf, Parts.fineOf, Parts.chargeOctets, Parts.bodyOf}
+use Rattle.write_prices.proofs.Prices.{was-false}
+use Rattle.write.specs.{declared.Written.Written, Outcome.done, Outcome.no, Outcome.writeOf, Outcome.leftOf, Halves.fineOf, Halves.chargeOctets, Halves.bodyOf}
 use Rattle.write.proofs.{Valid.valid-parts, Octets.write-parts}
 use Rattle.write.proofs.Family as Family
 
@@ -78,7 +79,7 @@ module _ {r : Record} {n m : ℕ} (c : Sized r n m) where
 
   pub long-body : (before : List ℕ) {w : Written} → 251 < m + n → w ≡ no 11 → Answers r before w before
   long-body before h e =
-      rw e (refused-11 r before (valid (c .known)) (tested (ltb (m + n) 256)
+      rw e (refused-11 r before (valid (c .known)) (by-cases (ltb (m + n) 256)
       (λ q. omega (arith, whole, lead-length-long (tag r) (m + n) (omega arith) (ltb-true (m + n) 256 q)))
       (λ q. omega (arith, whole, lead-length (tag r) (m + n), ltb-false (m + n) 256 q))))
 
@@ -92,7 +93,7 @@ module _ {r : Record} {n m k : ℕ} (c : Whole r n m k) where
   pub whole-is : (length (component .write r) ≡ k) × (k ≤ 254)
   whole-is = (
     omega (arith, whole (c .sized), c .is (tag r)),
-    tested (ltb (m + n) 128) (λ q. omega (arith, c .most, c .is (tag r), lead-length-short (tag r) (m + n) (ltb-true (m + n) 128 q)))
+    by-cases (ltb (m + n) 128) (λ q. omega (arith, c .most, c .is (tag r), lead-length-short (tag r) (m + n) (ltb-true (m + n) 128 q)))
         (λ q. omega (arith, c .most, c .is (tag r), lead-length-long (tag r) (m + n) (ltb-false (m + n) 128 q) (omega (arith, c .most)))),
   )
 

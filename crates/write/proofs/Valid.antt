@@ -1,14 +1,15 @@
 -- A record may be written exactly where its front may be and its charge fits it.
 use Rattle.prelude.proofs.Prelude.{ℕ, zero, suc, _+_, _<_, arith, _≡_, refl, Bool, true, false, _&&_, List, [], _∷_, leb, eqb, leb·zero, lt-ltb, eqb-true, ne-eqb}
 use Rattle.coding.{specs.Codec.oneOf, specs.Codec.prim, specs.Codec.cons, specs.Codec.alt, specs.Codec.canonical, specs.Codec.over, specs.Codec.sort, specs.Codec.frames, specs.Codec.leads}
-use Rattle.coding.{specs.Codec.barring, specs.Codec.marked, specs.Leaves.number, specs.Leaves.nullLeaf, specs.Leaves.identifier, specs.Leaves.listed, proofs.Holds.tested, proofs.Tests.ands}
+use Rattle.coding.{specs.Codec.barring, specs.Codec.marked, specs.Leaves.number, specs.Leaves.nullLeaf, specs.Leaves.identifier, specs.Leaves.listed, proofs.Tests.ands}
+use Rattle.prelude.proofs.Ways.{by-cases}
 use Rattle.coding.{proofs.Tests.eqb-self}
 use Rattle.types.{specs.declared.Record.Record, specs.declared.Charge.Charge, specs.Arguments.noCharge, specs.Arguments.sameCharge, specs.Arguments.chargeOf, specs.Frames.operations}
 use Rattle.types.{specs.Frames.errors, specs.Frames.component, specs.Frames.frame, specs.Frames.invoke, specs.Frames.returnResult, specs.Frames.returnError, specs.Frames.reject}
 use Rattle.types.{specs.Frames.value, specs.Frames.argument, specs.Frames.request, specs.Frames.carrying, specs.Frames.failed, specs.Frames.caller, specs.Frames.problem}
 use Rattle.types.{specs.Frames.problems, specs.Frames.frontBy, specs.Frames.sameFront, proofs.ArgumentLaws.chargeEqual}
 use Rattle.write_heads.specs.Fronts.{frontFine}
-use Rattle.write.specs.Parts.{frontOf, recordOf, fineOf}
+use Rattle.write.specs.Halves.{frontOf, recordOf, fineOf}
 
 abbrev tags : List ℕ
 tags = 0xa1 ∷ 0xa2 ∷ 0xa3 ∷ 0xa4 ∷ []
@@ -37,7 +38,7 @@ module _ (u i o e p d : ℕ) (c : Charge) (l : i < 0x10000) where
   valid-1 : Law 1
   unfolding component frames frame invoke leads value barring prim listed identifier argument request carrying canonical over marked number frontFine
   valid-1 =
-      tested (eqb o 30)
+      by-cases (eqb o 30)
       (λ q. rw (tag .0, lt-ltb _ _ l, q, leb·zero d)
       (last-asked (oneOf operations o) (sameFront (frontBy 1 0 i 30 0 0 d) (frontBy 1 u i o e p d)) (sameCharge noCharge c) (leb d 2)))
       (λ q. rw (tag .0, lt-ltb _ _ l, q)

@@ -1,3 +1,3 @@
 pub mod Outcome
-pub mod Parts
+pub mod Halves
 pub mod Handed

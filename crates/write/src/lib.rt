@@ -9,9 +9,9 @@ ghost use lib.Dec.{eqb};
 ghost use Rattle.coding.specs.Written.{Wrote, Room};
 ghost use Rattle.write_heads.specs.Fronts.{frontFine, charged};
 ghost use Rattle.write.specs.Outcome.{no, writeOf, leftOf};
-ghost use Rattle.write_tests.specs.Fine.{withList};
+ghost use Rattle.types.specs.Stored.{withList};
 ghost use Rattle.write.specs.Handed.{handed};
-ghost use Rattle.write.specs.Parts.{recordOf, fineOf, chargeOctets, bodyOf};
+ghost use Rattle.write.specs.Halves.{recordOf, fineOf, chargeOctets, bodyOf};
 
 // What writing answers: 0 and the octets written, or the refusal's number and 0.
 #[repr(C)]

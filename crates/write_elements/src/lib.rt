@@ -56,19 +56,6 @@ pub fn put_number(buf: &mut [u8], at: usize, tag: u8, n: u32) -> usize
     put_digits(buf, p, w, n)
 }
 
-// The first n octets of a string.
-pub fn put_octets(buf: &mut [u8], at: usize, s: &[u8], n: usize) -> usize
-    requires { ⌜ (n ≤ length (now s)) × Room (now buf) at (take n (now s)) ⌝ }
-    ensures { λ r. ⌜ Wrote (now (buf .entry)) (now (buf .exit)) at (take n (now (s .entry))) r ⌝ }
-{
-    let mut i = 0;
-    while i < n {
-        buf[at + i] = s[i];
-        i += 1;
-    }
-    at + n
-}
-
 // A NULL element's octets.
 pub fn put_null(buf: &mut [u8], at: usize, tag: u8) -> usize
     requires { ⌜ Room (now buf) at (lead tag 0) ⌝ }
@@ -135,7 +122,7 @@ pub fn put_string(buf: &mut [u8], at: usize, tag: u8, s: &[u8], n: usize) -> usi
     ensures { λ r. ⌜ Wrote (now (buf .entry)) (now (buf .exit)) at (tag ∷ lengthOctets n ++ take n (now (s .entry))) r ⌝ }
 {
     let p = put_lead(buf, at, tag, n);
-    put_octets(buf, p, s, n)
+    octets::put_octets(buf, p, s, n)
 }
 
 // The size of an element whose contents have n octets.

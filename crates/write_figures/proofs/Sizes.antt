@@ -6,7 +6,8 @@ use Rattle.coding.{specs.Codec.lengthOctets, specs.Codec.padded, specs.Leaves.n
 use Rattle.coding.{specs.Written.Wrote, specs.Written.Room, specs.Written.lead, specs.Written.fullNumber, proofs.Basic.and-left, proofs.Basic.and-right, proofs.Basic.and-both, proofs.Basic.unpicked}
 use Rattle.coding.{proofs.Writing.number-write, proofs.Writing.number-length, proofs.Writing.cons-write, proofs.Writing.lead-length-short, proofs.Writing.width-range}
 use Rattle.coding.{proofs.Writing.wrote-as, proofs.Writing.wrote-both, proofs.Writing.wrote-next, proofs.Writing.wrote-none, proofs.Writing.room-as, proofs.Writing.room-head}
-use Rattle.coding.{proofs.Writing.room-tail, proofs.Holds.tested, proofs.Small.small-length, proofs.Small.string-write, proofs.Small.string-length, proofs.Small.id-length}
+use Rattle.coding.proofs.{Writing.room-tail, Small.small-length, Small.string-write, Small.string-length, Small.id-length}
+use Rattle.prelude.proofs.Ways.{by-cases}
 use Rattle.types.specs.{declared.Money.Money, declared.Currency.Currency, declared.Association.Association, declared.Scaled.Scaled, Charges.zeroOctet, Charges.scaled, Charges.currencyLeaf}
 use Rattle.types.specs.{Charges.currency, Charges.money, Charges.isDigit, Charges.isPlan, Charges.digitsLeaf, Charges.digitsOf}
 use Rattle.types.specs.{Charges.identified, Charges.planned, Charges.partyNumber, Charges.plainParty, Charges.party, Charges.unassociated, Charges.association}
@@ -21,13 +22,13 @@ by-test true f g h = f refl h
 by-test false f g h = g refl h
 
 by-number : {P : Type 0} (k n : ℕ) → (k ≡ n → P) → ((k ≡ n → ⊥) → P) → P
-by-number k n f g = tested (eqb k n) (λ e. f (eqb-true k n e)) (λ e. g (eqb-false k n e))
+by-number k n f g = by-cases (eqb k n) (λ e. f (eqb-true k n e)) (λ e. g (eqb-false k n e))
 
 pub by-kind : {P : Type 0} (k : ℕ) → (k ≡ 0 → P) → (k ≡ 1 → P) → ((k ≡ 0 → ⊥) → (k ≡ 1 → ⊥) → P) → P
 by-kind k f g h = by-number k 0 f (λ a. by-number k 1 g (h a))
 
 pub by-time : {P : Type 0} (o : ℕ) → (o < 35 → P) → (35 ≤ o → P) → P
-by-time o f g = tested (ltb o 35) (λ e. f (ltb-true o 35 e)) (λ e. g (ltb-false o 35 e))
+by-time o f g = by-cases (ltb o 35) (λ e. f (ltb-true o 35 e)) (λ e. g (ltb-false o 35 e))
 
 -- ---- octets under another name, and in parts: what is written part by part is written whole, and each part has room where all have
 
@@ -63,7 +64,7 @@ lead-two tag n h = ap (λ (xs : List ℕ). suc (length xs)) (unpicked _ _ (le-lt
 
 pub lead-few : (tag n : ℕ) → (2 ≤ length (lead tag n)) × (length (lead tag n) ≤ 4)
 unfolding lead lengthOctets
-lead-few tag n = tested (ltb n 128) (λ q. rw q (omega arith)) (λ q. tested (ltb n 256) (λ r. rw (q, r) (omega arith)) (λ r. rw (q, r) (omega arith)))
+lead-few tag n = by-cases (ltb n 128) (λ q. rw q (omega arith)) (λ q. by-cases (ltb n 256) (λ r. rw (q, r) (omega arith)) (λ r. rw (q, r) (omega arith)))
 
 -- ---- amounts and times
 
@@ -201,7 +202,7 @@ told e h = sym e ∙ h
 module _ (a : Association) (v : (partyNumber true) .valid a ≡ true) where
   number-holds : (a .count ≤ 20) × (a .count ≤ length (a .digits)) × (a .plan ≤ 6)
   number-holds =
-      tested (isPlanned true (a .kind))
+      by-cases (isPlanned true (a .kind))
       (λ e. holding (eqb (a .kind) (a .kind) && (eqb 0 (a .id) && (leb (a .plan) 6 && isPlan (a .plan)))) (λ q. let g = simp truth at q in omega (arith, g))
       (sym (planned-is 0xa1 (a .kind) a) ∙ sym (number-planned true a e) ∙ v))
       (λ e. holding (eqb 2 (a .kind) && (eqb 0 (a .id) && eqb 0 (a .plan))) (λ q. let g = simp truth at q in omega (arith, g)) (sym (plain-is a) ∙ sym (number-plain true a e) ∙ v))
@@ -239,7 +240,7 @@ module _ (a : Association) (v : (partyNumber true) .valid a ≡ true) where
     -- written as its tag alone would be
     planned-write : (partyNumber true) .write a ≡ (planned (planTag (a .kind)) 3) .write a
     unfolding partyNumber sort planned cons canonical over
-    planned-write = tested (eqb (a .kind) 3) (λ h. rw (h, eqb-true (a .kind) 3 h)) (λ h. let w : eqb (a .kind) 4 ≡ true = rw h at e in rw (h, w))
+    planned-write = by-cases (eqb (a .kind) 3) (λ h. rw (h, eqb-true (a .kind) 3 h)) (λ h. let w : eqb (a .kind) 4 ≡ true = rw h at e in rw (h, w))
 
     module _ {tag : ℕ} (t : tag ≡ planTag (a .kind)) where
       pub planned-octets : (partyNumber true) .write a ≡ lead tag (5 + a .count) ++ planOctets
@@ -276,7 +277,7 @@ module _ (a : Association) (v : (partyNumber true) .valid a ≡ true) where
     pub plain-octets : (partyNumber true) .write a ≡ digitsElement 0x80 a
     unfolding partyNumber sort plainParty canonical over
     plain-octets =
-        tested (eqb (a .kind) 3) (λ h. absurd (true≢false (sym (ap (λ (b : Bool). b || eqb (a .kind) 4) h) ∙ e)))
+        by-cases (eqb (a .kind) 3) (λ h. absurd (true≢false (sym (ap (λ (b : Bool). b || eqb (a .kind) 4) h) ∙ e)))
         (λ h. let w : eqb (a .kind) 4 ≡ false = rw h at e in rw (h, w) (digits-write 0x80))
 
     pub plain-length : a .count + 2 ≡ length ((partyNumber true) .write a)
@@ -299,7 +300,7 @@ number-wider : (trunk : Bool) (a : Association) → (partyNumber trunk) .valid a
     → ((partyNumber true) .valid a ≡ true) × ((partyNumber trunk) .write a ≡ (partyNumber true) .write a)
 unfolding partyNumber sort
 number-wider true a v = (v, refl)
-number-wider false a v = tested (eqb (a .kind) 3) three plain
+number-wider false a v = by-cases (eqb (a .kind) 3) three plain
   where
     three : eqb (a .kind) 3 ≡ true → ((partyNumber true) .valid a ≡ true) × ((partyNumber false) .write a ≡ (partyNumber true) .write a)
     three e = (rw e (rw e at v), rw e)

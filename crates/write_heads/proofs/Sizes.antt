@@ -2,7 +2,8 @@
 use Rattle.prelude.proofs.Prelude.{ℕ, _+_, _≤_, _<_, arith, _≡_, refl, sym, _∙_, true, false, true≢false, cond, _⊎_, inl, inr, [], _∷_, length, length-append, ltb, eqb, leb-true, ltb-true}
 use Rattle.prelude.proofs.Prelude.{ltb-false, eqb-true, eq-eqb, ne-eqb, lt-ltb, le-ltb}
 use Rattle.coding.{specs.Leaves.identifier, specs.Leaves.width, proofs.Number.width-1, proofs.Small.id-length, proofs.Small.id-range, proofs.Small.null-length, proofs.Holds.holds}
-use Rattle.coding.{proofs.Holds.cond-iff, proofs.Holds.and-iff, proofs.Holds.cases, proofs.Holds.tested, proofs.Writing.number-length, proofs.Writing.width-range}
+use Rattle.coding.proofs.{Holds.cond-iff, Holds.and-iff, Holds.cases, Writing.number-length, Writing.width-range}
+use Rattle.prelude.proofs.Ways.{by-cases}
 use Rattle.coding.{proofs.Writing.lead-length-short, proofs.Writing.lead-length-long}
 use Rattle.types.specs.{Frames.operations, Frames.errors, declared.Front.Front}
 use Rattle.read_heads.proofs.Codes.{has-below}
@@ -72,12 +73,12 @@ counted f n w e =
     let o = width-range (f .operation) in
     let x = width-range (f .error) in
     let d = width-range (f .detail) in
-    tested (eqb (f .frame) 1) (λ q. tested (eqb (f .operation) 30) (λ o. rw (q, o) (simp lengths (omega arith))) (λ o. rw (q, o) (simp lengths (omega arith)))) (λ q1.
-    tested (eqb (f .frame) 2) (λ q. tested (ltb (n + 3) 128)
+    by-cases (eqb (f .frame) 1) (λ q. by-cases (eqb (f .operation) 30) (λ o. rw (q, o) (simp lengths (omega arith))) (λ o. rw (q, o) (simp lengths (omega arith)))) (λ q1.
+    by-cases (eqb (f .frame) 2) (λ q. by-cases (ltb (n + 3) 128)
     (λ o. rw (q1, q, o) (simp (lengths, lead-length-short 0x30 (3 + n) (omega (arith, ltb-true))) (omega arith)))
     (λ o. rw (q1, q, o) (simp lengths (omega arith, λ a b c h. omega (arith, lead-length-long 0x30 (3 + n) (omega (arith, ltb-false)) (omega arith)))))) (λ q2.
-    tested (eqb (f .frame) 3) (λ q. rw (q1, q2, q) (simp lengths (omega arith))) (λ q3.
-    tested (eqb (f .unnamed) 1) (λ q. rw (q1, q2, q3, q) (simp lengths (omega arith))) (λ q. rw (q1, q2, q3, q) (simp lengths (omega arith))))))
+    by-cases (eqb (f .frame) 3) (λ q. rw (q1, q2, q) (simp lengths (omega arith))) (λ q3.
+    by-cases (eqb (f .unnamed) 1) (λ q. rw (q1, q2, q3, q) (simp lengths (omega arith))) (λ q. rw (q1, q2, q3, q) (simp lengths (omega arith))))))
 
 pub front-least : (f : Front) (n : ℕ) → 5 ≤ length (frontOctets f n)
 front-least f n = counted f n _ refl .0

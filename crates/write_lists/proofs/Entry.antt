@@ -3,9 +3,10 @@ use Rattle.prelude.proofs.Prelude.{ℕ, zero, suc, _+_, _<_, _≡_, sym, ap, _�
 use Rattle.prelude.proofs.Prelude.{le-leb, ne-eqb}
 use Rattle.coding.{specs.Codec.prim, specs.Codec.cons, specs.Codec.pair, specs.Codec.alt, specs.Codec.maybe, specs.Codec.over, specs.Codec.canonical, specs.Leaves.number}
 use Rattle.coding.{specs.Leaves.nullLeaf, specs.Written.Wrote, specs.Written.Room, specs.Written.lead, proofs.Basic.and-left, proofs.Writing.cons-write, proofs.Writing.number-write}
-use Rattle.coding.{proofs.Writing.lead-length-short, proofs.Holds.tested, proofs.Tests.and-true, proofs.Tests.and-false, proofs.Tests.eqb-self, proofs.Small.null-write}
+use Rattle.coding.proofs.{Writing.lead-length-short, Tests.and-true, Tests.and-false, Tests.eqb-self, Small.null-write}
+use Rattle.prelude.proofs.Ways.{by-cases}
 use Rattle.types.specs.{declared.Units.Units, Entries.unit}
-use Rattle.write_rates.proofs.{Prices.zero-first, Three.Three, Three.three-length, Three.room-1, Three.room-2, Three.room-3, Three.wrote-3}
+use Rattle.write_prices.proofs.{Prices.zero-first, Three.Three, Three.three-length, Three.room-1, Three.room-2, Three.room-3, Three.wrote-3}
 use Rattle.write_lists.specs.Octets.{numberOctets, typeOctets}
 
 -- ---- which may be written
@@ -43,8 +44,8 @@ module _ (u : Units) where
       let n = number-write 0x02 0 16777215 (u .number) in
       let t = number-write 0x02 1 16 (u .kind) in
       cons-write 0x30 _ u
-      ∙ tested (eqb (u .known) 1) (λ p. tested (eqb (u .kind) 0) (λ q. rw (p, q, n)) (λ q. rw (p, q, n, t)))
-      (λ p. tested (eqb (u .kind) 0) (λ q. rw (p, q, null-write 0x05 tt)) (λ q. rw (p, q, null-write 0x05 tt, t)))
+      ∙ by-cases (eqb (u .known) 1) (λ p. by-cases (eqb (u .kind) 0) (λ q. rw (p, q, n)) (λ q. rw (p, q, n, t)))
+      (λ p. by-cases (eqb (u .kind) 0) (λ q. rw (p, q, null-write 0x05 tt)) (λ q. rw (p, q, null-write 0x05 tt, t)))
 
 -- ---- as they are put: x and y octets, of which its lead says how many
 

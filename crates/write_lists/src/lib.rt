@@ -11,19 +11,20 @@ ghost use Rattle.coding.specs.Codec.{all, writeAll};
 ghost use Rattle.coding.specs.Written.{Wrote, Room};
 ghost use Rattle.types.specs.Entries.{unit, unitAt, unitList};
 ghost use Rattle.types.specs.Arguments.{chargeOf};
-ghost use Rattle.write_tests.specs.Fine.{laid, withList, figureFine, unitsFine, entriesFine};
+ghost use Rattle.write_tests.specs.Fine.{laid, figureFine, unitsFine, entriesFine};
+ghost use Rattle.types.specs.Stored.{withList};
 ghost use Rattle.write_lists.specs.Octets.{numberOctets, typeOctets, unitsCharge};
 
 // ---- an entry of units
 
-fn unit_of(numbers: &[u32; 32], octets: &[u8; 192], i: usize) -> Units
+fn unit_of(numbers: &[u32; 32], rows: &[u8; 192], i: usize) -> Units
     requires { ⌜ i < 32 ⌝ }
-    ensures { λ r. ⌜ r ≡ unitAt (laid (now (numbers .entry)) (now (octets .entry))) i ⌝ }
+    ensures { λ r. ⌜ r ≡ unitAt (laid (now (numbers .entry)) (now (rows .entry))) i ⌝ }
 {
     Units {
         number: numbers[i],
-        known: octets[2 * i],
-        kind: octets[2 * i + 1],
+        known: rows[2 * i],
+        kind: rows[2 * i + 1],
     }
 }
 
@@ -105,13 +106,13 @@ fn put_unit(buf: &mut [u8], at: usize, u: Units) -> usize
 // ---- lists of units
 
 // Whether the first n entries may be written.
-fn units_valid(numbers: &[u32; 32], octets: &[u8; 192], n: usize) -> bool
+fn units_valid(numbers: &[u32; 32], rows: &[u8; 192], n: usize) -> bool
     requires { ⌜ n ≤ 32 ⌝ }
-    ensures { λ r. ⌜ r ≡ all (unit .valid) (unitList (laid (now (numbers .entry)) (now (octets .entry))) n) ⌝ }
+    ensures { λ r. ⌜ r ≡ all (unit .valid) (unitList (laid (now (numbers .entry)) (now (rows .entry))) n) ⌝ }
 {
     let mut i = 0;
     while i < n {
-        let u = unit_of(numbers, octets, i);
+        let u = unit_of(numbers, rows, i);
         if !unit_fine(u) {
             return false;
         }
@@ -120,9 +121,9 @@ fn units_valid(numbers: &[u32; 32], octets: &[u8; 192], n: usize) -> bool
     true
 }
 
-fn units_fine(numbers: &[u32; 32], octets: &[u8; 192], count: u8) -> bool
-    requires { ⌜ (length (now numbers) ≡ 32) × (length (now octets) ≡ 192) ⌝ }
-    ensures { λ r. ⌜ r ≡ unitsFine (laid (now (numbers .entry)) (now (octets .entry))) count ⌝ }
+fn units_fine(numbers: &[u32; 32], rows: &[u8; 192], count: u8) -> bool
+    requires { ⌜ (length (now numbers) ≡ 32) × (length (now rows) ≡ 192) ⌝ }
+    ensures { λ r. ⌜ r ≡ unitsFine (laid (now (numbers .entry)) (now (rows .entry))) count ⌝ }
 {
     let n = count as usize;
     if n == 0 {
@@ -131,39 +132,39 @@ fn units_fine(numbers: &[u32; 32], octets: &[u8; 192], count: u8) -> bool
     if 32 < n {
         return false;
     }
-    if !write_rates::unused_zero(numbers, octets, n, 2 * n) {
+    if !write_rates::unused_zero(numbers, rows, n, 2 * n) {
         return false;
     }
-    units_valid(numbers, octets, n)
+    units_valid(numbers, rows, n)
 }
 
 // The octets of the first n entries.
-fn units_size(numbers: &[u32; 32], octets: &[u8; 192], n: usize) -> usize
+fn units_size(numbers: &[u32; 32], rows: &[u8; 192], n: usize) -> usize
     requires { ⌜ n ≤ 32 ⌝ }
-    requires { ⌜ all (unit .valid) (unitList (laid (now numbers) (now octets)) n) ≡ true ⌝ }
-    ensures { λ r. ⌜ r ≡ length (writeAll (unit .write) (unitList (laid (now (numbers .entry)) (now (octets .entry))) n)) ⌝ }
+    requires { ⌜ all (unit .valid) (unitList (laid (now numbers) (now rows)) n) ≡ true ⌝ }
+    ensures { λ r. ⌜ r ≡ length (writeAll (unit .write) (unitList (laid (now (numbers .entry)) (now (rows .entry))) n)) ⌝ }
     ensures few { λ r. ⌜ r ≤ 352 ⌝ }
 {
     let mut size = 0;
     let mut i = 0;
     while i < n {
-        let u = unit_of(numbers, octets, i);
+        let u = unit_of(numbers, rows, i);
         size += unit_size(u);
         i += 1;
     }
     size
 }
 
-fn put_units(buf: &mut [u8], at: usize, numbers: &[u32; 32], octets: &[u8; 192], n: usize) -> usize
+fn put_units(buf: &mut [u8], at: usize, numbers: &[u32; 32], rows: &[u8; 192], n: usize) -> usize
     requires { ⌜ n ≤ 32 ⌝ }
-    requires { ⌜ all (unit .valid) (unitList (laid (now numbers) (now octets)) n) ≡ true ⌝ }
-    requires { ⌜ Room (now buf) at (writeAll (unit .write) (unitList (laid (now numbers) (now octets)) n)) ⌝ }
-    ensures { λ r. ⌜ Wrote (now (buf .entry)) (now (buf .exit)) at (writeAll (unit .write) (unitList (laid (now (numbers .entry)) (now (octets .entry))) n)) r ⌝ }
+    requires { ⌜ all (unit .valid) (unitList (laid (now numbers) (now rows)) n) ≡ true ⌝ }
+    requires { ⌜ Room (now buf) at (writeAll (unit .write) (unitList (laid (now numbers) (now rows)) n)) ⌝ }
+    ensures { λ r. ⌜ Wrote (now (buf .entry)) (now (buf .exit)) at (writeAll (unit .write) (unitList (laid (now (numbers .entry)) (now (rows .entry))) n)) r ⌝ }
 {
     let mut p = at;
     let mut i = 0;
     while i < n {
-        let u = unit_of(numbers, octets, i);
+        let u = unit_of(numbers, rows, i);
         p = put_unit(buf, p, u);
         i += 1;
     }
@@ -173,20 +174,20 @@ fn put_units(buf: &mut [u8], at: usize, numbers: &[u32; 32], octets: &[u8; 192],
 // ---- charges
 
 // Whether a list fits the kind of its charge.
-fn entries_fine(f: Figure, numbers: &[u32; 32], octets: &[u8; 192]) -> bool
-    requires { ⌜ (length (now numbers) ≡ 32) × (length (now octets) ≡ 192) ⌝ }
-    ensures { λ r. ⌜ r ≡ entriesFine (withList f (now (numbers .entry)) (now (octets .entry))) ⌝ }
+fn entries_fine(f: Figure, numbers: &[u32; 32], rows: &[u8; 192]) -> bool
+    requires { ⌜ (length (now numbers) ≡ 32) × (length (now rows) ≡ 192) ⌝ }
+    ensures { λ r. ⌜ r ≡ entriesFine (withList f (now (numbers .entry)) (now (rows .entry))) ⌝ }
 {
     if f.kind == 3 {
-        return units_fine(numbers, octets, f.count);
+        return units_fine(numbers, rows, f.count);
     }
     if f.kind == 4 {
-        return write_rates::rates_fine(numbers, octets, f.count, false);
+        return write_rates::rates_fine(numbers, rows, f.count, false);
     }
     if f.count != 0 {
         return false;
     }
-    write_tests::no_entries(numbers, octets)
+    write_tests::no_entries(numbers, rows)
 }
 
 // Whether a charge may be written as the argument or result of an operation.
@@ -195,34 +196,34 @@ pub fn charge_fine(
     currency: &[u8; 10],
     digits: &[u8; 20],
     numbers: &[u32; 32],
-    octets: &[u8; 192],
+    rows: &[u8; 192],
     operation: u8,
 ) -> bool
     requires { ⌜ (30 ≤ operation) × (operation ≤ 36) ⌝ }
     requires { ⌜ (now currency ≡ f .money .currency .octets) × (now digits ≡ f .association .digits) ⌝ }
-    requires { ⌜ (length (now numbers) ≡ 32) × (length (now octets) ≡ 192) ⌝ }
-    ensures { λ r. ⌜ r ≡ (chargeOf operation) .valid (withList f (now (numbers .entry)) (now (octets .entry))) ⌝ }
+    requires { ⌜ (length (now numbers) ≡ 32) × (length (now rows) ≡ 192) ⌝ }
+    ensures { λ r. ⌜ r ≡ (chargeOf operation) .valid (withList f (now (numbers .entry)) (now (rows .entry))) ⌝ }
 {
     if !write_tests::parts_fine(f, currency, digits, operation) {
         return false;
     }
-    entries_fine(f, numbers, octets)
+    entries_fine(f, numbers, rows)
 }
 
 // The octets of a valid charge, which may be too many for a component.
-pub fn charge_size(f: Figure, numbers: &[u32; 32], octets: &[u8; 192], operation: u8) -> usize
+pub fn charge_size(f: Figure, numbers: &[u32; 32], rows: &[u8; 192], operation: u8) -> usize
     requires { ⌜ (30 ≤ operation) × (operation ≤ 36) ⌝ }
-    requires { ⌜ length (now octets) ≡ 192 ⌝ }
-    requires { ⌜ (chargeOf operation) .valid (withList f (now numbers) (now octets)) ≡ true ⌝ }
-    ensures { λ r. ⌜ r ≡ length ((chargeOf operation) .write (withList f (now (numbers .entry)) (now (octets .entry)))) ⌝ }
+    requires { ⌜ length (now rows) ≡ 192 ⌝ }
+    requires { ⌜ (chargeOf operation) .valid (withList f (now numbers) (now rows)) ≡ true ⌝ }
+    ensures { λ r. ⌜ r ≡ length ((chargeOf operation) .write (withList f (now (numbers .entry)) (now (rows .entry)))) ⌝ }
     ensures few { λ r. ⌜ r ≤ 600 ⌝ }
 {
     let n = f.count as usize;
     if f.kind == 3 {
-        return write_figures::priced_size(f, operation, units_size(numbers, octets, n));
+        return write_figures::priced_size(f, operation, units_size(numbers, rows, n));
     }
     if f.kind == 4 {
-        return write_figures::sized(write_rates::rates_size(numbers, octets, n));
+        return write_figures::sized(write_rates::rates_size(numbers, rows, n));
     }
     write_figures::figure_size(f, operation)
 }
@@ -233,18 +234,18 @@ fn put_units_charge(
     at: usize,
     f: Figure,
     numbers: &[u32; 32],
-    octets: &[u8; 192],
+    rows: &[u8; 192],
     operation: u8,
 ) -> usize
-    requires { ⌜ (figureFine operation f ≡ true) × (unitsFine (laid (now numbers) (now octets)) (f .count) ≡ true) ⌝ }
-    requires { ⌜ length (unitsCharge operation f (laid (now numbers) (now octets))) ≤ 254 ⌝ }
-    requires { ⌜ Room (now buf) at (unitsCharge operation f (laid (now numbers) (now octets))) ⌝ }
-    ensures { λ r. ⌜ Wrote (now (buf .entry)) (now (buf .exit)) at (unitsCharge operation f (laid (now (numbers .entry)) (now (octets .entry)))) r ⌝ }
+    requires { ⌜ (figureFine operation f ≡ true) × (unitsFine (laid (now numbers) (now rows)) (f .count) ≡ true) ⌝ }
+    requires { ⌜ length (unitsCharge operation f (laid (now numbers) (now rows))) ≤ 254 ⌝ }
+    requires { ⌜ Room (now buf) at (unitsCharge operation f (laid (now numbers) (now rows))) ⌝ }
+    ensures { λ r. ⌜ Wrote (now (buf .entry)) (now (buf .exit)) at (unitsCharge operation f (laid (now (numbers .entry)) (now (rows .entry)))) r ⌝ }
 {
     let n = f.count as usize;
-    let size = units_size(numbers, octets, n);
+    let size = units_size(numbers, rows, n);
     let p = write_figures::put_before(buf, at, f, operation, size);
-    let q = put_units(buf, p, numbers, octets, n);
+    let q = put_units(buf, p, numbers, rows, n);
     write_figures::put_after(buf, q, f, operation)
 }
 
@@ -254,21 +255,21 @@ pub fn put_charge(
     at: usize,
     f: Figure,
     numbers: &[u32; 32],
-    octets: &[u8; 192],
+    rows: &[u8; 192],
     operation: u8,
 ) -> usize
     requires { ⌜ (30 ≤ operation) × (operation ≤ 36) ⌝ }
-    requires { ⌜ length (now octets) ≡ 192 ⌝ }
-    requires { ⌜ (chargeOf operation) .valid (withList f (now numbers) (now octets)) ≡ true ⌝ }
-    requires { ⌜ length ((chargeOf operation) .write (withList f (now numbers) (now octets))) ≤ 254 ⌝ }
-    requires { ⌜ Room (now buf) at ((chargeOf operation) .write (withList f (now numbers) (now octets))) ⌝ }
-    ensures { λ r. ⌜ Wrote (now (buf .entry)) (now (buf .exit)) at ((chargeOf operation) .write (withList f (now (numbers .entry)) (now (octets .entry)))) r ⌝ }
+    requires { ⌜ length (now rows) ≡ 192 ⌝ }
+    requires { ⌜ (chargeOf operation) .valid (withList f (now numbers) (now rows)) ≡ true ⌝ }
+    requires { ⌜ length ((chargeOf operation) .write (withList f (now numbers) (now rows))) ≤ 254 ⌝ }
+    requires { ⌜ Room (now buf) at ((chargeOf operation) .write (withList f (now numbers) (now rows))) ⌝ }
+    ensures { λ r. ⌜ Wrote (now (buf .entry)) (now (buf .exit)) at ((chargeOf operation) .write (withList f (now (numbers .entry)) (now (rows .entry)))) r ⌝ }
 {
     if f.kind == 3 {
-        return put_units_charge(buf, at, f, numbers, octets, operation);
+        return put_units_charge(buf, at, f, numbers, rows, operation);
     }
     if f.kind == 4 {
-        return write_rates::put_rates_charge(buf, at, numbers, octets, f.count);
+        return write_rates::put_rates_charge(buf, at, numbers, rows, f.count);
     }
     write_figures::put_figure(buf, at, f, operation)
 }

@@ -5,8 +5,8 @@ use Rattle.coding.{proofs.Basic.and-left, proofs.Basic.and-right, proofs.Basic.
 use Rattle.coding.{proofs.Writing.room-rest, proofs.Writing.wrote-parts}
 use Rattle.types.specs.{declared.Entries.Entries, Rates.rate, Rates.rateAt, Rates.rateRows, Rates.rateList, Arguments.sameEntries}
 use Rattle.write_tests.specs.Fine.{ratesFine}
-use Rattle.write_rates.specs.Prices.{ratesCharge}
-use Rattle.write_rates.proofs.Octets.{rates-wider}
+use Rattle.write_prices.proofs.Octets.{rates-wider}
+use Rattle.write_rates.specs.Arrays.{ratesCharge}
 
 -- how many entries a list has, and that they are valid
 pub few-valid : {A : Type 0} (f : Run A) (most n : ℕ) (g : ℕ → A) → (some·more 0x30 most f) .valid (table n g) ≡ true → (n ≤ most) × (all (f .valid) (table n g) ≡ true)

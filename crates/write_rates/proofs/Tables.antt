@@ -6,7 +6,8 @@ use Rattle.coding.{specs.Codec.Run, specs.Codec.all, specs.Codec.writeAll, spec
 use Rattle.coding.{specs.Rows.rows, specs.Rows.table, proofs.Basic.and-left, proofs.Basic.and-right, proofs.Writing.wrote-as, proofs.Writing.wrote-both, proofs.Writing.wrote-next}
 use Rattle.coding.{proofs.Writing.wrote-none, proofs.Writing.Split, proofs.Writing.split, proofs.Writing.room-first, proofs.Writing.room-rest, proofs.Rows.table-length}
 use Rattle.coding.{proofs.Rows.table-more, proofs.Rows.rows-append, proofs.Tests.and-false}
-use Rattle.write_tests.{proofs.Tests.zeros-more, proofs.Tests.zeros-whole, specs.Fine.laid}
+use Rattle.octets.proofs.Clear.{zeros-more, zeros-whole}
+use Rattle.write_tests.specs.Fine.{laid}
 use Rattle.types.specs.Arguments.{sameEntries}
 use Rattle.write_rates.specs.Arrays.{zeroPast, unusedZero}
 

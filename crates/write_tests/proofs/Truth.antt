@@ -1,7 +1,7 @@
 -- Tests joined by `and`: in any order, and taken apart.
-use Rattle.prelude.proofs.Prelude.{ℕ, zero, suc, _+_, _-_, _≤_, _≡_, refl, sym, ap, subst, _∙_, List, Bool, true, false, not, _&&_, _↔_, arith, leb, eqb, leb-true, le-leb, eqb-true, eq-eqb}
+use Rattle.prelude.proofs.Prelude.{ℕ, zero, suc, _+_, _-_, _≤_, _≡_, refl, sym, subst, _∙_, List, Bool, true, false, not, _&&_, _↔_, arith, leb, eqb, leb-true, le-leb, eqb-true, eq-eqb}
 use Rattle.prelude.proofs.Prelude.{ne-eqb, not-true, not-false}
-use Rattle.coding.{specs.Codec.sameList, proofs.Padded.eqbEqual, proofs.Padded.listEqual, proofs.Holds.and-iff, proofs.Tests.ands, proofs.Tests.and-true}
+use Rattle.coding.{specs.Codec.sameList, proofs.Padded.eqbEqual, proofs.Padded.listEqual, proofs.Holds.and-iff, proofs.Tests.ands}
 
 -- two tests are the same if each says what the other says
 pub same-truth : (a b : Bool) → (a ≡ true → b ≡ true) → (b ≡ true → a ≡ true) → a ≡ b
@@ -12,9 +12,6 @@ same-truth false false f g = refl
 -- a test in the order in which it is made
 pub as-test : {a b x : Bool} → b ≡ a → x ≡ a → x ≡ b
 as-test e p = p ∙ sym e
-
-pub and-same : (a : Bool) (x : ℕ) → x ≡ 0 → a ≡ a && eqb 0 x
-and-same a x e = sym (ap (λ (b : Bool). a && b) (eq-eqb 0 x (sym e)) ∙ and-true a)
 
 -- what a function answers to a test that the code goes on from, and the tests after it
 pub test-no : (a b r : Bool) → r ≡ a → not r ≡ true → false ≡ a && b

@@ -26,8 +26,8 @@ use denote.{Triple.Statement.Contract, Triple.Statement.Triple, Triple.Entry.onE
 use denote.Triple.Walked.{says, Stays, stay-ref, stay-none, stay-none-slice, walkOf, AllGo, goes-none, goes-none-slice, goes-ref, ends-at}
 use Rattle.account.specs.{declared.Account.Account, History.judged, History.accountBy, History.steppedBy, History.stepped, Step.steppedOf}
 use Rattle.phases.specs.{declared.Event.Event, declared.Outcome.Outcome, Phases.Given as Gave, Phases.event, Phases.noService}
-use Rattle.slots.specs.{declared.Board.Board, declared.Seat.Seat, declared.Held.Held, Board.withSlot, Board.boarded, Board.eventOn, Parts.seatOf, Parts.takenUp}
-use Rattle.slots.proofs.Parts.{lent-thin, refused-thin, taken-thin}
+use Rattle.slots.specs.{declared.Board.Board, declared.Seat.Seat, declared.Held.Held, Board.withSlot, Board.boarded, Board.eventOn, ByValue.seatOf, ByValue.takenUp}
+use Rattle.slots.proofs.ByValue.{lent-thin, refused-thin, taken-thin}
 use Rattle.step.proofs.Machine.{vA, vE, vO, tellsE}
 use Rattle.step.proofs.Lent.{Typed}
 use Rattle.board.proofs.Lent.{boardTy, lent}

@@ -17,8 +17,8 @@ use denote.{RattleType.owns, Laws.Is, Laws.shows, Memory.partAt, Memory.pointee,
 use denote.{Builtin.u16, Builtin.u32, Builtin.u64, Ref.RefT, Ref.ptr-vals, Ref.shr-tells, Signature.plain, Steps.owned, Steps.peeks, Steps.nothing, Exit.yes}
 use denote.{Triple.Statement.Contract, Triple.Statement.Triple, Triple.Entry.onEntry, Triple.Spec.tripleOf, Triple.Table.cited, Triple.Clauses.ensured, Triple.Clauses.lasts}
 use denote.Triple.Walked.{says, Stays, stay-none-ref, stay-none, walkOf, AllGo, goes-none, goes-none-ref, ends-at}
-use Rattle.slots.specs.{declared.Board.Board, declared.Viewed.Viewed, Board.viewOn, Parts.viewedOf}
-use Rattle.slots.proofs.Parts.{view-thin}
+use Rattle.slots.specs.{declared.Board.Board, declared.Viewed.Viewed, Board.viewOn, ByValue.viewedOf}
+use Rattle.slots.proofs.ByValue.{view-thin}
 use Rattle.step.proofs.Lent.{Typed}
 use Rattle.board.proofs.Lent.{boardTy}
 use Rattle.board.proofs.LentView.{reads}

@@ -1,6 +1,6 @@
 use Rattle.prelude.proofs.Prelude.{needs, ℕ, _+_, _≤_, _-_, _≡_, refl, sym, _∙_, Bool, true, false, arith, not-true, not-false}
 use Rattle.types.specs.{Entries.unitAt, declared.Entries.Entries}
-use Rattle.same_final.{specs.Same.each, proofs.Each.each-fails, proofs.Each.each-more}
+use Rattle.octets.{specs.Each.each, proofs.Each.each-fails, proofs.Each.each-more}
 use Rattle.fault_rules.specs.Figures.{nothingBy}
 use Rattle.fault_rules.proofs.zero_units.Statement.{statement}
 use Rattle.fault_rules.proofs.zero_units.Tie as tie

@@ -1,6 +1,6 @@
 use Rattle.prelude.proofs.Prelude.{needs, ℕ, List, [], _∷_, _≤_, _<_, _-_, _+_, _≡_, refl, sym, _∙_, ap, arith, length, getD}
 use Rattle.coding.specs.Reader.{part}
-use Rattle.facility.specs.Parts.{partsOf}
+use Rattle.facility.specs.Cut.{partsOf}
 use Rattle.pass.proofs.Order.{Rises}
 use Rattle.messages.specs.Trace.{componentsIn, firstRequest, askedOf}
 use Rattle.messages.proofs.{Walk.parts-none, Walk.parts-all, Walk.parts-over, Walk.tile-rises, Walk.tile-cons, Walk.rises-on, Walk.starts-long, Requests.asked-here, Requests.asked-next}

@@ -1,5 +1,5 @@
 use Rattle.phases.proofs.Choice.{tests}
-use Rattle.same_final.proofs.Ways.{ways}
+use Rattle.prelude.proofs.Ways.{ways}
 use Rattle.outcomes.proofs.place_of.Statement.{statement}
 use Rattle.outcomes.proofs.place_of.Tie as tie
 

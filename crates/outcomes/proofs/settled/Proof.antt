@@ -1,4 +1,4 @@
-use Rattle.same_final.proofs.Ways.{ways}
+use Rattle.prelude.proofs.Ways.{ways}
 use Rattle.outcomes.proofs.settled.Statement.{statement}
 use Rattle.outcomes.proofs.settled.Tie as tie
 

@@ -1,5 +1,5 @@
 use Rattle.prelude.proofs.Prelude.{sym, _∙_, needs, not-false}
-use Rattle.same_final.proofs.Ways.{ways}
+use Rattle.prelude.proofs.Ways.{ways}
 use Rattle.closing.proofs.Small.{small}
 use Rattle.price.specs.Price.{priceOf}
 use Rattle.price.proofs.price.Statement.{statement}

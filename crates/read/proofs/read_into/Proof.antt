@@ -1,16 +1,16 @@
 -- The head, then what is left.
-use Rattle.prelude.proofs.Prelude.{needs, ap, _∙_, sym, eqb, eq-eqb, ne-eqb, le-leb, lt-leb}
+use Rattle.prelude.proofs.Prelude.{needs, ap, _∙_, sym, eqb, ne-eqb, le-leb, lt-leb}
 use Rattle.coding.{specs.Reader.part, proofs.Basic.and-left, proofs.Basic.and-right}
 use Rattle.types.specs.{Stored.figureIn, Frames.argument, Frames.answered}
 use Rattle.read_heads.specs.Heads.{restOf}
 use Rattle.read.specs.Ways.{held}
-use Rattle.read.proofs.{Tails.reads, Tails.rest-carried, read_into.Statement.statement, read_into.Tie.close, read_into.Tie.spec}
+use Rattle.read.proofs.{Tails.reads, Tails.reads-none, Tails.rest-carried, read_into.Statement.statement, read_into.Tie.close, read_into.Tie.spec}
 
 pub read-into-spec : {M : Type 1} → statement M
 unfolding figureIn part restOf argument
 read-into-spec =
     close (spec (search needs) (search needs)
-    (λ c. let bad = c .before in reads _ (bad .before .before .head-of .ensures .0) (rw (eq-eqb _ _ (bad .if1 .taken)) (c .refused .ensures)))
+    (λ c. let bad = c .before in let head = bad .before .before .head-of in reads-none (head .result) _ (head .ensures .0) (c .refused .ensures) (bad .if1 .taken))
     (λ c κs. search needs)
     (λ c. let alone = c .before .before in let some = alone .before .before in
     reads _ (some .before .before .head-of .ensures .0) (rw (ne-eqb _ _ (some .if1 .left), le-leb _ _ (alone .if2 .taken), c .keep-head .ensures)))

@@ -25,8 +25,8 @@ settled c = (rw figure-read (search (passed, goes, step, refl) depth 8), search,
 pub figure-at-spec : {M : Type 1} → statement M
 figure-at-spec =
     tie.close
-    (tie.spec (search needs) (search needs) (λ c. rw figure-read (search (storing, reading))) (λ c κs. search needs) (search needs)
-    (λ c. rw figure-read (search (storing, reading) depth 8)) (search needs)
+    (tie.spec (λ c. omega arith) (λ c. omega arith) (λ c. rw figure-read (search (storing, reading))) (λ c κs. search needs) (λ c. omega arith)
+    (λ c. rw figure-read (search (storing, reading) depth 8)) (λ c. omega arith)
     (λ c.
     let u = c .before .before in
     let p = u .before .before in
@@ -35,25 +35,25 @@ figure-at-spec =
     rw figure-read
     (step _ _ _ _ (e .frame-at .ensures .0) (q .before .if1 .left)
     (ended _ _ _ (λ x n. rw (sym (c .before .is-subtotal .ensures) ∙ c .if3 .taken)) (p .settled-at .ensures .0))))
-    (search needs)
+    (λ c. omega arith)
     (λ c.
     let k = c .before .before .before in
     let m = settled (k .before) in
     none-stored _ _ _ (c .reached .ensures) (m .1) (parties-none (storedCharge _ _ _) _ _ _ _ (c .before .if4 .taken)) ∙ m .0)
-    (λ c κs. let k = c .before .before .before in let m = settled (k .before) in (m .2, m .1)) (search needs)
+    (λ c κs. let k = c .before .before .before in let m = settled (k .before) in (m .2, m .1)) (λ c. omega arith)
     (λ c.
     let a = c .before .before .before in
     let k = a .before .before .before in
     let m = settled (k .before .before) in
     search (storing, reading) ∙ m .0)
-    (search needs)
+    (λ c. omega arith)
     (λ c.
     let l = c .before .before .before in
     let a = l .before .before .before in
     let k = a .before .before .before in
     let m = settled (k .before .before) in
     search (storing, reading) depth 8 fits 4000 ∙ m .0)
-    (search needs)
+    (λ c. omega arith)
     (λ c.
     let l = c .before .before .before in
     let a = l .before .before .before in

@@ -12,4 +12,4 @@ keep-text-spec =
     (λ c.
     let a = c .before .before .before .args in
     let h : 10 ≤ length (a .t3) = omega arith in
-    c .put-octets .ensures .stored ∙ ap (sets (a .octets .now) (a .at)) (sym (take-append-le 10 (a .t3) _ h))))
+    c .put-octets .ensures .stored ∙ ap (sets (a .rows .now) (a .at)) (sym (take-append-le 10 (a .t3) _ h))))

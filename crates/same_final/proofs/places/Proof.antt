@@ -1,5 +1,6 @@
 use Rattle.prelude.proofs.Prelude.{arith}
-use Rattle.same_final.proofs.{Ways.ways, places.Statement.statement}
+use Rattle.prelude.proofs.Ways.{ways}
+use Rattle.same_final.proofs.places.Statement.{statement}
 use Rattle.same_final.proofs.places.Tie as tie
 
 pub places-spec : {M : Type 1} → statement M

@@ -1,6 +1,7 @@
 use Rattle.prelude.proofs.Prelude.{needs}
 use Rattle.same_final.specs.Same.{sameOf}
-use Rattle.same_final.proofs.{Ways.ways, same.Statement.statement}
+use Rattle.prelude.proofs.Ways.{ways}
+use Rattle.same_final.proofs.same.Statement.{statement}
 use Rattle.same_final.proofs.same.Tie as tie
 
 pub same-spec : {M : Type 1} → statement M

@@ -1,7 +1,9 @@
 use Rattle.prelude.proofs.Prelude.{ℕ, _+_, _≤_, _-_, _≡_, refl, sym, Bool, true, false, arith, needs}
 use Rattle.types.specs.{Entries.unitAt, Entries.sameUnits, declared.Entries.Entries}
-use Rattle.same_final.specs.Same.{each, upTo, equalUnits}
-use Rattle.same_final.proofs.{Each.each-fails, Each.each-more, same_entries.Statement.statement}
+use Rattle.octets.specs.Each.{each}
+use Rattle.same_final.specs.Same.{upTo, equalUnits}
+use Rattle.octets.proofs.Each.{each-fails, each-more}
+use Rattle.same_final.proofs.same_entries.Statement.{statement}
 use Rattle.coding.proofs.Tests.{tests}
 use Rattle.same_final.proofs.same_entries.Tie as tie
 

@@ -1,4 +1,4 @@
-use Rattle.same_final.proofs.Ways.{ways}
+use Rattle.prelude.proofs.Ways.{ways}
 use Rattle.scans.proofs.asking.Statement.{statement}
 use Rattle.scans.proofs.asking.Tie as tie
 

@@ -1,5 +1,5 @@
 use Rattle.prelude.proofs.Prelude.{needs, ℕ, _≤_, _-_, _+_, _≡_, refl, sym, _∙_, ap, arith, eq-eqb, ne-eqb}
-use Rattle.phases.{specs.declared.Moving.Moving, specs.declared.Status.Status, specs.declared.Event.Event, specs.Parts.movingOf}
+use Rattle.phases.specs.{declared.Moving.Moving, declared.Status.Status, declared.Event.Event, ByNumber.movingOf}
 use Rattle.scans.specs.Claim.{bare}
 use Rattle.events.proofs.Prefix.{ends-inside}
 use Rattle.scans.proofs.{Outcomes.phase-at, Outcomes.claim-final-service, Outcomes.unclaimed-at, Outcomes.compared-at, outcome_at.Statement.statement}

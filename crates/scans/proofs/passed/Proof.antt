@@ -1,5 +1,5 @@
 use Rattle.prelude.proofs.Prelude.{_∙_, ap, needs, cond}
-use Rattle.phases.{specs.declared.Moving.Moving, specs.Parts.movingOf}
+use Rattle.phases.specs.{declared.Moving.Moving, ByNumber.movingOf}
 use Rattle.scans.proofs.Histories.{moving-phase}
 use Rattle.scans.proofs.passed.Statement.{statement}
 use Rattle.scans.proofs.passed.Tie as tie

@@ -1,7 +1,7 @@
 use Rattle.prelude.proofs.Prelude.{needs, refl, ap, sym, _∙_, eq-eqb, ne-eqb}
-use Rattle.slots.specs.Parts.{freed, freeOf}
+use Rattle.slots.specs.ByValue.{freed, freeOf}
 use Rattle.account.specs.{declared.Closing.Closing, Step.closingOf}
-use Rattle.slots.proofs.Parts.{freed-now}
+use Rattle.slots.proofs.ByValue.{freed-now}
 use Rattle.slots.proofs.free.Statement.{statement}
 use Rattle.slots.proofs.free.Tie as tie
 

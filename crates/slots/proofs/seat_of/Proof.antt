@@ -1,5 +1,5 @@
 use Rattle.prelude.proofs.Prelude.{needs, refl, ap, _∙_, _≡_, eq-eqb, ne-eqb}
-use Rattle.slots.specs.{Board.lowest, Parts.seatOf}
+use Rattle.slots.specs.{Board.lowest, ByValue.seatOf}
 use Rattle.slots.proofs.seat_of.Statement.{statement}
 use Rattle.slots.proofs.seat_of.Tie as tie
 

@@ -1,5 +1,5 @@
 use Rattle.prelude.proofs.Prelude.{needs, refl}
-use Rattle.slots.specs.Parts.{takenUp}
+use Rattle.slots.specs.ByValue.{takenUp}
 use Rattle.slots.proofs.taken_up.Statement.{statement}
 use Rattle.slots.proofs.taken_up.Tie as tie
 

@@ -1,5 +1,5 @@
 use Rattle.prelude.proofs.Prelude.{needs, refl, eq-eqb, ne-eqb}
-use Rattle.slots.specs.Parts.{viewedOf}
+use Rattle.slots.specs.ByValue.{viewedOf}
 use Rattle.slots.proofs.view.Statement.{statement}
 use Rattle.slots.proofs.view.Tie as tie
 

@@ -1,6 +1,9 @@
-use Rattle.prelude.proofs.Prelude.{_∙_, needs}
+use Rattle.prelude.proofs.Prelude.{refl, _∙_, needs}
 use Rattle.step.proofs.{Steps.change-promised, Steps.phase-change, Steps.not-allowed, Steps.heard, step.Statement.statement}
 use Rattle.step.proofs.step.Tie as tie
+
+returns-2 : tie.Need-returns-2
+returns-2 c = change-promised _ _ _ _ (not-allowed _ _ _ _ _ (c .before .before .next-phase .ensures) (c .plain .ensures) refl (c .before .if2 .taken))
 
 returns : tie.Need-returns
 returns c =
@@ -15,6 +18,4 @@ returns-3 c =
 pub step-spec : {M : Type 1} → statement M
 step-spec =
     tie.close (tie.spec
-    (search needs) (search needs) returns (search needs) (search needs)
-    (λ c. change-promised _ _ _ _ (not-allowed _ _ _ _ _ (c .before .before .next-phase .ensures) (c .before .if2 .taken) (c .plain .ensures)))
-    (search needs) returns-3)
+    (search needs) (search needs) returns (search needs) (search needs) returns-2 (search needs) returns-3)

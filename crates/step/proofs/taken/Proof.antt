@@ -2,14 +2,15 @@
 use Rattle.prelude.proofs.Prelude.{ℕ, _≤_, arith, _≡_, ap, sym, _∙_, List, needs}
 use Rattle.types.specs.{declared.Answer.Answer, declared.Figure.Figure, declared.Front.Front, Stored.frontIn, Stored.figureIn, Frames.readOf}
 use Rattle.read.specs.{declared.Refusal.Refusal, Whole.wholeAnswer}
-use Rattle.outcomes.{specs.Parts.chargeFrom, proofs.Refusals.number-fits}
+use Rattle.types.specs.Stored.{withList}
+use Rattle.outcomes.proofs.Refusals.{number-fits}
 use Rattle.step.proofs.{Steps.taken-refused, Steps.taken-unkept, Steps.taken-kept, taken.Statement.statement}
 use Rattle.step.proofs.taken.Tie as tie
 
 -- the answer that was read, with its front and its figure taken apart
 abbrev apart : Refusal → Front → Figure → List ℕ → List ℕ → Answer
 apart r front figure numbers rows =
-    record { number = r .number; offset = r .offset; value = record { front = front; charge = chargeFrom figure numbers rows } }
+    record { number = r .number; offset = r .offset; value = record { front = front; charge = withList figure numbers rows } }
 
 read-apart : (lent stored o : List ℕ) {r : Refusal} {numbers rows : List ℕ} {front : Front} {figure : Figure}
     → wholeAnswer r lent stored numbers rows ≡ readOf o → front ≡ frontIn lent → figure ≡ figureIn stored → apart r front figure numbers rows ≡ readOf o

@@ -1,6 +1,6 @@
 use Rattle.prelude.proofs.Prelude.{needs, arith, refl, _≡_, ap, List, []}
 use Rattle.phases.specs.{declared.Event.Event, Phases.event}
-use Rattle.values.specs.declared.Services.{Services}
+use Rattle.requests.specs.declared.Services.{Services}
 use Rattle.trace.proofs.put_component.Statement.{statement}
 use Rattle.trace.proofs.put_component.Tie as tie
 

@@ -1,6 +1,6 @@
 use Rattle.prelude.proofs.Prelude.{needs, ℕ, List, [], _∷_, _++_, _≤_, _<_, _-_, _+_, _≡_, refl, sym, _∙_, ap, arith, length, getD}
 use Rattle.coding.{specs.Reader.part, proofs.Parts.part-length}
-use Rattle.facility.specs.{declared.Starts.Starts, Parts.partsOf, Element.elementOf}
+use Rattle.facility.specs.{declared.Starts.Starts, Cut.partsOf, Element.elementOf}
 use Rattle.pass.proofs.Order.{Rises}
 use Rattle.messages.specs.Trace.{componentsIn, componentEvent, componentEvents}
 use Rattle.trace.specs.Putting.{Progress}

@@ -1,6 +1,7 @@
 -- By the operation.
 use Rattle.prelude.proofs.Prelude.{needs}
-use Rattle.trunk_bodies.proofs.{Stores.argument-form, Stores.argument-dummy, Stores.bare-body, Stores.blank-none, Stores.zero-spare, argument_at.Statement.statement}
+use Rattle.trunk_fields.proofs.Stores.{bare-body, zero-spare}
+use Rattle.trunk_bodies.proofs.{Stores.argument-form, Stores.argument-dummy, Stores.blank-none, argument_at.Statement.statement}
 use Rattle.trunk_bodies.proofs.argument_at.Tie as tie
 
 pub argument-at-spec : {M : Type 1} → statement M

@@ -2,7 +2,7 @@
 use Rattle.prelude.proofs.Prelude.{needs, eq-eqb, ne-eqb}
 use Rattle.coding.{specs.Codec.sort, proofs.Reading.picks, proofs.Reading.skips}
 use Rattle.read_lists.proofs.Stores.{plain-stored}
-use Rattle.trunk_bodies.specs.Parts.{chargeFor}
+use Rattle.trunk_bodies.specs.Bodied.{chargeFor}
 use Rattle.trunk_bodies.proofs.charge_at.Statement.{statement}
 use Rattle.trunk_bodies.proofs.charge_at.Tie as tie
 

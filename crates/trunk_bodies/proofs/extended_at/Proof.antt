@@ -2,7 +2,8 @@
 use Rattle.prelude.proofs.Prelude.{needs, refl, arith}
 use Rattle.coding.proofs.Reading.{stay, step, remains, shut}
 use Rattle.read_figures.proofs.Answers.{storing, refused, surplus, arrived, goes}
-use Rattle.trunk_bodies.proofs.{Stores.zero-spare, Stores.extended-read, Stores.body-stored, extended_at.Statement.statement}
+use Rattle.trunk_fields.proofs.Stores.{zero-spare}
+use Rattle.trunk_bodies.proofs.{Stores.extended-read, Stores.body-stored, extended_at.Statement.statement}
 use Rattle.trunk_bodies.proofs.extended_at.Tie as tie
 
 pub extended-at-spec : {M : Type 1} → statement M

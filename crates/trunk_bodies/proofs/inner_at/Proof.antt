@@ -2,8 +2,9 @@
 use Rattle.prelude.proofs.Prelude.{needs, eq-eqb, ne-eqb}
 use Rattle.types.specs.Arguments.{noCharge}
 use Rattle.trunks.specs.Bodies.{noBody, charging}
-use Rattle.trunk_bodies.specs.Parts.{innerOf}
-use Rattle.trunk_bodies.proofs.{Stores.blank-none, Stores.front-none, Stores.zero-spare, Stores.inner-on, Stores.charged-read, inner_at.Statement.statement}
+use Rattle.trunk_bodies.specs.Bodied.{innerOf}
+use Rattle.trunk_fields.proofs.Stores.{zero-spare}
+use Rattle.trunk_bodies.proofs.{Stores.blank-none, Stores.front-none, Stores.inner-on, Stores.charged-read, inner_at.Statement.statement}
 use Rattle.trunk_bodies.proofs.inner_at.Tie as tie
 
 pub inner-at-spec : {M : Type 1} → statement M

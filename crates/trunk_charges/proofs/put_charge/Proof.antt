@@ -1,7 +1,7 @@
 use Rattle.prelude.proofs.Prelude.{ap, arith, length, needs}
 use Rattle.coding.proofs.Writing.{room-as, room-head}
 use Rattle.types.specs.declared.Charge.{Charge}
-use Rattle.write_tests.specs.Fine.{withList}
+use Rattle.types.specs.Stored.{withList}
 use Rattle.write_figures.proofs.Sizes.{room-2, wrote-is, wrote-two}
 use Rattle.trunk_charges.proofs.Charges.{final-figured, final-association, final-octets, interim-figured, interim-octets, none-octets, tariff-fine, tariff-octets}
 use Rattle.trunk_charges.proofs.put_charge.Statement.{statement}

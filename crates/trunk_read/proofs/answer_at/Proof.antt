@@ -5,8 +5,9 @@ use Rattle.types.specs.Frames.{inArgument}
 use Rattle.read_heads.proofs.Codes.{has-below}
 use Rattle.read_figures.proofs.Answers.{refused, surplus, arrived}
 use Rattle.trunks.specs.Components.{answerable}
-use Rattle.trunk_bodies.proofs.Stores.{zero-spare}
-use Rattle.trunk_read.proofs.{Marked.stay-in, Marked.goes-under, Marked.inner-some, Frames.answer-read, answer_at.Statement.statement}
+use Rattle.trunk_fields.proofs.Stores.{zero-spare}
+use Rattle.trunk_frames.proofs.Marked.{stay-in, goes-under, inner-some}
+use Rattle.trunk_read.proofs.{Frames.answer-read, answer_at.Statement.statement}
 use Rattle.trunk_read.proofs.answer_at.Tie as tie
 
 pub answer-at-spec : {M : Type 1} → statement M

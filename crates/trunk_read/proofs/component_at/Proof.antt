@@ -2,7 +2,7 @@
 use Rattle.prelude.proofs.Prelude.{needs, refl}
 use Rattle.coding.proofs.Reading.{stay, step, remains, shut}
 use Rattle.read_figures.proofs.Answers.{refused, surplus, arrived, goes}
-use Rattle.trunk_bodies.proofs.Stores.{zero-spare}
+use Rattle.trunk_fields.proofs.Stores.{zero-spare}
 use Rattle.trunk_read.proofs.{Frames.component-read, component_at.Statement.statement}
 use Rattle.trunk_read.proofs.component_at.Tie as tie
 

@@ -5,8 +5,9 @@ use Rattle.types.specs.Frames.{inArgument}
 use Rattle.read_heads.proofs.Codes.{has-below}
 use Rattle.read_figures.proofs.Answers.{refused, arrived}
 use Rattle.trunks.specs.Components.{trunkOperations}
-use Rattle.trunk_bodies.proofs.Stores.{zero-spare}
-use Rattle.trunk_read.proofs.{Marked.stay-in, Marked.goes-under, Marked.inner-some, Frames.invoke-read, invoke_at.Statement.statement}
+use Rattle.trunk_fields.proofs.Stores.{zero-spare}
+use Rattle.trunk_frames.proofs.Marked.{stay-in, goes-under, inner-some}
+use Rattle.trunk_read.proofs.{Frames.invoke-read, invoke_at.Statement.statement}
 use Rattle.trunk_read.proofs.invoke_at.Tie as tie
 
 pub invoke-at-spec : {M : Type 1} → statement M

@@ -1,9 +1,11 @@
 use Rattle.prelude.proofs.Prelude.{needs}
-use Rattle.coding.proofs.Tests.{tests}
-use Rattle.trunk_tests.specs.Fine.{amountIf}
+use Rattle.coding.specs.Reader.{part}
+use Rattle.trunk_tests.proofs.Blank.{no-amount, some-amount}
 use Rattle.trunk_tests.proofs.amount_fine.Statement.{statement}
 use Rattle.trunk_tests.proofs.amount_fine.Tie as tie
 
 pub amount-fine-spec : {M : Type 1} → statement M
-unfolding amountIf
-amount-fine-spec = tie.close (tie.spec (search needs) (λ c. search tests) (λ c κs. search) (λ c. search tests))
+unfolding part
+amount-fine-spec =
+    tie.close
+    (tie.spec (search needs) (λ c κs. search needs) (λ c κs. search needs) (λ c. search some-amount) (search needs) (search needs) (search needs) (λ c κs. search needs) (λ c. search no-amount))

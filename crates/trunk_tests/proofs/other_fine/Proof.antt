@@ -1,12 +1,11 @@
 use Rattle.prelude.proofs.Prelude.{needs}
-use Rattle.coding.proofs.Tests.{tests}
-use Rattle.trunk_tests.proofs.Tests.{told-so, told-not}
-use Rattle.trunk_tests.specs.Fine.{otherFine}
+use Rattle.coding.specs.Reader.{part}
+use Rattle.trunk_tests.proofs.Blank.{no-other, same-other}
 use Rattle.trunk_tests.proofs.other_fine.Statement.{statement}
 use Rattle.trunk_tests.proofs.other_fine.Tie as tie
 
 pub other-fine-spec : {M : Type 1} → statement M
-unfolding otherFine
+unfolding part
 other-fine-spec =
     tie.close
-    (tie.spec (search needs) (λ c κs. search) (λ c. search told-so) (λ c κs. search) (λ c. search (tests, told-not)) (λ c κs. search) (λ c. search (tests, told-not)))
+    (tie.spec (search needs) (search needs) (search needs) (search needs) (λ c κs. search needs) (λ c. search no-other) (λ c κs. search needs) (λ c κs. search needs) (λ c. search same-other))

@@ -5,4 +5,4 @@ use Rattle.why.proofs.turn.Tie as tie
 
 pub turn-spec : {M : Type 1} → statement M
 unfolding turnOf
-turn-spec = tie.close (tie.spec (search needs) (search needs) (λ c. cc))
+turn-spec = tie.close (tie.spec (search needs) (search needs) (search needs) (λ c. cc))

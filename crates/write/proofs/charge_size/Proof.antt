@@ -1,6 +1,6 @@
 use Rattle.prelude.proofs.Prelude.{sym, ap, _∙_, length, needs}
 use Rattle.coding.proofs.Basic.{picked, unpicked}
-use Rattle.write_tests.specs.Fine.{withList}
+use Rattle.types.specs.Stored.{withList}
 use Rattle.write.proofs.{Fits.operation-range, Fits.its-front, Fits.its-charge, charge_size.Statement.statement}
 use Rattle.write.proofs.charge_size.Tie as tie
 

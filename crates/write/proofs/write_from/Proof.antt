@@ -1,7 +1,7 @@
 use Rattle.prelude.proofs.Prelude.{sym, ap, needs}
 use Rattle.types.specs.declared.Figure.{Figure}
-use Rattle.write_tests.specs.Fine.{withList}
-use Rattle.write.specs.Parts.{recordOf}
+use Rattle.types.specs.Stored.{withList}
+use Rattle.write.specs.Halves.{recordOf}
 use Rattle.write.proofs.{Outcomes.of-same, write_from.Statement.statement}
 use Rattle.write.proofs.write_from.Tie as tie
 

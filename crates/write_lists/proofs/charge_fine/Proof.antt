@@ -1,6 +1,6 @@
 use Rattle.prelude.proofs.Prelude.{needs}
 use Rattle.coding.proofs.Tests.{tests}
-use Rattle.write_rates.proofs.Prices.{was-true, was-false}
+use Rattle.write_prices.proofs.Prices.{was-true, was-false}
 use Rattle.write_tests.proofs.Valid.{charge-fine}
 use Rattle.write_lists.proofs.charge_fine.Statement.{statement}
 use Rattle.write_lists.proofs.charge_fine.Tie as tie

@@ -2,13 +2,13 @@ use Rattle.prelude.proofs.Prelude.{ap, sym, _∙_, true, arith, length, needs}
 use Rattle.types.specs.{declared.Charge.Charge, Arguments.chargeOf}
 use Rattle.write_figures.proofs.Plain.{unlisted-plain, unlisted-write}
 use Rattle.write_rates.proofs.Listed.{rates-valid, rates-length, list-wider}
-use Rattle.write_tests.specs.Fine.{withList}
+use Rattle.types.specs.Stored.{withList}
 use Rattle.write_lists.proofs.Charged.{figure-fine, units-fine, units-valid, rates-fine, units-octets, rates-octets}
 use Rattle.write_lists.proofs.charge_size.Statement.{statement}
 use Rattle.write_lists.proofs.charge_size.Tie as tie
 
 abbrev held : tie.Start → Charge
-held s = withList (s .args .f) (s .args .numbers .now) (s .args .octets .now)
+held s = withList (s .args .f) (s .args .numbers .now) (s .args .rows .now)
 
 units-size-requires : tie.Need-units-size-requires
 units-size-requires c κs =

@@ -1,14 +1,15 @@
 use Rattle.prelude.proofs.Prelude.{ap, _∙_, arith, needs, length}
 use Rattle.types.specs.{declared.Charge.Charge, Arguments.chargeOf}
 use Rattle.write_figures.proofs.Plain.{unlisted-plain, unlisted-write}
-use Rattle.write_rates.proofs.{Three.named, Three.room-by, Listed.list-wider}
-use Rattle.write_tests.specs.Fine.{withList}
+use Rattle.write_prices.proofs.Three.{named, room-by}
+use Rattle.write_rates.proofs.Listed.{list-wider}
+use Rattle.types.specs.Stored.{withList}
 use Rattle.write_lists.proofs.Charged.{figure-fine, units-fine, rates-fine, units-octets, rates-octets}
 use Rattle.write_lists.proofs.put_charge.Statement.{statement}
 use Rattle.write_lists.proofs.put_charge.Tie as tie
 
 abbrev held : tie.Start → Charge
-held s = withList (s .args .f) (s .args .numbers .now) (s .args .octets .now)
+held s = withList (s .args .f) (s .args .numbers .now) (s .args .rows .now)
 
 put-units-charge-requires : tie.Need-put-units-charge-requires
 put-units-charge-requires c κs =

@@ -6,10 +6,10 @@ use Rattle.write_lists.proofs.put_units.Statement.{statement}
 use Rattle.write_lists.proofs.put_units.Tie as tie
 
 abbrev Inv-loop : tie.InvT-loop
-Inv-loop buf₀ at numbers octets n p₀ i₀ buf p i = Putting unit (unitAt (laid numbers octets)) n buf₀ buf at p i
+Inv-loop buf₀ at numbers rows n p₀ i₀ buf p i = Putting unit (unitAt (laid numbers rows)) n buf₀ buf at p i
 
 abbrev μ-loop : tie.MeasureT-loop
-μ-loop buf₀ at numbers octets n p₀ i₀ buf p i = n - i
+μ-loop buf₀ at numbers rows n p₀ i₀ buf p i = n - i
 
 pub put-units-spec : {M : Type 1} → statement M
 put-units-spec =

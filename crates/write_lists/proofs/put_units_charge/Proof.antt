@@ -10,7 +10,7 @@ put-before-requires c κs =
     let s = c3 .before in
     let a = s .args in
     let n = c .before .units-size in
-    let q = units-length (a .operation) (a .f) (laid (a .numbers .now) (a .octets .now)) (n .result) (n .ensures .0) in
+    let q = units-length (a .operation) (a .f) (laid (a .numbers .now) (a .rows .now)) (n .result) (n .ensures .0) in
     ((s .pre .0 .0, omega (arith, s .pre .1 .0, q)), search put-units-1)
 
 pub put-units-charge-spec : {M : Type 1} → statement M

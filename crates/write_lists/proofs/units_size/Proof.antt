@@ -6,10 +6,10 @@ use Rattle.write_lists.proofs.units_size.Statement.{statement}
 use Rattle.write_lists.proofs.units_size.Tie as tie
 
 abbrev Inv-loop : tie.InvT-loop
-Inv-loop numbers octets n size₀ i₀ size i = Sizing unit 11 (unitAt (laid numbers octets)) n size i
+Inv-loop numbers rows n size₀ i₀ size i = Sizing unit 11 (unitAt (laid numbers rows)) n size i
 
 abbrev μ-loop : tie.MeasureT-loop
-μ-loop numbers octets n size₀ i₀ size i = n - i
+μ-loop numbers rows n size₀ i₀ size i = n - i
 
 pub units-size-spec : {M : Type 1} → statement M
 units-size-spec =

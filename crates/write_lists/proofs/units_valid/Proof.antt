@@ -6,10 +6,10 @@ use Rattle.write_lists.proofs.units_valid.Statement.{statement}
 use Rattle.write_lists.proofs.units_valid.Tie as tie
 
 abbrev Inv-loop : tie.InvT-loop
-Inv-loop numbers octets n i₀ i = Passing (unit .valid) (unitAt (laid numbers octets)) n i
+Inv-loop numbers rows n i₀ i = Passing (unit .valid) (unitAt (laid numbers rows)) n i
 
 abbrev μ-loop : tie.MeasureT-loop
-μ-loop numbers octets n i₀ i = n - i
+μ-loop numbers rows n i₀ i = n - i
 
 pub units-valid-spec : {M : Type 1} → statement M
 units-valid-spec =

@@ -4,10 +4,10 @@ use Rattle.write_rates.proofs.{Places.Copied, Places.copied-more, Place
 use Rattle.write_rates.proofs.currency_of.Tie as tie
 
 abbrev Inv-loop : tie.InvT-loop
-Inv-loop octets row places₀ j₀ places j = Copied 10 octets (row + 8) places j
+Inv-loop rows row places₀ j₀ places j = Copied 10 rows (row + 8) places j
 
 abbrev μ-loop : tie.MeasureT-loop
-μ-loop octets row places₀ j₀ places j = 10 - j
+μ-loop rows row places₀ j₀ places j = 10 - j
 
 pub currency-of-spec : {M : Type 1} → statement M
 unfolding pad

@@ -3,10 +3,10 @@ use Rattle.write_rates.proofs.{Tables.Clear, Tables.clear-more, Tables.
 use Rattle.write_rates.proofs.octets_zero.Tie as tie
 
 abbrev Inv-loop : tie.InvT-loop
-Inv-loop octets n clear₀ j₀ clear j = Clear n 192 octets j clear
+Inv-loop rows n clear₀ j₀ clear j = Clear n 192 rows j clear
 
 abbrev μ-loop : tie.MeasureT-loop
-μ-loop octets n clear₀ j₀ clear j = 192 - n - j
+μ-loop rows n clear₀ j₀ clear j = 192 - n - j
 
 pub octets-zero-spec : {M : Type 1} → statement M
 octets-zero-spec =

@@ -1,5 +1,6 @@
 use Rattle.prelude.proofs.Prelude.{needs}
-use Rattle.write_rates.proofs.{Prices.was-true, Prices.was-false, unused_zero.Statement.statement}
+use Rattle.write_prices.proofs.Prices.{was-true, was-false}
+use Rattle.write_rates.proofs.unused_zero.Statement.{statement}
 use Rattle.write_rates.proofs.unused_zero.Tie as tie
 
 pub unused-zero-spec : {M : Type 1} → statement M

@@ -1,0 +1,90 @@
+// Reading lists: each entry into its rows of two arrays, all zero before, and their count into the figure's 48 octets.
+//
+// After a fault what is stored does not count.
+ghost use mathlib.Core.Path.{_≡_};
+ghost use Prim.Native.Nat.{_≤_};
+ghost use lib.ListN.{length};
+ghost use Rattle.coding.specs.Shown.{shown};
+ghost use Rattle.types.specs.Arguments.{noCharge, inUnits};
+ghost use Rattle.types.specs.Stored.{Blank};
+ghost use Rattle.read_entries.specs.Answers.{whole, Clear, inRates};
+
+// 1 to 32 entries of units, up to the end of the enclosing element.
+pub fn units_in(
+    s: &[u8],
+    at: usize,
+    end: usize,
+    numbers: &mut [u32; 32],
+    rows: &mut [u8; 192],
+    figure: &mut [u8; 48],
+) -> read_elements::Empty
+    requires { ⌜ end ≤ length (now s) ⌝ }
+    requires { ⌜ Blank (now figure) (now numbers) (now rows) ⌝ }
+    ensures { λ r. ⌜ whole r (now (figure .exit)) (now (numbers .exit)) (now (rows .exit)) ≡ shown noCharge (inUnits .read (now (s .entry)) at end) ⌝ }
+    ensures clear { λ _. ⌜ Clear (now (figure .exit)) ⌝ }
+{
+    if end <= at {
+        return read_figures::halted(40, end);
+    }
+    let mut count: usize = 0;
+    let mut i = at;
+    while i < end {
+        if 32 <= count {
+            if s[i] == 0x30 {
+                return read_figures::halted(45, i);
+            }
+            return read_figures::halted(41, i);
+        }
+        let u = read_terms::unit_at(s, i, end);
+        if u.fault != 0 {
+            return read_figures::halted(u.fault, u.place);
+        }
+        let v = u.value;
+        read_terms::keep_unit(numbers, rows, count, v);
+        count += 1;
+        i = u.next;
+    }
+    figure[42] = 3;
+    figure[47] = count as u8;
+    read_figures::reached(i)
+}
+
+// 1 to 10 entries of rates, up to the end of the enclosing element.
+pub fn rates_in(
+    s: &[u8],
+    at: usize,
+    end: usize,
+    trunk: bool,
+    numbers: &mut [u32; 32],
+    rows: &mut [u8; 192],
+    figure: &mut [u8; 48],
+) -> read_elements::Empty
+    requires { ⌜ end ≤ length (now s) ⌝ }
+    requires { ⌜ Blank (now figure) (now numbers) (now rows) ⌝ }
+    ensures { λ r. ⌜ whole r (now (figure .exit)) (now (numbers .exit)) (now (rows .exit)) ≡ shown noCharge (inRates trunk (now (s .entry)) at end) ⌝ }
+{
+    if end <= at {
+        return read_figures::halted(40, end);
+    }
+    let mut count: usize = 0;
+    let mut i = at;
+    while i < end {
+        if 10 <= count {
+            if s[i] == 0x30 {
+                return read_figures::halted(45, i);
+            }
+            return read_figures::halted(41, i);
+        }
+        let r = read_rates::rate_at(s, i, end, trunk);
+        if r.fault != 0 {
+            return read_figures::halted(r.fault, r.place);
+        }
+        let v = r.value;
+        read_rates::keep_rate(numbers, rows, count, v);
+        count += 1;
+        i = r.next;
+    }
+    figure[42] = 4;
+    figure[47] = count as u8;
+    read_figures::reached(i)
+}

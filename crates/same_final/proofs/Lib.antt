@@ -1,4 +1,0 @@
-pub mod Each
-pub mod Ways
-pub mod Currencies
-pub mod Examples

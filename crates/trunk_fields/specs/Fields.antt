@@ -1,0 +1,28 @@
+-- A body in the parts that are lent, without its extension.
+use Prim.Native.Nat.{ℕ}
+use mathlib.Core.Path.{_≡_}
+use mathlib.Core.List.{List}
+use lib.ListN.{drop, replicate}
+use Rattle.coding.specs.Reader.{Reader, after, entries}
+use Rattle.coding.specs.Reader.Ans.{got}
+use Rattle.coding.specs.Codec.{prim}
+use Rattle.coding.specs.Leaves.{number}
+use Rattle.types.specs.declared.Charge.{Charge}
+use Rattle.types.specs.Stored.{stored}
+use Rattle.read_elements.specs.declared.Empty.{Empty}
+use Rattle.trunks.specs.declared.Body.{Body}
+use Rattle.trunks.specs.Bodies.{noBody, askingFor}
+unfoldable pub use Rattle.trunks.specs.Forms.{innerIn, users, diverting}
+
+-- the last four octets of the front
+abbrev pub Spare : List ℕ → Type 0
+Spare front = drop 44 front ≡ replicate 4 0
+
+-- what was read: where it ended in an answer, and the body in the parts
+abbrev pub inner : Empty → List ℕ → Charge → ℕ × ℕ × Body × ℕ
+inner r front charge = (r .fault, r .place, stored noBody (r .fault) (innerIn front charge), r .next)
+
+-- ---- the modes of 59 in their 30
+
+unfoldable pub inModes : Reader Body
+inModes s at end = after (entries 0x0a 7 ((prim 0x0a (number 0 6)) .read) s at end) (λ xs n. got (askingFor xs) n)

@@ -1,0 +1,3 @@
+pub mod Leads
+pub mod Marked
+pub mod Frames

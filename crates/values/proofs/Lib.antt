@@ -1,3 +1,0 @@
-pub mod Bounded
-pub mod Signed
-pub mod Members

@@ -1,6 +1,0 @@
-use Rattle.prelude.proofs.Prelude.{needs}
-use Rattle.why.proofs.is_unread.Statement.{statement}
-use Rattle.why.proofs.is_unread.Tie as tie
-
-pub is-unread-spec : {M : Type 1} → statement M
-is-unread-spec = tie.close (tie.spec (search needs) (λ c. cc) (search needs) (λ c. cc))

@@ -1,0 +1,3 @@
+pub mod Three
+pub mod Prices
+pub mod Octets
