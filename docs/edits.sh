@@ -28,7 +28,7 @@ if not own:
 place, need, says = own[0].groups()
 place = re.sub(r"^proofs/(?:(\w+)/)?(\w+)/Proof\.antt$", lambda m: (m[1] + "::" if m[1] else "") + m[2], place)
 head = says.split("\n")[0]
-if "no occurrence" in head:
+if "no occurrence" in head or "no equation of the list" in head:
     sys.exit(f"{sys.argv[1]}: {place}, {need}: the proof's rewriting finds nothing, which shows nothing")
 sides = re.findall(r"one has `([^`]*)`\s*\(expected\)(?:, [^`]*`[^`]*`)?,?\s*and the other has `([^`]*)`", says)
 sides = [s for s in sides if max(map(len, s)) <= 40 and "𝓤" not in s[0]]  # 𝓤 differs in print alone
@@ -47,7 +47,7 @@ elif "two ends are equal" in says or "last argument" in head:
 elif "differ" in head or "expected type" in says:
     what = "types differ"
 else:
-    what = "no equation fits" if "no equation of the list" in head else head[:80].replace("|", "\\|")
+    what = head[:80].replace("|", "\\|")
 print(f"`{place}`: `{need}`" + (f"; {what}" if what else ""))
 PYTHON
 }
