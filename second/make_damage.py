@@ -295,13 +295,12 @@ def sweep(rng):
         yield from each_damage(rng, map(tree, variants(rng)), TREE_DAMAGE)
 
 
-def spoil(rng):
-    """A component damaged at random, once or more, in its tree, its octets or both."""
-    root = fitting_record(rng, None, None if rng.random() < 0.2 else (1, 3))[1]
+def spoil_tree(rng, root, damages):
+    """The octets of a component's tree, damaged at random, once or more, in its elements, its octets or both."""
     kind = rng.random()
     if kind < 0.65:
         for _ in range(rng.choice((1, 1, 1, 2))):
-            damage = rng.choice(TREE_DAMAGE)
+            damage = rng.choice(damages)
             damage(rng, *rng.choice(list(walk(root))))
     octets = lay_some(rng, root, (0.0, 0.0, 0.3))
     if kind >= 0.55:
@@ -310,15 +309,25 @@ def spoil(rng):
     return octets
 
 
-def strange_code(rng):
-    """An unknown operation or error, often with damage after it, which is not looked at."""
-    form = rng.choice(((3, 0, 0), (3, 0, 0), (2, 30, 0), rng.choice(RICH)))
-    root = node = fitting_record(rng, form, (1, 2))[1]
+def spoil(rng):
+    """A component damaged at random."""
+    return spoil_tree(rng, fitting_record(rng, None, None if rng.random() < 0.2 else (1, 3))[1], TREE_DAMAGE)
+
+
+def spoil_code(rng, root, damages):
+    """The octets of a component's tree, its operation or error damaged, often with damage after it, which is not looked at."""
+    node = root
     for i in CODE_PLACES[root.tag]:
         node, parent = node.parts[i], node
-    rng.choice((foreign_code, foreign_code, foreign_code, tag_06, not_shortest, hollow))(rng, node, parent)
+    rng.choice(damages)(rng, node, parent)
     octets = lay_some(rng, root, (0.0, 0.3))
     return change(rng, octets) if rng.random() < 0.2 else octets
+
+
+def strange_code(rng):
+    """An unknown operation or error."""
+    form = rng.choice(((3, 0, 0), (3, 0, 0), (2, 30, 0), rng.choice(RICH)))
+    return spoil_code(rng, fitting_record(rng, form, (1, 2))[1], (foreign_code, foreign_code, foreign_code, tag_06, not_shortest, hollow))
 
 
 def long_component(rng):

@@ -2,8 +2,8 @@
 
 import aoc
 import trunks
-from make_damage import (CODE_PLACES, OCTET_DAMAGE, TREE_DAMAGE, add, any_octet, change, cut, each_damage, foreign_code, hollow, many,
-                         nested, noise, not_shortest, nudge, remove, tag_06, trail)
+from make_damage import (TREE_DAMAGE, add, any_octet, change, cut, each_damage, foreign_code, hollow, many, nested, noise,
+                         not_shortest, nudge, remove, spoil_code, spoil_tree, tag_06, trail)
 from make_elements import any_tile
 from make_fields import NUMBER_ENDS, RANGE_ENDS, TEXT_ENDS
 from make_records import DIGIT_OCTETS, any_id, currency_text, fill_rates, number, text, valid_component
@@ -258,27 +258,14 @@ def one_octet_in_turn(rng):
 
 
 def spoilt(rng):
-    """Damaged at random, once or more, in its tree, its octets or both."""
-    root = fitting(rng, None, None if rng.random() < 0.2 else (1, 3))[1]
-    kind = rng.random()
-    if kind < 0.65:
-        for _ in range(rng.choice((1, 1, 1, 2))):
-            rng.choice(DAMAGE)(rng, *rng.choice(list(walk(root))))
-    octets = lay_some(rng, root, (0.0, 0.0, 0.3))
-    if kind >= 0.55:
-        for _ in range(rng.choice((1, 1, 1, 2, 4))):
-            octets = rng.choice(OCTET_DAMAGE)(rng, octets)
-    return octets
+    """Damaged at random."""
+    return spoil_tree(rng, fitting(rng, None, None if rng.random() < 0.2 else (1, 3))[1], DAMAGE)
 
 
 def strange_code(rng):
-    """An operation or error of another family, or of none, often with damage after it."""
-    root = node = fitting(rng, rng.choice([form for form in FORMS if form[0] in (INVOKE, RESULT, ERROR)]), (1, 2))[1]
-    for i in CODE_PLACES[root.tag]:
-        node, parent = node.parts[i], node
-    rng.choice((trunk_code, trunk_code, trunk_code, foreign_code, tag_06, not_shortest, hollow))(rng, node, parent)
-    octets = lay_some(rng, root, (0.0, 0.3))
-    return change(rng, octets) if rng.random() < 0.2 else octets
+    """An operation or error of another family, or of none."""
+    root = fitting(rng, rng.choice([form for form in FORMS if form[0] in (INVOKE, RESULT, ERROR)]), (1, 2))[1]
+    return spoil_code(rng, root, (trunk_code, trunk_code, trunk_code, foreign_code, tag_06, not_shortest, hollow))
 
 
 def long_trunk(rng):
