@@ -45,7 +45,7 @@ elif "does not close" in says or "`search`: no proof" in head:
 elif "two ends are equal" in says or "last argument" in head:
     what = "unequal"
 elif "differ" in head or "expected type" in says:
-    what = "types differ"
+    what = ""  # two types that differ, too long to tell
 else:
     what = head[:80].replace("|", "\\|")
 print(f"`{place}`: `{need}`" + (f"; {what}" if what else ""))

@@ -11,7 +11,8 @@ use Rattle.account.specs.declared.Account.{Account}
 use Rattle.account.specs.History.{Judged, any, last, phase, hasFinal, final, noClosing, closing, currentRate, running, known, judged, accountBy, fresh, steppedBy, Shown, shown, picked}
 use Rattle.account.specs.History.{Calls, Obeys, answers}
 use Rattle.account.specs.Step.{knownOf, changeBy, put, changeOf, steppedOf, closingOf, ours}
-use Rattle.outcomes.specs.Outcome.{among, isRefusal, judge, chargeIn, was, its, settles}
+use Rattle.coding.specs.Reader.{among}
+use Rattle.outcomes.specs.Outcome.{isRefusal, judge, chargeIn, was, its, settles}
 use Rattle.outcomes.specs.Status.{isGiven, noted, statusAfter}
 use Rattle.outcomes.proofs.Refusals.{none-of, fails, apart}
 use Rattle.outcomes.proofs.Judging.{phased, phased-judge, unsettled-now, ended-judge, keeps, kept-given}

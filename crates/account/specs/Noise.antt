@@ -6,7 +6,8 @@ use Rattle.types.specs.declared.Charge.{Charge}
 use Rattle.phases.specs.declared.Outcome.{Outcome}
 use Rattle.account.specs.declared.Closing.{Closing}
 use Rattle.account.specs.declared.Marks.{Marks}
-use Rattle.outcomes.specs.Outcome.{among, isRefusal, Known, judge}
+use Rattle.coding.specs.Reader.{among}
+use Rattle.outcomes.specs.Outcome.{isRefusal, Known, judge}
 use Rattle.phases.specs.Phases.{Given}
 use Rattle.account.specs.History.{known, marks, currentRate, running, closing, judged}
 

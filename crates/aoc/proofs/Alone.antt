@@ -21,7 +21,7 @@ use Rattle.requests.specs.{declared.Services.Services, declared.Three.Three}
 use Rattle.account.specs.{declared.Account.Account, History.stepped}
 use Rattle.phases.specs.declared.{Event.Event, Outcome.Outcome}
 use Rattle.makers.specs.Events.{plainEvent, setupEvent, Took}
-use Rattle.aoc.proofs.{Walk.Coded, Walk.by-walk, Passed.Callee, Passed.vP, Passed.tokens, Passed.handed, Passed.to-callee, Passed.goes-in, Passed.came-back, Passed.came, Passed.retold}
+use Rattle.aoc.proofs.{Walk.Coded, Walk.by-walk, Passed.Callee, Passed.tokens, Passed.to-callee, Passed.goes-in, Passed.came-back, Passed.came, Passed.retold}
 use Rattle.aoc.proofs.{Passed.G, Passed.known-step}
 use denote.Struct.Laws as LL
 use Rattle.account.proofs.Account as T

@@ -14,7 +14,7 @@ use sound.WpLaws.{FmC}
 use denote.{RattleType.owns, Laws.Is, Laws.shows, Memory.pointee, Builtin.u8, Builtin.u16, Builtin.RefOf, Ref.RefT, Ref.MutRef, Ref.ShrRef, Ref.ptr-vals, Ref.mut-tells, Ref.shr-tells, Plain.uint-vals}
 use denote.{Plain.uint-tells, Plain.uint-lawful, Slice.ShrSlice, Slice.sliceTy, Slice.sliceVal, Slice.slice-vals, Slice.shr-slice-tells, Slice.shr-slice-lawful, Signature.plain, Signature.shrSliceOf}
 use denote.{Steps.peeks, Triple.Statement.Contract, Triple.Statement.Triple, Triple.Call.calls-at, Triple.Entry.onEntry, Triple.Spec.Meets, Triple.Spec.tripleOf, Triple.Table.cited}
-use denote.{Triple.Clauses.Lasts, Triple.Clauses.lasts, Triple.Clauses.atExit, Triple.Walked.Stays, Triple.Walked.gave-ref, Triple.Walked.stay-dropped, Triple.Walked.walkOf, Triple.Walked.AllGo}
+use denote.{Triple.Clauses.Lasts, Triple.Clauses.lasts, Triple.Clauses.atExit, Triple.Walked.Stays, Triple.Walked.gave-ref, Triple.Walked.stay-dropped, Triple.Walked.walkOf}
 use denote.{Triple.Walked.goes-gave-ref, Triple.Walked.goes-dropped, Triple.Walked.ends-at, Exit.yes}
 use Rattle.phases.specs.declared.{Event.Event, Outcome.Outcome}
 use Rattle.slots.specs.declared.{Board.Board, Collected.Collected, Viewed.Viewed}

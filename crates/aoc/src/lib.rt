@@ -16,8 +16,9 @@ ghost use Rattle.write.specs.Outcome.{writeOf, leftOf};
 ghost use Rattle.reply.specs.Reply.{replyOf, replyLeft};
 ghost use Rattle.pass.specs.Pass.{passWith, passOf, wholeNext};
 ghost use Rattle.trunk_fields.specs.Fields.{Spare};
-ghost use Rattle.profile.specs.Profile.{readBy, families, eitherIn, nextIn};
-ghost use Rattle.profile.specs.Replies.{replyProfile, leftProfile};
+ghost use Rattle.profile.specs.Profile.{readBy, eitherIn};
+ghost use Rattle.profile_pass.specs.Passing.{families, nextIn};
+ghost use Rattle.profile_reply.specs.Replies.{replyProfile, leftProfile};
 ghost use Rattle.types.specs.Stored.{recordIn, storedCharge};
 ghost use Rattle.trunks.specs.Stored.{trunkIn};
 ghost use Rattle.trunk_write.specs.Outcome.{spareZero};
@@ -163,11 +164,11 @@ pub extern "C" fn aoc_next_by_into(
     trunk_figure: &mut [u8; 48],
     trunk_numbers: &mut [u32; 32],
     trunk_rows: &mut [u8; 192],
-) -> profile::NextBy
+) -> profile_pass::NextBy
     ensures { λ r. ⌜ nextIn r (now (front .exit)) (now (figure .exit)) (now (numbers .exit)) (now (rows .exit)) (now (lead .exit)) (now (lent .exit)) (now («trunk_figure» .exit)) (now («trunk_numbers» .exit)) (now («trunk_rows» .exit)) ≡ passWith families (now (octets .entry)) place ⌝ }
     ensures spare { λ _. ⌜ Spare (now (lead .exit)) ⌝ }
 {
-    profile::next_by(
+    profile_pass::next_by(
         octets,
         place,
         front,
@@ -219,7 +220,7 @@ pub extern "C" fn aoc_reply_by(profile: u8, octets: &[u8], buf: &mut [u8]) -> wr
     ensures { λ r. ⌜ r ≡ replyProfile profile (now (octets .entry)) (length (now (buf .entry))) ⌝ }
     ensures left { λ r. ⌜ now (buf .exit) ≡ leftProfile profile (now (octets .entry)) (now (buf .entry)) ⌝ }
 {
-    profile::reply_by(profile, octets, buf)
+    profile_reply::reply_by(profile, octets, buf)
 }
 
 // ---- values

@@ -1,6 +1,6 @@
 -- What the relation of a table in memory says: the machine values of its keys and of its accounts, each account's relation, and the table with another key and account in a slot.
-use mathlib.Core.Path.{_≡_, refl, sym, ap, _∙_, subst}
-use Prim.Native.Nat.{ℕ, zero, suc, _+_, _*_, _%_, _^_, _<_}
+use mathlib.Core.Path.{_≡_, refl, sym, _∙_, subst}
+use Prim.Native.Nat.{ℕ, _+_, _%_, _^_, _<_}
 use native.Mathlib.Omega.{arith}
 use mathlib.Core.List.{List, [], _∷_, _++_, map, map-id}
 use lib.ListN.{length, getD, set, length-set, length-map, List·getD-map}

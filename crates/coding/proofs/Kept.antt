@@ -1,8 +1,8 @@
 -- Contents that are kept as they were received: their laws. Nothing is asked of the judge.
-use Rattle.prelude.proofs.Prelude.{ℕ, zero, suc, _+_, _-_, _≤_, _<_, _≡_, refl, sym, ap, _∙_, subst, List, [], _∷_, _++_, Bool, true, false, _&&_, true≢false, inl, arith, length, getD}
-use Rattle.prelude.proofs.Prelude.{take, drop, length-take, length-append, ltb-true, lt-ltb, ltb}
-use Rattle.coding.specs.{Reader.Ans, Reader.got, Reader.halt, Reader.Reader, Reader.part, Reader.composite, Contents.every, Codec.lengthOctets, Codec.Spans, Codec.Element}
-use Rattle.coding.specs.{Codec.counted, Codec.isTag, Codec.Run, Kept.judgedAlone, Kept.isGot, Kept.keeping, Kept.isOctet, Kept.keptValid, Kept.asReceived}
+use Rattle.prelude.proofs.Prelude.{ℕ, suc, _+_, _-_, _≤_, _≡_, refl, sym, ap, _∙_, List, [], _∷_, _++_, true, false, true≢false, inl, arith, length, getD}
+use Rattle.prelude.proofs.Prelude.{drop, length-take, length-append, ltb-true, lt-ltb, ltb}
+use Rattle.coding.specs.{Reader.Ans, Reader.got, Reader.halt, Reader.Reader, Reader.part, Contents.every, Codec.lengthOctets, Codec.Element}
+use Rattle.coding.specs.{Codec.counted, Codec.isTag, Kept.judgedAlone, Kept.isGot, Kept.keeping, Kept.isOctet, Kept.keptValid, Kept.asReceived}
 use Rattle.coding.proofs.Basic.{Given, it, void, bind, followed, cond-case, and-left, and-right, and-both, holds-part, part-holds, octets-none, octets-cons}
 use Rattle.coding.proofs.Header.{opens-element, opened-element, element-spans, element-range, element-walk, opened-written, spans-shortest, spans-only, spans-forward, element-octets}
 use Rattle.coding.proofs.Laws.{Octets, RunLaws}

@@ -5,7 +5,6 @@ use mathlib.Core.List.{List, [], _∷_, _++_}
 use mathlib.Core.Bool.{Bool, true, false, _&&_, cond}
 use lib.ListN.{length, getD}
 use lib.Dec.{ltb, leb}
-use Rattle.coding.specs.declared.Extent.{Extent}
 use Rattle.coding.specs.Reader.{Ans, got, halt, Reader, Fault, after, choice, neither, numberedAt, opened, closed, entries, part}
 use Rattle.coding.specs.Contents.{every}
 use Rattle.coding.specs.Codec.{lengthOctets, Element, Run}

@@ -2,7 +2,7 @@
 -- after it, or the first fault with its place. Places count from the octets' start, so a fault names its octet whatever the depth.
 use Prim.Native.Nat.{ℕ, zero, suc, _+_, _-_, _*_, _/_, _%_}
 use mathlib.Core.List.{List, [], _∷_}
-use mathlib.Core.Bool.{Bool, true, false, _&&_, _||_, cond}
+use mathlib.Core.Bool.{Bool, false, _&&_, _||_, cond}
 use mathlib.Core.Option.{Option, none, some}
 use lib.ListN.{getD, take, drop}
 use lib.Dec.{ltb, leb, eqb}
@@ -55,10 +55,13 @@ pure v s at end = got v at
 unfoldable pub tagged : List ℕ → ℕ → ℕ → ℕ → Bool
 tagged s at end tag = cond (ltb at end) (eqb (getD s at 0) tag) false
 
--- one of the tags
+abbrev pub among : ℕ → List ℕ → Bool
+among n [] = false
+among n (x ∷ l) = eqb n x || among n l
+
+-- one of the tags: `among`, kept folded
 unfoldable pub oneOf : List ℕ → ℕ → Bool
-oneOf [] o = false
-oneOf (t ∷ ts) o = eqb o t || oneOf ts o
+oneOf tags o = among o tags
 
 -- nothing that may stand here does: missing at the end, else an unexpected tag
 unfoldable pub neither : {A : Type 0} → Reader A

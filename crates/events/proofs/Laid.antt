@@ -1,11 +1,10 @@
 -- A list of events that is laid into slices is read off them again.
-use Rattle.prelude.proofs.Prelude.{_≡_, refl, sym, ap, _∙_, ℕ, zero, suc, _+_, _-_, _*_, _/_, _%_, _≤_, _<_, arith, add-zero, add-one, Bool, true, false, _&&_, cond, List, [], _∷_, _++_}
-use Rattle.prelude.proofs.Prelude.{append-assoc, append-nil, length, length-append, take, drop, getD, leb, eqb, le-leb, eqb-false, eq-eqb}
-use Rattle.prelude.proofs.Prelude.{getD-append-add, take-append-seam, drop-append-seam, sub-zero}
+use Rattle.prelude.proofs.Prelude.{_≡_, refl, sym, ap, _∙_, ℕ, _+_, _-_, _*_, _/_, _%_, _≤_, arith, add-zero, true, List, [], _∷_, _++_}
+use Rattle.prelude.proofs.Prelude.{append-assoc, length, length-append, getD, le-leb, eqb-false}
+use Rattle.prelude.proofs.Prelude.{getD-append-add, take-append-seam, drop-append-seam}
 use Rattle.requests.specs.declared.Services.{Services}
-use Rattle.phases.{specs.declared.Event.Event, specs.Phases.Given, specs.Phases.event, proofs.Choice.by-number}
-use Rattle.prelude.proofs.Ways.{by-cases}
-use Rattle.events.specs.Events.{kindOf, setOf, rowAt, countAt, eventsFrom, eventsOf, rowsFit, addsUp}
+use Rattle.phases.{specs.Phases.Given, specs.Phases.event, proofs.Choice.by-number}
+use Rattle.events.specs.Events.{setOf, rowAt, countAt, eventsFrom, eventsOf, rowsFit, addsUp}
 use Rattle.events.specs.Laid.{bitsOf, laidRow, rowsOf, octetsOf}
 
 -- ---- one list after another

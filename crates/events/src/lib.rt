@@ -1,7 +1,7 @@
 // A call's event list in two slices: rows of six numbers, and the octets of all events end to end.
 //
 // A row: the kind; the services asked for, 1 S, 2 D, 4 E added up; the identifiers of S, D, E; how many of the octets are the event's.
-ghost use Prim.Native.Nat.{ℕ, _<_, _/_, _%_};
+ghost use Prim.Native.Nat.{_<_, _/_, _%_};
 ghost use mathlib.Core.Path.{_≡_};
 ghost use lib.ListN.{length};
 ghost use Rattle.events.specs.Events.{kindOf, setOf, rowAt, countAt, addsUp, rowsFit};

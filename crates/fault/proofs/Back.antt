@@ -1,5 +1,5 @@
 -- Going back over the list finds what the rules over the list say, and so does the short way.
-use Rattle.prelude.proofs.Prelude.{ℕ, _+_, _-_, _≡_, refl, sym, _∙_, ap, ap₂, List, [], _∷_, Bool, true, false, _&&_, cond, eqb, ltb, arith, take, drop}
+use Rattle.prelude.proofs.Prelude.{ℕ, _+_, _-_, _≡_, refl, sym, _∙_, ap, ap₂, List, [], _∷_, Bool, true, false, _&&_, cond, eqb, ltb, take, drop}
 use Rattle.phases.{specs.declared.Event.Event, specs.declared.Outcome.Outcome, specs.Phases.Given, proofs.Choice.never}
 use Rattle.prelude.proofs.Ways.{by-cases}
 use Rattle.types.specs.{declared.Currency.Currency, declared.Record.Record, Frames.readOf}

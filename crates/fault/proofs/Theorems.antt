@@ -1,5 +1,5 @@
 -- Yes exactly when no event is refused and all four rules hold of all events; no names the first event that breaks one, and the first rule that it breaks.
-use Rattle.prelude.proofs.Prelude.{ℕ, _+_, _<_, _≤_, _≡_, refl, ap, Bool, true, false, cond, List, [], _∷_, arith, length, eqb, eqb-false, ne-eqb}
+use Rattle.prelude.proofs.Prelude.{ℕ, _+_, _≤_, _≡_, refl, ap, Bool, true, false, cond, List, [], _∷_, arith, length, eqb, eqb-false, ne-eqb}
 use Rattle.prelude.proofs.Ways.{by-cases}
 use Rattle.phases.proofs.Choice.{by-number, never}
 use Rattle.outcomes.specs.Outcome.{isRefusal}

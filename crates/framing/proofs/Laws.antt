@@ -1,10 +1,10 @@
 -- One element more, one message more.
-use Rattle.prelude.proofs.Prelude.{_≡_, refl, sym, ap, _∙_, ℕ, zero, suc, _+_, _-_, _*_, _/_, _%_, _≤_, _<_, sub-zero, add-one, arith, Bool, true, false, not, _&&_, cond, List, [], _∷_, length}
+use Rattle.prelude.proofs.Prelude.{_≡_, refl, sym, ap, _∙_, ℕ, zero, suc, _+_, _-_, _/_, _%_, _≤_, _<_, sub-zero, arith, true, false, not, _&&_, List, [], _∷_, length}
 use Rattle.prelude.proofs.Prelude.{take, drop, getD, leb, eqb}
-use Rattle.prelude.proofs.Prelude.{le-leb, lt-leb, leb-true, leb-false, eq-eqb, ne-eqb, eqb-true, List·getD-eq-default}
+use Rattle.prelude.proofs.Prelude.{le-leb, lt-leb, leb-true, eq-eqb, ne-eqb, List·getD-eq-default}
 use Rattle.coding.proofs.Basic.{and-left, and-right}
 use Rattle.prelude.proofs.Ways.{by-cases}
-use Rattle.framing.specs.Framing.{elementEnd, elementsFit, headed, framed, messageLength, byNetwork, lengthsFit, lengthsAddUp, Message, messagesFrom, messagesOf, firstUnframed, Passing}
+use Rattle.framing.specs.Framing.{elementEnd, elementsFit, headed, framed, messageLength, byNetwork, lengthsFit, lengthsAddUp, messagesFrom, messagesOf, firstUnframed, Passing}
 
 -- ---- elements
 

@@ -1,7 +1,7 @@
 -- The events that stand behind the exports of one event each, and what such an export promises.
 use Prim.Native.Nat.{ℕ}
 use mathlib.Core.Path.{_≡_}
-use mathlib.Core.List.{List, []}
+use mathlib.Core.List.{List}
 use Rattle.requests.specs.declared.Services.{Services}
 use Rattle.requests.specs.declared.Three.{Three}
 use Rattle.requests.specs.Sets.{emptySet}

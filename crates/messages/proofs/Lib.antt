@@ -1,4 +1,3 @@
 pub mod Walk
-pub mod Requests
 pub mod Theorems
 pub mod Examples

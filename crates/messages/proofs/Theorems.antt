@@ -1,15 +1,15 @@
 -- What holds of the events of every trace.
-use Rattle.prelude.proofs.Prelude.{_≡_, refl, sym, ap, _∙_, ℕ, zero, suc, _+_, _-_, _≤_, _<_, arith, Bool, true, false, not, _&&_, _||_, and-false, cond, List, [], _∷_, _++_, append-assoc}
+use Rattle.prelude.proofs.Prelude.{_≡_, refl, sym, ap, _∙_, ℕ, zero, suc, _+_, _-_, _≤_, _<_, arith, Bool, true, false, not, _&&_, and-false, cond, List, [], _∷_, _++_, append-assoc}
 use Rattle.prelude.proofs.Prelude.{length, length-append, take, drop, getD, leb, eqb}
 use Rattle.prelude.proofs.Prelude.{leb-true, eqb-true, length-drop, length-take-le, _/_, _%_}
 use Rattle.coding.{specs.Reader.part, proofs.Basic.and-left, proofs.Basic.and-right, proofs.Parts.part-length}
-use Rattle.phases.{specs.Phases.Given, specs.Phases.Setup, specs.Phases.Connect, specs.Phases.Clear, specs.Phases.Released, proofs.Choice.by-number, proofs.Choice.never}
+use Rattle.phases.{specs.Phases.Given, specs.Phases.Connect, specs.Phases.Clear, specs.Phases.Released, proofs.Choice.by-number, proofs.Choice.never}
 use Rattle.prelude.proofs.Ways.{by-cases}
 use Rattle.types.{specs.Frames.readOf, proofs.Faults.Whole, proofs.Tiles.tile-whole}
 use Rattle.facility.{specs.declared.Starts.Starts, specs.Element.elementOf, specs.Cut.startsOf, specs.Cut.firstOr, specs.Cut.partsOf, specs.Cut.joined, specs.Cut.Tiles, proofs.Tiles.tiles}
 use Rattle.pass.proofs.Order.{Rises, starts-rise}
 use Rattle.framing.specs.Framing.{elementEnd, elementsFit, typePlace, typeOf, headed, framed, Message, firstUnframed, messageLength, lengthsFit, lengthsAddUp, messagesFrom, messagesOf, verdictOf}
-use Rattle.messages.specs.Trace.{isClearing, reference, underAfter, tilesOf, componentsIn, componentsAt, componentsFrom, componentsOf, componentEvents, setupBy, phaseEvent, when}
+use Rattle.messages.specs.Trace.{isClearing, isRequest, firstRequest, reference, underAfter, tilesOf, componentsIn, componentsAt, componentsFrom, componentsOf, componentEvents, setupBy, phaseEvent, when}
 use Rattle.messages.specs.Trace.{messageEvents, ofCall, clearedBy, allFramed, traceFrom, traceEvents}
 use Rattle.framing.proofs.Laws.{end-past, end-near, headed-long}
 use Rattle.messages.proofs.Walk.{tiles-are, at-under}
@@ -27,6 +27,12 @@ pub cut-prefix : (l m : List Message) → (rest : List Given) × (traceEvents (l
 unfolding traceEvents
 cut-prefix [] m = (traceEvents m, refl)
 cut-prefix (x ∷ l) m = from-prefix (reference (x .octets)) false (x ∷ l) m
+
+-- ---- of two requests for a case the first is taken
+
+pub first-append : (case : ℕ) (l m : List (List ℕ)) → firstRequest case (l ++ m) ≡ cond (eqb (firstRequest case l .mark) 0) (firstRequest case m) (firstRequest case l)
+first-append case [] m = refl
+first-append case (o ∷ l) m = by-cases (isRequest case (readOf o)) (λ t. rw t refl) (λ t. rw t (first-append case l m))
 
 -- ---- never more events than octets
 

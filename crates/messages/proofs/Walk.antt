@@ -1,11 +1,11 @@
 -- The walk over a message's elements, and over the components of one of them.
-use Rattle.prelude.proofs.Prelude.{_≡_, refl, sym, ap, _∙_, ℕ, zero, suc, _+_, _-_, _≤_, _<_, arith, Bool, true, false, _&&_, cond, List, [], _∷_, _++_, append-assoc, length, take, drop, getD}
+use Rattle.prelude.proofs.Prelude.{_≡_, refl, sym, ap, _∙_, ℕ, zero, suc, _+_, _-_, _≤_, _<_, arith, Bool, true, false, _&&_, cond, List, [], _∷_, _++_, length, take, getD}
 use Rattle.prelude.proofs.Prelude.{leb, eqb}
-use Rattle.prelude.proofs.Prelude.{le-leb, leb-true, ne-eqb, eq-eqb, eqb-true, length-append, replicate}
-use Rattle.coding.{specs.Reader.part, proofs.Basic.and-left, proofs.Basic.and-right, proofs.Parts.part-cons, proofs.Parts.part-none, proofs.Parts.part-length}
+use Rattle.prelude.proofs.Prelude.{leb-true, ne-eqb, eq-eqb, length-append, replicate}
+use Rattle.coding.{specs.Reader.part, proofs.Basic.and-left, proofs.Basic.and-right, proofs.Parts.part-cons, proofs.Parts.part-none}
 use Rattle.phases.{specs.Phases.Given, proofs.Choice.by-number, proofs.Choice.never}
 use Rattle.prelude.proofs.Ways.{by-cases}
-use Rattle.facility.specs.{declared.Starts.Starts, Element.elementOf, Cut.startsOf, Cut.firstOr, Cut.partsOf}
+use Rattle.facility.specs.{declared.Starts.Starts, Element.elementOf, Cut.firstOr, Cut.partsOf}
 use Rattle.coding.{specs.Reader.Ans, specs.Reader.Ans.got, specs.Reader.Ans.halt, specs.Codec.pad}
 use Rattle.facility.specs.Element.{led, tiled, startsFound, malformed}
 use Rattle.pass.proofs.Order.{Rises, first-inside, starts-rise}

@@ -8,14 +8,12 @@ use Rattle.coding.specs.Reader.{part}
 use Rattle.types.specs.declared.Answer.{Answer}
 use Rattle.types.specs.Frames.{readOf}
 use Rattle.requests.specs.Sets.{emptySet}
-use Rattle.phases.specs.declared.Event.{Event}
 use Rattle.phases.specs.Phases.{Setup, Connect, Clear, Released, Component, Request, noRequest, Given, event}
 use Rattle.facility.specs.declared.Starts.{Starts}
 use Rattle.facility.specs.Element.{elementOf, malformed}
 use Rattle.facility.specs.Cut.{startsOf, partsOf}
-use Rattle.messages.specs.declared.Asked.{Asked}
 use Rattle.messages.specs.declared.Gives.{Gives}
-use Rattle.framing.specs.Framing.{elementEnd, typePlace, typeOf, framed, Message, messagesOf}
+use Rattle.framing.specs.Framing.{elementEnd, typePlace, typeOf, framed, Message}
 
 -- ---- types, references, shifts
 
@@ -66,13 +64,6 @@ isRequest case a =
 abbrev pub firstRequest : ℕ → List (List ℕ) → Request
 firstRequest case [] = noRequest
 firstRequest case (o ∷ l) = cond (isRequest case (readOf o)) (record { mark = 1; id = readOf o .value .front .id }) (firstRequest case l)
-
--- the same as the code hands it on
-abbrev pub askedOf : Request → Asked
-askedOf q = record { mark = q .mark; id = q .id }
-
-abbrev pub askedBy : ℕ → Answer → Asked
-askedBy case a = cond (isRequest case a) (record { mark = 1; id = a .value .front .id }) (record { mark = 0; id = 0 })
 
 -- ---- events
 

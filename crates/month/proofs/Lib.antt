@@ -1,10 +1,1 @@
-pub mod Rows
 pub mod Adding
-pub mod Ranges
-pub mod Filled
-pub mod Places
-pub mod Units
-pub mod Whole
-pub mod Sums
-pub mod Theorems
-pub mod Examples

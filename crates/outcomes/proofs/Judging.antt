@@ -6,7 +6,8 @@ use Rattle.phases.{specs.declared.Event.Event, specs.declared.Outcome.Outcome, 
 use Rattle.phases.{specs.Phases.outcome, specs.Phases.noService, specs.Phases.clashes, specs.Phases.allowed, proofs.Choice.by-number, proofs.Choice.never}
 use Rattle.prelude.proofs.Ways.{by-cases}
 use Rattle.phases.{proofs.Transitions.from-idle, proofs.Transitions.from-ended}
-use Rattle.outcomes.specs.Outcome.{among, isRefusal, Known, fits, runs, closes, judgeFigure, firstFinal, judgeRecord, judgeAnswer, judge, chargeIn, was, its, settles}
+use Rattle.coding.specs.Reader.{among}
+use Rattle.outcomes.specs.Outcome.{isRefusal, Known, fits, runs, closes, judgeFigure, firstFinal, judgeRecord, judgeAnswer, judge, chargeIn, was, its, settles}
 use Rattle.outcomes.specs.Status.{isGiven}
 use Rattle.outcomes.proofs.Refusals.{apart, decoding-refusal}
 

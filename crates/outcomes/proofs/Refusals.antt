@@ -3,7 +3,8 @@ use Rattle.prelude.proofs.Prelude.{ℕ, _≤_, _≡_, refl, sym, _∙_, ap, Lis
 use Rattle.prelude.proofs.Prelude.{lt-leb}
 use Rattle.types.{specs.Frames.readOf, proofs.Theorems.refusal}
 use Rattle.octets.proofs.Each.{each-fails}
-use Rattle.outcomes.specs.Outcome.{among, refusals, isRefusal}
+use Rattle.coding.specs.Reader.{among}
+use Rattle.outcomes.specs.Outcome.{refusals, isRefusal}
 use Rattle.prelude.proofs.Ways.{by-cases}
 use Rattle.phases.proofs.Choice.{by-number, never, first-of, second-of}
 pub use Rattle.prelude.proofs.Ways.{ways}

@@ -2,9 +2,6 @@
 use Prim.Native.Nat.{ℕ}
 use mathlib.Core.Bool.{Bool, _&&_, _||_, cond}
 use lib.Dec.{eqb}
-use mathlib.Core.List.{List}
-use Rattle.types.specs.declared.Charge.{Charge}
-use Rattle.types.specs.declared.Figure.{Figure}
 use Rattle.types.specs.declared.Front.{Front}
 use Rattle.requests.specs.Sets.{has}
 use Rattle.phases.specs.declared.Outcome.{Outcome}

@@ -1,12 +1,13 @@
 -- An event's outcome, from what is known of the call when it comes. The numbers of outcomes and refusals are those of the paper.
 use Prim.Native.Nat.{ℕ}
 use mathlib.Core.List.{List, [], _∷_}
-use mathlib.Core.Bool.{Bool, false, not, _&&_, _||_, cond}
+use mathlib.Core.Bool.{Bool, not, _&&_, _||_, cond}
 use lib.Dec.{eqb, leb}
 use Rattle.types.specs.declared.Charge.{Charge}
 use Rattle.types.specs.declared.Front.{Front}
 use Rattle.types.specs.declared.Record.{Record}
 use Rattle.types.specs.declared.Answer.{Answer}
+use Rattle.coding.specs.Reader.{among}
 use Rattle.types.specs.Frames.{readOf}
 use Rattle.requests.specs.declared.Services.{Services}
 use Rattle.requests.specs.Sets.{has}
@@ -16,10 +17,6 @@ use Rattle.phases.specs.declared.Outcome.{Outcome}
 use Rattle.phases.specs.Phases.{Establishment, Active, Clearing, Suspended, Setup, Component, allowed, S, D, E, outcome, noService, clashes}
 
 -- ---- refusals: those of decoding, 13 and 14
-
-abbrev pub among : ℕ → List ℕ → Bool
-among n [] = false
-among n (x ∷ l) = eqb n x || among n l
 
 abbrev pub refusals : List ℕ
 refusals = 1 ∷ 2 ∷ 3 ∷ 4 ∷ 5 ∷ 6 ∷ 7 ∷ 8 ∷ 40 ∷ 41 ∷ 42 ∷ 43 ∷ 44 ∷ 45 ∷ 13 ∷ 14 ∷ []

@@ -1,5 +1,5 @@
 -- The starts of an accepted element rise, so a place is among them once, and the place after it lies inside the element.
-use Rattle.prelude.proofs.Prelude.{ℕ, zero, suc, _+_, _-_, _≤_, _<_, arith, _≡_, refl, sym, ap, _∙_, Bool, true, false, List, [], _∷_, length, getD, take, eqb, eqb-true, eq-eqb, ne-eqb, cond}
+use Rattle.prelude.proofs.Prelude.{ℕ, zero, suc, _+_, _-_, _≤_, _<_, arith, _≡_, refl, sym, ap, _∙_, List, [], _∷_, length, getD, take, eqb, eqb-true, eq-eqb, ne-eqb, cond}
 use Rattle.prelude.proofs.Ways.{by-cases}
 use Rattle.coding.{specs.declared.Extent.Extent, specs.Reader.lengthAt, specs.Reader.part, specs.Reader.Ans.got, proofs.Basic.never, proofs.Basic.chain, proofs.Basic.same-got}
 use Rattle.coding.{proofs.Basic.picked, proofs.Basic.unpicked, proofs.Parts.part-cons, proofs.Parts.part-none, proofs.Header.read-element, proofs.Header.element-range}

@@ -2,7 +2,7 @@
 use Rattle.prelude.proofs.Prelude.{ℕ, zero, suc, _≤_, _<_, arith, _≡_, refl, sym, ap, _∙_, subst, _⊎_, inl, inr, List, [], _∷_, _++_, append-assoc, map, length, getD, eqb, eq-eqb, ne-eqb}
 use Rattle.prelude.proofs.Prelude.{eqb-true}
 use Rattle.coding.proofs.Basic.{picked, unpicked}
-use Rattle.types.{specs.declared.Answer.Answer, specs.Frames.readOf, proofs.Places.pick}
+use Rattle.types.{specs.Frames.readOf, proofs.Places.pick}
 use Rattle.facility.specs.{Element.elementOf, Cut.startsOf, Cut.firstOr, Cut.partsOf}
 use Rattle.pass.specs.{declared.Found.Found, Places.afterIn, Pass.noneAt, Pass.foundUpTo, Pass.amongStarts, Pass.foundAt, Pass.Reads, Pass.Passed, Pass.atEnd, Pass.noComponent}
 use Rattle.pass.specs.Pass.{componentUpTo, passWith, Through, Through.over, Through.next, lines}

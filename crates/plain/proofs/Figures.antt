@@ -1,5 +1,5 @@
 -- The figures after the whole list.
-use Rattle.prelude.proofs.Prelude.{ℕ, suc, _+_, _-_, _/_, _≤_, _<_, _≡_, refl, sym, _∙_, ap, List, reverse, Bool, true, false, not, _||_, _&&_, cond, eqb, eq-eqb, ne-eqb, arith, length, [], _∷_}
+use Rattle.prelude.proofs.Prelude.{ℕ, suc, _-_, _/_, _≤_, _<_, _≡_, refl, sym, _∙_, ap, List, reverse, Bool, true, false, not, _||_, eqb, eq-eqb, ne-eqb, arith, length, [], _∷_}
 use Rattle.types.specs.{declared.Charge.Charge, Arguments.noCharge}
 use Rattle.phases.{specs.declared.Outcome.Outcome, specs.Phases.S, specs.Phases.D, specs.Phases.E, specs.Phases.Given, specs.Phases.outcome}
 use Rattle.prelude.proofs.Ways.{by-cases}

@@ -1,10 +1,10 @@
 -- The outcome of an event by its number.
-use Rattle.prelude.proofs.Prelude.{ℕ, zero, suc, _+_, _-_, _/_, _≤_, _<_, _≡_, refl, sym, _∙_, ap, List, [], _∷_, cond, eqb, ne-eqb, eqb-false, arith, length, add-zero}
+use Rattle.prelude.proofs.Prelude.{ℕ, zero, suc, _+_, _-_, _/_, _≤_, _<_, _≡_, refl, sym, _∙_, ap, List, [], _∷_, ne-eqb, eqb-false, arith, length, add-zero}
 use Rattle.phases.{specs.declared.Outcome.Outcome, specs.Phases.Given, specs.Phases.noService, proofs.Choice.by-number}
 use Rattle.outcomes.specs.Outcome.{judge}
 use Rattle.account.specs.History.{known, judged}
 use Rattle.events.{specs.Events.rowAt, specs.Events.countAt, specs.Events.eventsFrom, specs.Events.eventsOf, specs.Prefix.placeAt, specs.Prefix.octetsAt, specs.Prefix.before}
-use Rattle.events.proofs.Prefix.{before-start, before-next, place-start, place-next}
+use Rattle.events.proofs.Prefix.{before-next, place-next}
 use Rattle.plain.specs.Answers.{outcomeAt}
 
 pub none-at : (h l : List Given) → outcomeAt h l 0 ≡ noService 0

@@ -1,12 +1,10 @@
--- What reading and replying answer, by the profile octet.
-use Rattle.prelude.proofs.Prelude.{ℕ, _≤_, arith, _≡_, refl, _⊎_, inl, inr, List, eq-eqb, ne-eqb}
-use Rattle.coding.proofs.Laws.{Octets}
+-- What reading answers, by the profile octet.
+use Rattle.prelude.proofs.Prelude.{ℕ, _≤_, arith, _≡_, refl, _⊎_, inl, inr, List, ne-eqb}
 use Rattle.types.specs.Frames.{readOf}
 use Rattle.types.proofs.Theorems.{refusal}
 use Rattle.trunks.specs.Components.{readTrunk}
 use Rattle.trunks.proofs.Theorems as trunk
-use Rattle.reply.proofs.Replies.{only-12, given-12}
-use Rattle.profile.specs.{Profile.ofLine, Profile.ofTrunk, Profile.ofNone, Profile.readBy, Replies.trunkCalls, Replies.replyProfile}
+use Rattle.profile.specs.Profile.{ofLine, ofTrunk, ofNone, readBy}
 
 far : (n : ℕ) → (n ≤ 8) ⊎ ((40 ≤ n) × (n ≤ 45)) → n ≡ 17 → ⊥
 far n (inl l) e = omega (arith, l, e)
@@ -29,9 +27,3 @@ module _ (s : List ℕ) where
   pub read-not-17 : (readBy 0x91 s .number ≡ 17 → ⊥) × (readBy 0x9f s .number ≡ 17 → ⊥)
   unfolding readBy
   read-not-17 = (far _ (refusal s), far _ (trunk.refusal s))
-
-  -- a reply is refused 12 or 17, or not at all
-  pub reply-numbers : (profile room : ℕ) → Octets s → (profile ≡ 0x91) ⊎ (profile ≡ 0x9f) → (replyProfile profile s room .number ≡ 0) ⊎ (replyProfile profile s room .number ≡ 12)
-  unfolding replyProfile
-  reply-numbers profile room os (inl e) = rw (eq-eqb _ _ e) (only-12 s room os)
-  reply-numbers profile room os (inr e) = rw (ne-eqb profile 0x91 (λ z. omega (arith, e, z)), eq-eqb _ _ e) (given-12 (trunkCalls s) s room os)

@@ -1,12 +1,9 @@
--- An answer and the parts of both records are told apart by what they say together: so `read_by` and `next_by` have one outcome.
+-- An answer and the parts of both records are told apart by what they say together: so `read_by` has one outcome.
 use Rattle.prelude.proofs.Prelude.{ℕ, _≡_, ap, List}
-use Rattle.types.specs.declared.Answer.{Answer}
 use Rattle.read.{specs.declared.Refusal.Refusal, proofs.One.Filled, proofs.One.one-answer}
-use Rattle.trunks.specs.declared.TrunkAnswer.{TrunkAnswer}
 use Rattle.trunk_fields.specs.Fields.{Spare}
 use Rattle.trunk_read.proofs.One.{one-trunk}
-use Rattle.pass.specs.Pass.{Passed}
-use Rattle.profile.specs.{declared.Judged.Judged, declared.NextBy.NextBy, Profile.Either, Profile.eitherIn, Profile.nextIn}
+use Rattle.profile.specs.{declared.Judged.Judged, Profile.Either, Profile.eitherIn}
 
 -- the parts of both records, as arrays have them
 pub record Parts : Type 0 where
@@ -26,16 +23,13 @@ pub record Parts : Type 0 where
   pub lent-filled : Filled 244 lent
   pub trunk-filled : Filled 48 trunkFigure
 
-abbrev Equal : Parts → Parts → Type 0
+abbrev pub Equal : Parts → Parts → Type 0
 Equal p q =
     (p .front ≡ q .front) × (p .figure ≡ q .figure) × (p .numbers ≡ q .numbers) × (p .rows ≡ q .rows)
     × (p .lead ≡ q .lead) × (p .lent ≡ q .lent) × (p .trunkFigure ≡ q .trunkFigure) × (p .trunkNumbers ≡ q .trunkNumbers) × (p .trunkRows ≡ q .trunkRows)
 
 abbrev readIn : Judged → Parts → Either
 readIn r p = eitherIn r (p .front) (p .figure) (p .numbers) (p .rows) (p .lead) (p .lent) (p .trunkFigure) (p .trunkNumbers) (p .trunkRows)
-
-abbrev passedIn : NextBy → Parts → Passed Either
-passedIn r p = nextIn r (p .front) (p .figure) (p .numbers) (p .rows) (p .lead) (p .lent) (p .trunkFigure) (p .trunkNumbers) (p .trunkRows)
 
 abbrev refusal : Judged → Refusal
 refusal r = record { number = r .number; offset = r .offset }
@@ -48,9 +42,3 @@ module _ (p q : Parts) where
       let t = one-trunk (refusal r) (refusal r′) (p .lead-filled) (q .lead-filled) (p .lead-spare) (q .lead-spare) (p .lent-filled) (q .lent-filled) (p .trunk-filled) (q .trunk-filled)
       (ap (λ (x : Either). record { number = x .number; offset = x .offset; value = x .trunk }) e) in
       (ap (λ (x : Either). record { number = x .number; offset = x .offset; family = x .family }) e, (o .1, o .2, o .3, o .4, t .1, t .2, t .3, t .4, t .5))
-
-  pub one-next-by : (r r′ : NextBy) → passedIn r p ≡ passedIn r′ q → (r ≡ r′) × Equal p q
-  one-next-by r r′ e =
-      let o = one-either (r .answer) (r′ .answer) (ap (λ (x : Passed Either). x .answer) e) in
-      let judged : Either → Judged = λ x. record { number = x .number; offset = x .offset; family = x .family } in
-      (ap (λ (x : Passed Either). record { after = x .after; ended = x .ended; answer = judged (x .answer) }) e, o .1)

@@ -1,2 +1,1 @@
 pub mod Profile
-pub mod Replies

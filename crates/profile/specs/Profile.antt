@@ -11,9 +11,7 @@ use Rattle.trunks.specs.declared.Trunk.{Trunk}
 use Rattle.trunks.specs.declared.TrunkAnswer.{TrunkAnswer}
 use Rattle.trunks.specs.Components.{noTrunk, readTrunk}
 use Rattle.trunks.specs.Stored.{trunkIn}
-use Rattle.pass.specs.Pass.{Reads, Passed}
 use Rattle.profile.specs.declared.Judged.{Judged}
-use Rattle.profile.specs.declared.NextBy.{NextBy}
 
 -- number, offset, the family that the octet names (1 of public lines, 2 of trunks, 0 none), and a record of each family, of which one at least is zero
 pub record Either : Type 0 where
@@ -35,10 +33,6 @@ ofNone n = record { number = n; offset = 0; family = 0; line = noRecord; trunk =
 unfoldable pub readBy : ℕ → List ℕ → Either
 readBy profile s = cond (eqb profile 0x91) (ofLine (readOf s)) (cond (eqb profile 0x9f) (ofTrunk (readTrunk s)) (ofNone 17))
 
--- both families, gone through by the element's own third octet
-abbrev pub families : Reads Either
-families = record { by = readBy; none = ofNone }
-
 -- ---- as it lies in the parts that are lent
 
 -- what is answered by value, and the records in four parts and five
@@ -49,11 +43,4 @@ eitherIn r front figure numbers rows lead lent trunkFigure trunkNumbers trunkRow
   family = r .family;
   line = recordIn front figure numbers rows;
   trunk = trunkIn lead lent (storedCharge trunkFigure trunkNumbers trunkRows);
-}
-
-abbrev pub nextIn : NextBy → List ℕ → List ℕ → List ℕ → List ℕ → List ℕ → List ℕ → List ℕ → List ℕ → List ℕ → Passed Either
-nextIn r front figure numbers rows lead lent trunkFigure trunkNumbers trunkRows = record {
-  ended = r .ended;
-  after = r .after;
-  answer = eitherIn (r .answer) front figure numbers rows lead lent trunkFigure trunkNumbers trunkRows;
 }

@@ -1,5 +1,5 @@
 -- The cases of the readings of request 1, through the definitions: one statement over one table. The finer numbers 40 to 45 count as 9.
-use Prim.Native.Nat.{ℕ, zero, suc}
+use Prim.Native.Nat.{ℕ}
 use mathlib.Core.Path.{_≡_, refl}
 use mathlib.Core.Bool.{cond}
 use mathlib.Core.List.{List, [], _∷_, map}
@@ -21,9 +21,10 @@ use Rattle.trunks.specs.Components.{carryingBody, trunkInvoke, trunkResult, fai
 use Rattle.types.specs.Entries.{unit}
 use Rattle.write.specs.declared.Written.{Written}
 use Rattle.write.specs.Outcome.{writeOf, leftOf}
-use Rattle.reply.specs.Reply.{identifierOf, replyGiven, leftGiven, replyOf, replyLeft}
+use Rattle.rejections.specs.Rejects.{identifierOf}
+use Rattle.reply.specs.Reply.{replyGiven, leftGiven, replyOf, replyLeft}
 use Rattle.profile.specs.Profile.{readBy}
-use Rattle.profile.specs.Replies.{replyProfile, leftProfile}
+use Rattle.profile_reply.specs.Replies.{replyProfile, leftProfile}
 
 -- a profile octet, octets, the number that reading them answers, and the number and the octets of the reply
 pub record ProfileCase : Type 0 where

@@ -140,9 +140,9 @@ fn charge_at(
     at: usize,
     end: usize,
     operation: u8,
+    figure: &mut [u8; 48],
     numbers: &mut [u32; 32],
     rows: &mut [u8; 192],
-    figure: &mut [u8; 48],
 ) -> read_elements::Empty
     requires { ⌜ end ≤ length (now s) ⌝ }
     requires { ⌜ Blank (now figure) (now numbers) (now rows) ⌝ }
@@ -151,7 +151,7 @@ fn charge_at(
     if read_lengths::is_tag(s, at, end, 0x05) {
         return read_elements::null_at(s, at, end, 0x05);
     }
-    read_lists::charge_into(s, at, end, operation, numbers, rows, figure)
+    read_lists::charge_into(s, at, end, operation, figure, numbers, rows)
 }
 
 // An argument or result that holds a charge. A refusal leaves nothing of it, whatever was read before.
@@ -167,7 +167,7 @@ fn carried(
     requires { ⌜ (now front ≡ replicate 8 0) × Blank (now figure) (now numbers) (now rows) ⌝ }
     ensures { λ r. ⌜ wholeAnswer r (now (front .exit)) (now (figure .exit)) (now (numbers .exit)) (now (rows .exit)) ≡ held (answered (tailOf (carrying (h .front .frame) (h .front .id) (h .front .operation)) h (now (s .entry)))) ⌝ }
 {
-    let f = charge_at(s, h.at, h.stop, h.front.operation, numbers, rows, figure);
+    let f = charge_at(s, h.at, h.stop, h.front.operation, figure, numbers, rows);
     let r = ended(h, f.fault, f.place, f.next);
     if ends_well(f.fault, r.number) {
         keep_front(front, h.front.frame, h.front.id, h.front.operation, 0);

@@ -14,9 +14,9 @@ pub fn units_in(
     s: &[u8],
     at: usize,
     end: usize,
+    figure: &mut [u8; 48],
     numbers: &mut [u32; 32],
     rows: &mut [u8; 192],
-    figure: &mut [u8; 48],
 ) -> read_elements::Empty
     requires { ⌜ end ≤ length (now s) ⌝ }
     requires { ⌜ Blank (now figure) (now numbers) (now rows) ⌝ }
@@ -55,9 +55,9 @@ pub fn rates_in(
     at: usize,
     end: usize,
     trunk: bool,
+    figure: &mut [u8; 48],
     numbers: &mut [u32; 32],
     rows: &mut [u8; 192],
-    figure: &mut [u8; 48],
 ) -> read_elements::Empty
     requires { ⌜ end ≤ length (now s) ⌝ }
     requires { ⌜ Blank (now figure) (now numbers) (now rows) ⌝ }

@@ -18,9 +18,9 @@ pub fn rates_at(
     at: usize,
     end: usize,
     trunk: bool,
+    figure: &mut [u8; 48],
     numbers: &mut [u32; 32],
     rows: &mut [u8; 192],
-    figure: &mut [u8; 48],
 ) -> read_elements::Empty
     requires { ⌜ end ≤ length (now s) ⌝ }
     requires { ⌜ Blank (now figure) (now numbers) (now rows) ⌝ }
@@ -30,7 +30,7 @@ pub fn rates_at(
     if e.fault != 0 {
         return read_figures::halted(e.fault, e.place);
     }
-    let r = read_entries::rates_in(s, e.value.start, e.value.stop, trunk, numbers, rows, figure);
+    let r = read_entries::rates_in(s, e.value.start, e.value.stop, trunk, figure, numbers, rows);
     if r.fault != 0 {
         return read_figures::halted(r.fault, r.place);
     }
@@ -48,9 +48,9 @@ fn price_in(
     at: usize,
     end: usize,
     operation: u8,
+    figure: &mut [u8; 48],
     numbers: &mut [u32; 32],
     rows: &mut [u8; 192],
-    figure: &mut [u8; 48],
 ) -> read_elements::Empty
     requires { ⌜ end ≤ length (now s) ⌝ }
     requires { ⌜ Blank (now figure) (now numbers) (now rows) ⌝ }
@@ -58,7 +58,7 @@ fn price_in(
     ensures clear { λ _. ⌜ Clear (now (figure .exit)) ⌝ }
 {
     if !read_terms::is_money(operation) {
-        return read_entries::units_in(s, at, end, numbers, rows, figure);
+        return read_entries::units_in(s, at, end, figure, numbers, rows);
     }
     let m = read_figures::money_at(s, at, end, false, figure);
     if m.fault != 0 {
@@ -74,9 +74,9 @@ fn priced_at(
     at: usize,
     end: usize,
     operation: u8,
+    figure: &mut [u8; 48],
     numbers: &mut [u32; 32],
     rows: &mut [u8; 192],
-    figure: &mut [u8; 48],
 ) -> read_elements::Empty
     requires { ⌜ end ≤ length (now s) ⌝ }
     requires { ⌜ Blank (now figure) (now numbers) (now rows) ⌝ }
@@ -96,9 +96,9 @@ fn priced_at(
         a.value.start,
         a.value.stop,
         operation,
+        figure,
         numbers,
         rows,
-        figure,
     );
     if p.fault != 0 {
         return read_figures::halted(p.fault, p.place);
@@ -129,9 +129,9 @@ fn settled_at(
     at: usize,
     end: usize,
     operation: u8,
+    figure: &mut [u8; 48],
     numbers: &mut [u32; 32],
     rows: &mut [u8; 192],
-    figure: &mut [u8; 48],
 ) -> read_elements::Empty
     requires { ⌜ end ≤ length (now s) ⌝ }
     requires { ⌜ Blank (now figure) (now numbers) (now rows) ⌝ }
@@ -141,7 +141,7 @@ fn settled_at(
     if read_lengths::is_tag(s, at, end, 0x81) {
         return read_figures::sign_at(s, at, end, 0x81, 1, figure);
     }
-    priced_at(s, at, end, operation, numbers, rows, figure)
+    priced_at(s, at, end, operation, figure, numbers, rows)
 }
 
 // The argument of operations 33 to 36.
@@ -150,9 +150,9 @@ fn figure_at(
     at: usize,
     end: usize,
     operation: u8,
+    figure: &mut [u8; 48],
     numbers: &mut [u32; 32],
     rows: &mut [u8; 192],
-    figure: &mut [u8; 48],
 ) -> read_elements::Empty
     requires { ⌜ end ≤ length (now s) ⌝ }
     requires { ⌜ Blank (now figure) (now numbers) (now rows) ⌝ }
@@ -167,9 +167,9 @@ fn figure_at(
         e.value.start,
         e.value.stop,
         operation,
+        figure,
         numbers,
         rows,
-        figure,
     );
     if u.fault != 0 {
         return read_figures::halted(u.fault, u.place);
@@ -198,19 +198,19 @@ pub fn charge_into(
     at: usize,
     end: usize,
     operation: u8,
+    figure: &mut [u8; 48],
     numbers: &mut [u32; 32],
     rows: &mut [u8; 192],
-    figure: &mut [u8; 48],
 ) -> read_elements::Empty
     requires { ⌜ end ≤ length (now s) ⌝ }
     requires { ⌜ Blank (now figure) (now numbers) (now rows) ⌝ }
     ensures { λ r. ⌜ whole r (now (figure .exit)) (now (numbers .exit)) (now (rows .exit)) ≡ shown noCharge ((available operation) .read (now (s .entry)) at end) ⌝ }
 {
     if !read_terms::is_tariff(operation) {
-        return figure_at(s, at, end, operation, numbers, rows, figure);
+        return figure_at(s, at, end, operation, figure, numbers, rows);
     }
     if read_terms::is_arranged(s, at, end, operation) {
         return read_figures::arrangement_at(s, at, end, figure);
     }
-    rates_at(s, at, end, false, numbers, rows, figure)
+    rates_at(s, at, end, false, figure, numbers, rows)
 }

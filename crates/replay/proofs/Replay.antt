@@ -1,12 +1,12 @@
 -- For every trace that is not refused, the slices hold its events, and each answer of the plain engine on them is what a host that keeps an account is answered.
-use Rattle.prelude.proofs.Prelude.{_≡_, refl, sym, ap, _∙_, ℕ, _+_, _*_, _≤_, arith, Bool, true, false, _&&_, cond, List, [], _∷_, _++_, length, take, drop, take-append-seam, eqb, leb, eqb-true}
+use Rattle.prelude.proofs.Prelude.{_≡_, refl, sym, ap, _∙_, ℕ, _*_, _≤_, arith, Bool, true, false, cond, List, length, take, drop, take-append-seam, eqb, eqb-true}
 use Rattle.prelude.proofs.Prelude.{eq-eqb, le-leb}
 use Rattle.phases.{specs.Phases.Given, proofs.Choice.never}
-use Rattle.events.{specs.Events.eventsOf, specs.Events.addsUp, specs.Laid.rowsOf, specs.Laid.octetsOf, proofs.Laid.rows-count}
-use Rattle.framing.specs.Framing.{Message, messagesOf, verdictOf}
+use Rattle.events.{specs.Events.eventsOf, specs.Laid.rowsOf, specs.Laid.octetsOf, proofs.Laid.rows-count}
+use Rattle.framing.specs.Framing.{messagesOf, verdictOf}
 use Rattle.messages.{specs.Trace.traceEvents, proofs.Theorems.not-refused, proofs.Theorems.total-is, proofs.Theorems.few-events}
 use Rattle.sizes.proofs.Bounds.{trace-back, trace-adds-up, few-octets}
-use Rattle.trace.specs.{declared.Laid.Laid, Into.eventsIn, Into.fitsIn, Into.laid, Into.laidOf, Into.laidOver, Into.rowsLeft, Into.octetsLeft}
+use Rattle.trace.specs.{declared.Laid.Laid, Into.eventsIn, Into.fitsIn, Into.laid, Into.laidOf, Into.rowsLeft, Into.octetsLeft}
 use Rattle.plain.proofs.Equal.{SameAnswers, plain-is-account}
 
 same-list : {rows octets : List ℕ} {l m : List Given} → l ≡ m → SameAnswers rows octets l → SameAnswers rows octets m

@@ -1,6 +1,6 @@
 -- Sets of services. Services are numbered 1 S, 2 D, 3 E; another number is no service and in no set.
 use Prim.Native.Nat.{ℕ}
-use mathlib.Core.Bool.{Bool, true, false, not, _||_, cond}
+use mathlib.Core.Bool.{Bool, false, not, _||_, cond}
 use lib.Dec.{eqb}
 use Rattle.requests.specs.declared.Services.{Services}
 

@@ -1,20 +1,20 @@
 -- What the scans test is what the rules of outcomes say: an outcome of a service hangs on that service's request alone.
-use Rattle.prelude.proofs.Prelude.{ℕ, _≡_, refl, sym, _∙_, ap, List, Bool, true, false, not, _&&_, _||_, cond, eqb, eqb-true, eq-eqb, ne-eqb, and-false, or-false, _≤_, leb, arith}
-use Rattle.types.specs.{declared.Charge.Charge, declared.Front.Front, declared.Record.Record, declared.Answer.Answer, Frames.readOf}
+use Rattle.prelude.proofs.Prelude.{ℕ, _≡_, refl, sym, _∙_, List, Bool, true, false, not, _&&_, cond, eqb, eqb-true, eq-eqb, ne-eqb, and-false, _≤_, leb, arith}
+use Rattle.types.specs.{declared.Charge.Charge, declared.Front.Front, declared.Record.Record, Frames.readOf}
 use Rattle.requests.specs.Sets.{has}
 use Rattle.same_final.specs.Same.{sameOf}
 use Rattle.phases.{specs.declared.Event.Event, specs.declared.Outcome.Outcome, specs.Phases.Suspended, specs.Phases.Setup, specs.Phases.Component, specs.Phases.S, specs.Phases.D, specs.Phases.E}
 use Rattle.phases.{specs.Phases.outcome, specs.Phases.noService, specs.Phases.allowed, specs.Phases.clashes, specs.Phases.Request, specs.Phases.clash}
 use Rattle.prelude.proofs.Ways.{by-cases}
 use Rattle.phases.proofs.Choice.{by-number, never, first-of, second-of}
-use Rattle.outcomes.{specs.Outcome.serviceOf, specs.Outcome.Requests, specs.Outcome.holderOf, specs.Outcome.Known, specs.Outcome.firstFinal, specs.Outcome.judgeFinal}
-use Rattle.outcomes.{specs.Outcome.judgeFailure, specs.Outcome.judgeRecord, specs.Outcome.judgeAnswer, specs.Outcome.judge, specs.Outcome.chargeIn, specs.Outcome.was, specs.Outcome.its}
+use Rattle.outcomes.{specs.Outcome.serviceOf, specs.Outcome.Requests, specs.Outcome.holderOf, specs.Outcome.Known, specs.Outcome.firstFinal}
+use Rattle.outcomes.{specs.Outcome.judgeFailure, specs.Outcome.judgeRecord, specs.Outcome.judge, specs.Outcome.chargeIn, specs.Outcome.was, specs.Outcome.its}
 use Rattle.outcomes.{specs.Outcome.settles}
-use Rattle.outcomes.specs.Outcome.{invokeService, isRefusal}
+use Rattle.outcomes.specs.Outcome.{isRefusal}
 use Rattle.phases.specs.ByNumber.{movingOf}
 use Rattle.outcomes.specs.ByNumber.{runsBy, closesBy, fitsBy, claimFigure, claimInvoke, claimResult, claimFrame, claimRecord}
 use Rattle.outcomes.proofs.Refusals.{decoding-refusal, apart}
-use Rattle.scans.specs.Claim.{bare, three, sole, claimAnswer, claimOf, compared}
+use Rattle.scans.specs.Claim.{bare, three, sole, claimOf, compared}
 
 by-way : (P : Outcome → Type 0) (b : Bool) (x y : Outcome) → P x → P y → P (cond b x y)
 by-way P true x y p q = p

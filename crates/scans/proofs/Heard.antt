@@ -1,5 +1,5 @@
 -- The outcome of one event at a status, by the code's tests.
-use Rattle.prelude.proofs.Prelude.{ℕ, _≡_, refl, sym, _∙_, ap, List, eq-eqb, ne-eqb}
+use Rattle.prelude.proofs.Prelude.{ℕ, _≡_, sym, _∙_, List, eq-eqb, ne-eqb}
 use Rattle.types.specs.{declared.Answer.Answer, Frames.readOf}
 use Rattle.phases.specs.{declared.Outcome.Outcome, declared.Status.Status, Phases.Idle, Phases.noService, Phases.Component, ByNumber.nextPhase}
 use Rattle.phases.proofs.Transitions.{next-none, next-some}

@@ -1,10 +1,8 @@
 -- What the places found by the scans say of a history.
-use Rattle.prelude.proofs.Prelude.{ℕ, zero, suc, _+_, _-_, _/_, _≤_, _<_, _≡_, refl, sym, _∙_, ap, List, [], _∷_, reverse, reverseAux, Bool, true, false, not, _&&_, _||_, cond, eqb, ltb, eqb-true}
+use Rattle.prelude.proofs.Prelude.{ℕ, zero, suc, _+_, _-_, _≤_, _≡_, refl, sym, _∙_, ap, List, [], _∷_, Bool, true, false, not, _&&_, _||_, cond, eqb, ltb, eqb-true}
 use Rattle.prelude.proofs.Prelude.{eqb-false, eq-eqb}
-use Rattle.prelude.proofs.Prelude.{or-false, or-true, and-false, arith, length, take, drop, le-ltb, lt-ltb, add-one, add-zero, add-suc, suc-add, zero-add, sub-zero, ltb-true, ltb-false, replicate}
-use Rattle.prelude.proofs.Prelude.{length-replicate}
-use Rattle.types.specs.{declared.Charge.Charge, Arguments.noCharge}
-use Rattle.phases.{specs.declared.Event.Event, specs.declared.Outcome.Outcome, specs.Phases.Idle, specs.Phases.Setup, specs.Phases.Component, specs.Phases.S, specs.Phases.D, specs.Phases.E}
+use Rattle.prelude.proofs.Prelude.{and-false, arith, ltb-true, ltb-false}
+use Rattle.phases.{specs.declared.Event.Event, specs.Phases.Idle, specs.Phases.Setup, specs.Phases.Component, specs.Phases.S, specs.Phases.D, specs.Phases.E}
 use Rattle.phases.{specs.Phases.Given}
 use Rattle.phases.{specs.Phases.outcome, specs.Phases.noService, specs.Phases.allowed, specs.Phases.leadsTo, specs.Phases.clashes, specs.Phases.Request, specs.Phases.noRequest}
 use Rattle.phases.{specs.Phases.requestFor, specs.Phases.clash}
@@ -12,15 +10,15 @@ use Rattle.phases.proofs.Choice.{if-same, by-number, never, first-of, second-of
 use Rattle.prelude.proofs.Ways.{by-cases}
 use Rattle.phases.proofs.Transitions.{to-idle, from-idle, setup-idle, component-stays}
 use Rattle.requests.specs.Sets.{has}
-use Rattle.outcomes.specs.Outcome.{Requests, holderOf, judge, chargeIn, was, its, settles, firstFinal}
-use Rattle.outcomes.proofs.Judging.{phased, phased-judge, unsettled-now, only-final}
-use Rattle.account.specs.History.{Judged, any, last, phase, named, pending, hasFinal, final, requests, known, judged}
-use Rattle.events.specs.Events.{rowAt, countAt}
+use Rattle.outcomes.specs.Outcome.{Requests, holderOf, judge, was, its, settles, firstFinal}
+use Rattle.outcomes.proofs.Judging.{phased-judge}
+use Rattle.account.specs.History.{Judged, any, phase, named, pending, hasFinal, requests, known, judged}
+use Rattle.events.specs.Events.{rowAt}
 use Rattle.events.proofs.Prefix.{before-next}
-use Rattle.events.specs.Prefix.{placeAt, octetsAt, givenAt, before}
+use Rattle.events.specs.Prefix.{octetsAt, givenAt, before}
 use Rattle.scans.specs.Scan.{FirstAt}
 use Rattle.phases.specs.ByNumber.{movingOf}
-use Rattle.scans.specs.Claim.{nextBy, bare, three, sole, claimOf, Asks}
+use Rattle.scans.specs.Claim.{nextBy, bare, three, sole, claimOf}
 use Rattle.scans.proofs.Claims.{judge-settles, judge-final, claim-settles, claim-final, holder-1, holder-2, holder-3}
 
 -- ---- the phase after one event more

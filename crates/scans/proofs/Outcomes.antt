@@ -1,8 +1,8 @@
 -- The outcome of event k, by the code's tests.
-use Rattle.prelude.proofs.Prelude.{ℕ, _+_, _-_, _≤_, _≡_, refl, sym, _∙_, ap, List, true, eqb, eq-eqb, ne-eqb, take, drop}
+use Rattle.prelude.proofs.Prelude.{ℕ, _+_, _-_, _≤_, _≡_, refl, sym, _∙_, ap, List, true, eq-eqb, ne-eqb, take, drop}
 use Rattle.types.specs.declared.Charge.{Charge}
 use Rattle.phases.specs.{declared.Event.Event, declared.Outcome.Outcome, declared.Status.Status, declared.Moving.Moving, Phases.Component, ByNumber.movingOf}
-use Rattle.outcomes.specs.Outcome.{Requests, Known, firstFinal, judgeFinal, judge, chargeIn, was}
+use Rattle.outcomes.specs.Outcome.{Requests, firstFinal, judgeFinal, judge, chargeIn, was}
 use Rattle.outcomes.specs.Status.{requestsOf}
 use Rattle.account.specs.History.{phase, requests, known, judged}
 use Rattle.events.specs.Events.{rowAt, countAt}

@@ -1,25 +1,25 @@
 -- The scans, one event more.
-use Rattle.prelude.proofs.Prelude.{ℕ, zero, suc, _+_, _-_, _/_, _≤_, _<_, _≡_, refl, sym, _∙_, ap, List, [], _∷_, Bool, true, false, not, _&&_, _||_, cond, eqb, ltb, eqb-true, eqb-false, eq-eqb}
-use Rattle.prelude.proofs.Prelude.{or-false, arith, length, take, drop, add-one, lt-ltb, le-ltb}
+use Rattle.prelude.proofs.Prelude.{ℕ, zero, suc, _+_, _-_, _≤_, _<_, _≡_, refl, sym, _∙_, ap, List, Bool, true, false, not, cond, eqb, ltb, eqb-true, eqb-false}
+use Rattle.prelude.proofs.Prelude.{arith, take, drop, lt-ltb, le-ltb}
 use Rattle.requests.specs.Sets.{emptySet}
 use Rattle.same_final.specs.Same.{sameOf}
 use Rattle.types.specs.declared.Charge.{Charge}
 use Rattle.phases.{specs.declared.Event.Event, specs.declared.Outcome.Outcome, specs.declared.Status.Status, specs.Phases.Idle, specs.Phases.Setup, specs.Phases.Component, specs.Phases.Given}
-use Rattle.phases.{specs.Phases.outcome, specs.Phases.allowed, specs.Phases.leadsTo, specs.Phases.clashes, specs.Phases.Request, specs.Phases.noRequest, specs.Phases.requestFor}
-use Rattle.phases.proofs.Choice.{if-same, by-number, never, first-of, second-of}
+use Rattle.phases.{specs.Phases.outcome, specs.Phases.allowed, specs.Phases.clashes, specs.Phases.Request, specs.Phases.noRequest, specs.Phases.requestFor}
+use Rattle.phases.proofs.Choice.{if-same, by-number, never}
 use Rattle.prelude.proofs.Ways.{by-cases}
 use Rattle.phases.proofs.Transitions.{from-idle}
-use Rattle.outcomes.specs.Outcome.{Requests, judge, judgeFinal, chargeIn, was, its, settles, firstFinal}
+use Rattle.outcomes.specs.Outcome.{judge, judgeFinal, chargeIn, was, its, settles, firstFinal}
 use Rattle.outcomes.specs.Status.{requestsOf}
 use Rattle.outcomes.proofs.Judging.{phased-judge, only-final}
-use Rattle.account.specs.History.{Judged, any, last, phase, named, pending, hasFinal, final, known, judged}
-use Rattle.events.specs.Events.{rowAt, countAt, addsUp}
+use Rattle.account.specs.History.{any, phase, named, pending, hasFinal, final, known, judged}
+use Rattle.events.specs.Events.{rowAt, countAt}
 use Rattle.events.specs.Prefix.{placeAt, octetsAt, givenAt, before}
-use Rattle.scans.specs.Scan.{Scan, Here, FirstAt}
+use Rattle.scans.specs.Scan.{Here, FirstAt}
 use Rattle.scans.specs.Claim.{nextBy, askOf, requestOf, sole, claimOf, Asks}
 use Rattle.scans.specs.declared.Ask.{Ask}
-use Rattle.scans.proofs.Histories.{phase-next, accepts, idle-unnamed, busy-kept, named-kept, settle-step, final-step, first-given, any-up, found-by, phase-more}
-use Rattle.events.proofs.Prefix.{before-next, place-next, ends-inside}
+use Rattle.scans.proofs.Histories.{accepts, idle-unnamed, busy-kept, named-kept, settle-step, final-step, first-given, any-up, found-by, phase-more}
+use Rattle.events.proofs.Prefix.{before-next, place-next}
 
 -- an event that leaves Idle is the accepted Setup
 accepted-of : (h : List Given) (g : Given) → phase (judged h) ≡ Idle → (nextBy 0 (g .event) ≡ 0 → ⊥) → accepts h g ≡ true

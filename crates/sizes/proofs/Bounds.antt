@@ -1,5 +1,5 @@
 -- The events of a trace fit slices as long as the trace, and are read off them again.
-use Rattle.prelude.proofs.Prelude.{_≡_, refl, sym, ap, _∙_, ℕ, zero, suc, _+_, _-_, _≤_, _<_, arith, Bool, true, false, not, _&&_, cond, List, [], _∷_, _++_, length, length-append, length-drop}
+use Rattle.prelude.proofs.Prelude.{_≡_, refl, ap, ℕ, zero, suc, _+_, _-_, _≤_, arith, Bool, true, false, _&&_, List, [], _∷_, _++_, length, length-append, length-drop}
 use Rattle.prelude.proofs.Prelude.{getD, leb, eqb, eqb-true, leb-true}
 use Rattle.coding.{specs.Reader.part, proofs.Basic.and-left, proofs.Basic.and-right, proofs.Parts.part-length}
 use Rattle.types.specs.Frames.{readOf}
@@ -8,13 +8,13 @@ use Rattle.prelude.proofs.Ways.{by-cases}
 use Rattle.facility.{specs.Cut.joined, proofs.Tiles.tiles}
 use Rattle.events.specs.Events.{eventsOf, addsUp}
 use Rattle.framing.specs.Framing.{elementEnd, elementsFit, typePlace, typeOf, headed, framed, Message, lengthsAddUp, messagesOf}
-use Rattle.messages.specs.Trace.{isClearing, reference, underAfter, tilesOf, componentsIn, componentsAt, componentsFrom, componentsOf, isRequest, firstRequest, componentEvents, setupBy}
+use Rattle.messages.specs.Trace.{reference, underAfter, tilesOf, componentsIn, componentsAt, componentsFrom, componentsOf, isRequest, firstRequest, componentEvents, setupBy}
 use Rattle.messages.specs.Trace.{phaseEvent, when, laidOut, givesBy, messageEvents, ofCall, clearedBy, allFramed, traceFrom, traceEvents}
 use Rattle.messages.specs.declared.Gives.{Gives}
 use Rattle.events.specs.Laid.{rowsOf, octetsOf}
 use Rattle.framing.proofs.Laws.{end-past, headed-long}
-use Rattle.events.proofs.Laid.{octets-append, Fine, AllFine, reads-back, adds-back}
-use Rattle.messages.proofs.{Theorems.total, Theorems.few-events, Theorems.from-count, Theorems.total-is, Theorems.tiles-found, Theorems.joined-append, Walk.tiles-are}
+use Rattle.events.proofs.Laid.{octets-append, AllFine, reads-back, adds-back}
+use Rattle.messages.proofs.{Theorems.total, Theorems.from-count, Theorems.total-is, Theorems.tiles-found, Theorems.joined-append, Walk.tiles-are}
 
 -- ---- marks are 0 or 1
 

@@ -1,6 +1,6 @@
 -- One run of events more is counted.
-use Rattle.prelude.proofs.Prelude.{_≡_, refl, sym, ap, _∙_, ℕ, suc, _+_, _-_, _≤_, arith, Bool, true, false, cond, List, [], _∷_, _++_, length, length-append, length-drop, getD, leb, eqb}
-use Rattle.prelude.proofs.Prelude.{eqb-true, eq-eqb, leb-true, leb-false}
+use Rattle.prelude.proofs.Prelude.{_≡_, refl, sym, ap, _∙_, ℕ, suc, _+_, _-_, _≤_, arith, Bool, true, false, cond, List, [], _∷_, _++_, length, length-append, length-drop, getD, leb}
+use Rattle.prelude.proofs.Prelude.{eq-eqb, leb-true, leb-false}
 use Rattle.coding.{specs.Reader.part, proofs.Parts.part-length}
 use Rattle.prelude.proofs.Ways.{by-cases}
 use Rattle.phases.specs.Phases.{Given, Clear, Connect, Released}

@@ -1,7 +1,7 @@
 // The size of a trace's event list: how many events it gives, and how many octets they have in all.
 ghost use mathlib.Core.Path.{_≡_};
 ghost use mathlib.Core.Bool.{true, false, cond};
-ghost use Prim.Native.Nat.{ℕ, suc, _≤_, _<_};
+ghost use Prim.Native.Nat.{suc, _≤_, _<_};
 ghost use lib.ListN.{length};
 ghost use Rattle.framing.specs.Framing.{message, elementEnd, elementsFit, framed, lengthsAddUp, messagesOf};
 ghost use Rattle.messages.specs.Trace.{componentsIn, componentsAt, componentsFrom, componentEvents, when, messageEvents, ofCall, allFramed, traceFrom};

@@ -1,14 +1,15 @@
 -- The functions by value, and that changing one slot by them is the table's step.
-use Rattle.prelude.proofs.Prelude.{ℕ, _%_, _<_, _≡_, refl, sym, ap, _∙_, List, Bool, true, false, not, eqb, eq-eqb, ne-eqb, eqb-true, eqb-false, cond, arith, length, getD, set, _⊎_, inl, inr}
+use Rattle.prelude.proofs.Prelude.{ℕ, _%_, _<_, _≡_, refl, sym, ap, _∙_, List, true, false, not, eqb, eq-eqb, ne-eqb, eqb-true, eqb-false, cond, arith, length, getD, set, _⊎_, inl, inr}
 use lib.Seq.{set-getD}
 use Rattle.phases.specs.{Phases.Setup, Phases.Ended, Phases.noService, Phases.clashes, Phases.allowed, ByNumber.movingOf}
 use Rattle.phases.specs.{declared.Event.Event, declared.Outcome.Outcome, declared.Moving.Moving}
 use Rattle.prelude.proofs.Ways.{by-cases}
-use Rattle.outcomes.specs.Outcome.{among, was}
-use Rattle.account.specs.{declared.Account.Account, declared.Stepped.Stepped, declared.Change.Change, History.fresh, History.freshStatus, History.stepped, Step.changed, Step.steppedOf, Step.closingOf}
-use Rattle.step.proofs.Steps.{phase-change}
+use Rattle.coding.specs.Reader.{among}
+use Rattle.outcomes.specs.Outcome.{was}
+use Rattle.account.specs.{declared.Account.Account, declared.Stepped.Stepped, History.fresh, History.freshStatus, History.stepped, Step.changed, Step.steppedOf, Step.closingOf}
+use Rattle.changes.proofs.Changes.{phase-change}
 use Rattle.slots.specs.declared.{Board.Board, Viewed.Viewed, Seat.Seat, Held.Held, Freed.Freed}
-use Rattle.slots.specs.Board.{keyOf, lowest, heldIn, isHeld, isFull, callOf, withSlot, Boarded, boarded, admitted, updated, eventOn, Emptied, emptied, uncollected, collectOn, viewOn}
+use Rattle.slots.specs.Board.{keyOf, lowest, heldIn, isHeld, isFull, callOf, withSlot, Boarded, boarded, admitted, eventOn, Emptied, emptied, uncollected, collectOn, viewOn}
 use Rattle.slots.specs.ByValue.{seated, seatOf, begun, takenUp, freed, freeOf, viewedOf}
 use Rattle.slots.proofs.Slots.{found, at-end, free-fewer, none-free}
 use Rattle.slots.proofs.Table.{yes, no}

@@ -11,11 +11,10 @@ use Rattle.types.specs.Entries.{unit}
 use Rattle.types.specs.Rates.{duration, flatRate, volume, coded, plainRate, price, rate}
 use Rattle.types.specs.Arguments.{sign, inMoney, inUnits, during, subtotals, ending, settled, withAssociation, finals, rates, arrangement, available, chargeOf}
 use Rattle.types.specs.Frames.{value, carrying, request, argument, invoke, returnResult, failed, returnError, caller, problem, problems, reject, frame, component, readWhole, readOf}
-use Rattle.requests.specs.Sets.{emptySet}
-use Rattle.amounts.specs.{Currency.trimmed, Currency.equalCurrency, Amounts.thousandths, Amounts.equalMoney}
+use Rattle.amounts.specs.{Currency.trimmed, Currency.equalCurrency, Amounts.equalMoney}
 use Rattle.same_final.specs.Same.{equalUnits, sameOf}
 use Rattle.outcomes.specs.Outcome.{judgeRecord, judge}
-use Rattle.phases.specs.Phases.{Setup, Connect, Clear, Released, Component, Suspend, Resume, allowed, leadsTo, Given, event}
+use Rattle.phases.specs.Phases.{Setup, Connect, Clear, Released, Suspend, Resume, allowed, leadsTo, Given, event}
 use Rattle.account.{specs.Step.changeOf, specs.Step.steppedOf, proofs.Examples.moves, proofs.Examples.says}
 use Rattle.slots.specs.Board.{lowest, heldIn, freshBoard, eventOn, collectOn}
 use Rattle.slots.specs.Calls.{Operation, happens, collects, Answer, outcome, collected, viewed, Done, runOn}

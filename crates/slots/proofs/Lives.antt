@@ -1,9 +1,9 @@
 -- Demand 3 for a call of the table, in its own words: what a host reads after each event of the call is what the rules pick out of the call's list of events, those refused 35 left out.
-use Rattle.prelude.proofs.Prelude.{ℕ, suc, _≡_, refl, sym, _∙_, ap, List, [], _∷_, _++_, Bool, true, false, _&&_, cond, eqb, eq-eqb, length, drop}
+use Rattle.prelude.proofs.Prelude.{ℕ, _≡_, refl, sym, _∙_, ap, List, [], _∷_, _++_, Bool, true, false, _&&_, eqb, eq-eqb, length, drop}
 use Rattle.phases.specs.{Phases.Given, Phases.noService, declared.Outcome.Outcome}
 use Rattle.prelude.proofs.Ways.{by-cases}
-use Rattle.outcomes.specs.Outcome.{judge, was}
-use Rattle.account.specs.{declared.Closing.Closing, History.judged, History.known, History.accountBy, History.currentRate, History.running, History.marks, History.Shown, History.shown}
+use Rattle.outcomes.specs.Outcome.{judge}
+use Rattle.account.specs.{declared.Closing.Closing, History.judged, History.known, History.currentRate, History.running, History.marks, History.Shown, History.shown}
 use Rattle.account.specs.{History.picked}
 use Rattle.account.proofs.Demand.{closing-stands}
 use Rattle.slots.specs.Board.{freshBoard}

@@ -1,12 +1,12 @@
 -- Refused, the table is as it was.
-use Rattle.prelude.proofs.Prelude.{ℕ, _≡_, refl, sym, _∙_, ap, List, Bool, true, false, cond, eqb, eqb-true, length, getD, set}
+use Rattle.prelude.proofs.Prelude.{ℕ, _≡_, refl, sym, _∙_, ap, List, true, false, eqb, eqb-true, getD, set}
 use lib.Seq.{set-getD}
-use Rattle.phases.{specs.Phases.Given, specs.declared.Outcome.Outcome, proofs.Choice.never}
+use Rattle.phases.{specs.Phases.Given, proofs.Choice.never}
 use Rattle.prelude.proofs.Ways.{by-cases}
 use Rattle.outcomes.specs.Outcome.{isRefusal, was}
 use Rattle.account.{specs.declared.Account.Account, specs.declared.Stepped.Stepped, specs.History.fresh, specs.Step.steppedOf, proofs.Demand.refused-nothing}
 use Rattle.slots.specs.declared.Board.{Board}
-use Rattle.slots.specs.Board.{keyOf, lowest, isHeld, isFull, callOf, withSlot, Boarded, boarded, admitted, updated, eventOn, Emptied, collectOn}
+use Rattle.slots.specs.Board.{keyOf, lowest, isHeld, isFull, callOf, withSlot, Boarded, eventOn, Emptied, collectOn}
 use Rattle.slots.specs.Calls.{isSetup}
 use Rattle.slots.proofs.Slots.{found}
 use Rattle.slots.proofs.Table.{yes, no, setup-held, setup-full, setup-new, other-held, other-none, collect-none, collect-early, collect-now}

@@ -1,17 +1,18 @@
 -- Any list of operations from a fresh table: each answer is that of the rules over the reference's own call, and no other call changes it.
-use Rattle.prelude.proofs.Prelude.{ℕ, zero, suc, _+_, _<_, _≤_, _≡_, refl, sym, _∙_, ap, subst, List, [], _∷_, map, _++_, Bool, true, false, not, _&&_, cond, Option, none, some, eqb, eqb-true}
-use Rattle.prelude.proofs.Prelude.{eqb-false, eq-eqb, ne-eqb, not-true, arith, length, getD, replicate, length-replicate, _↔_, _⊎_, inl, inr}
+use Rattle.prelude.proofs.Prelude.{ℕ, zero, suc, _<_, _≡_, refl, sym, _∙_, ap, subst, List, [], _∷_, Bool, true, false, not, cond, none, eqb, eqb-true}
+use Rattle.prelude.proofs.Prelude.{eqb-false, eq-eqb, ne-eqb, not-true, arith, getD, replicate, length-replicate, _↔_, _⊎_, inl, inr}
 use Rattle.phases.specs.{Phases.Given, Phases.noService, Phases.Setup, Phases.clashes, Phases.allowed, declared.Outcome.Outcome}
 use Rattle.prelude.proofs.Ways.{by-cases}
 use Rattle.phases.{proofs.Choice.by-number, proofs.Choice.never, proofs.Choice.first-of, proofs.Choice.second-of}
-use Rattle.outcomes.specs.Outcome.{among, was, judge}
-use Rattle.account.{specs.declared.Account.Account, specs.History.fresh, specs.History.judged, specs.History.known, specs.History.accountBy, proofs.Demand.step-stands}
+use Rattle.coding.specs.Reader.{among}
+use Rattle.outcomes.specs.Outcome.{was, judge}
+use Rattle.account.{specs.History.fresh, specs.History.judged, specs.History.known, specs.History.accountBy, proofs.Demand.step-stands}
 use Rattle.slots.specs.declared.Board.{Board}
-use Rattle.slots.specs.Board.{keyOf, lowest, heldIn, isHeld, isFull, callOf, freshBoard, withSlot, Boarded, boarded, admitted}
-use Rattle.slots.specs.Calls.{Operation, happens, collects, views, referenceOf, Answer, outcome, answerNumber, Done, did, answerOn, nextOn, runOn, afterAll, isSetup, isOpen, carried}
-use Rattle.slots.specs.Calls.{present, callsAfter, calls, ruling, ruledAll, own, ownDone, setupFull, noneFull, ruledAlone}
-use Rattle.slots.proofs.Slots.{differ, one-slot, found, none-lower}
-use Rattle.slots.proofs.Table.{yes, no, Sound, view, viewBy, none-full, setup-held, setup-full, setup-new, Went, goes}
+use Rattle.slots.specs.Board.{keyOf, lowest, heldIn, isHeld, isFull, freshBoard, withSlot, Boarded, boarded, admitted}
+use Rattle.slots.specs.Calls.{Operation, happens, collects, views, referenceOf, Answer, outcome, answerNumber, Done, did, answerOn, nextOn, runOn, afterAll, isSetup, carried}
+use Rattle.slots.specs.Calls.{present, calls, ruling, ruledAll, own, ownDone, setupFull, noneFull, ruledAlone}
+use Rattle.slots.proofs.Slots.{one-slot, found, none-lower}
+use Rattle.slots.proofs.Table.{yes, no, Sound, view, viewBy, none-full, setup-held, setup-full, setup-new, goes}
 
 -- ---- a table that stands for what was done, the latest first
 

@@ -1,10 +1,9 @@
 -- Keys and slots: what a search finds, and what another key in a slot changes. Lists alone.
-use Rattle.prelude.proofs.Prelude.{ℕ, zero, suc, _+_, _<_, _≤_, _≡_, refl, sym, _∙_, ap, List, [], _∷_, Bool, true, false, not, _&&_, _||_, cond, eqb, eqb-true, eqb-false, eq-eqb, ne-eqb}
-use Rattle.prelude.proofs.Prelude.{not-true, arith, length, getD, set, drop, length-set}
-use lib.Seq.{getD-set-same, getD-set-other}
+use Rattle.prelude.proofs.Prelude.{ℕ, zero, suc, _+_, _<_, _≤_, _≡_, refl, sym, _∙_, ap, List, [], _∷_, Bool, true, false, not, _&&_, _||_, cond, eqb, eqb-false, eq-eqb, ne-eqb}
+use Rattle.prelude.proofs.Prelude.{not-true, arith, length, getD, set, drop}
 use Rattle.prelude.proofs.Ways.{by-cases}
 use Rattle.phases.proofs.Choice.{by-number, never, first-of, second-of}
-use Rattle.outcomes.specs.Outcome.{among}
+use Rattle.coding.specs.Reader.{among}
 use Rattle.slots.specs.Board.{lowest, heldIn}
 
 -- ---- what a search finds

@@ -1,20 +1,19 @@
 -- One operation on the table: its answer and what it leaves are what the rules say over what the reference holds, and no other reference sees it.
-use Rattle.prelude.proofs.Prelude.{ℕ, zero, suc, _+_, _-_, _<_, _≤_, _≡_, refl, sym, _∙_, ap, subst, List, [], _∷_, Bool, true, false, not, _&&_, cond, Option, none, some, eqb, eqb-true}
-use Rattle.prelude.proofs.Prelude.{eqb-false, eq-eqb, ne-eqb, arith, length, getD, set, replicate, length-set, length-replicate}
+use Rattle.prelude.proofs.Prelude.{ℕ, suc, _-_, _<_, _≡_, refl, sym, _∙_, ap, subst, List, [], _∷_, Bool, true, false, cond, Option, none, some, eqb, eqb-true}
+use Rattle.prelude.proofs.Prelude.{eqb-false, arith, length, getD, set, length-set}
 use lib.Seq.{getD-set-same, getD-set-other, set-getD}
-use Rattle.phases.specs.{Phases.Given, Phases.Setup, Phases.Ended, Phases.noService, declared.Event.Event, declared.Outcome.Outcome}
+use Rattle.phases.specs.{Phases.Given, Phases.Setup, Phases.Ended, Phases.noService, declared.Outcome.Outcome}
 use Rattle.prelude.proofs.Ways.{by-cases}
-use Rattle.phases.{proofs.Choice.by-number, proofs.Choice.never}
-use Rattle.outcomes.specs.Outcome.{among, was, judge}
-use Rattle.account.{specs.declared.Account.Account, specs.declared.Stepped.Stepped, specs.History.judged, specs.History.known, specs.History.phase, specs.History.closing}
+use Rattle.coding.specs.Reader.{among}
+use Rattle.outcomes.specs.Outcome.{was, judge}
+use Rattle.account.{specs.declared.Account.Account, specs.History.judged, specs.History.known, specs.History.phase, specs.History.closing}
 use Rattle.account.{specs.History.accountBy, specs.History.fresh, specs.History.steppedBy}
 use Rattle.account.{specs.Step.steppedOf, specs.Step.closingOf, proofs.Demand.step-stands, proofs.Demand.closing-stands}
 use Rattle.slots.specs.declared.Board.{Board}
-use Rattle.slots.specs.declared.Collected.{Collected}
-use Rattle.slots.specs.Board.{uncollected, keyOf, lowest, heldIn, isHeld, isFull, callOf, withSlot, freshBoard, Boarded, boarded, admitted, updated, eventOn, Emptied, emptied, collectOn}
+use Rattle.slots.specs.Board.{uncollected, keyOf, lowest, heldIn, isHeld, isFull, callOf, withSlot, Boarded, boarded, admitted, updated, eventOn, Emptied, emptied, collectOn}
 use Rattle.slots.specs.Board.{viewOn}
-use Rattle.slots.specs.Calls.{Operation, happens, collects, views, referenceOf, Answer, outcome, collected, viewed, answerNumber, answerOn, nextOn, isSetup, isOpen, carried, callsAfter, ruling}
-use Rattle.slots.proofs.Slots.{found, missing, kept-among, kept-lowest, new-among, new-lowest, free-fewer, none-free, held-more, held-less, differ, differ-free, differ-new, gone}
+use Rattle.slots.specs.Calls.{Operation, happens, collects, views, referenceOf, Answer, outcome, collected, answerNumber, answerOn, nextOn, isSetup, carried, callsAfter, ruling}
+use Rattle.slots.proofs.Slots.{found, kept-among, kept-lowest, new-among, new-lowest, free-fewer, none-free, held-more, held-less, differ, differ-free, differ-new, gone}
 
 -- what every table has that is reached from the fresh one
 pub record Sound (b : Board) : Type 0 where

@@ -7,7 +7,8 @@ use lib.Dec.{eqb}
 use Rattle.phases.specs.declared.Event.{Event}
 use Rattle.phases.specs.declared.Outcome.{Outcome}
 use Rattle.phases.specs.Phases.{Setup, Ended, noService}
-use Rattle.outcomes.specs.Outcome.{among, was}
+use Rattle.coding.specs.Reader.{among}
+use Rattle.outcomes.specs.Outcome.{was}
 use Rattle.account.specs.declared.Account.{Account}
 use Rattle.account.specs.declared.Stepped.{Stepped}
 use Rattle.account.specs.History.{fresh, noClosing}

@@ -1,7 +1,7 @@
 -- Operations on a switchboard, and what the rules say of them over the list of what was done: no table, and no slot.
-use Prim.Native.Nat.{ℕ, suc, _+_, _-_}
-use mathlib.Core.List.{List, [], _∷_, map}
-use mathlib.Core.Bool.{Bool, true, false, not, _&&_, _||_, cond}
+use Prim.Native.Nat.{ℕ, suc, _-_}
+use mathlib.Core.List.{List, [], _∷_}
+use mathlib.Core.Bool.{Bool, true, false, not, _&&_, cond}
 use lib.Dec.{eqb}
 use Rattle.phases.specs.declared.Outcome.{Outcome}
 use Rattle.phases.specs.Phases.{Setup, Ended, noService, Given}

@@ -1,6 +1,6 @@
 -- Events laid into slices, one run after another.
-use Rattle.prelude.proofs.Prelude.{_≡_, refl, sym, ap, _∙_, ℕ, suc, _+_, _≤_, arith, List, [], _∷_, _++_, append-assoc, append-nil, length, length-append, length-set, take, take-length}
-use Rattle.prelude.proofs.Prelude.{towards-suc, set, Bool, true, false, cond}
+use Rattle.prelude.proofs.Prelude.{_≡_, refl, sym, ap, _∙_, ℕ, _+_, arith, List, [], _∷_, _++_, append-assoc, append-nil, length, length-append, length-set, take, take-length}
+use Rattle.prelude.proofs.Prelude.{towards-suc, set}
 use Rattle.coding.{specs.Written.Wrote, specs.Written.Room, proofs.Writing.wrote-both, proofs.Writing.wrote-as, proofs.Writing.wrote-none, proofs.Writing.wrote-next}
 use Rattle.phases.specs.{declared.Event.Event, Phases.Given, Phases.event}
 use Rattle.trace.specs.declared.Put.{Put}

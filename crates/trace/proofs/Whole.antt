@@ -1,14 +1,14 @@
 -- The list of a whole trace: the call's reference, the room that the list needs, and what the slices then hold.
-use Rattle.prelude.proofs.Prelude.{_≡_, refl, sym, ap, _∙_, ℕ, zero, suc, _+_, _-_, _*_, _/_, _≤_, _<_, arith, zero-add, Bool, true, false, _&&_, cond, List, [], _∷_, _++_, length, getD, take}
-use Rattle.prelude.proofs.Prelude.{drop, sets-eq, eqb, leb, eqb-true, eq-eqb, ne-eqb, le-leb, lt-leb}
+use Rattle.prelude.proofs.Prelude.{_≡_, refl, sym, ap, _∙_, ℕ, suc, _+_, _-_, _/_, _≤_, _<_, arith, zero-add, Bool, true, false, cond, List, _++_, length, getD, take}
+use Rattle.prelude.proofs.Prelude.{drop, sets-eq, eqb, eq-eqb, ne-eqb, le-leb, lt-leb}
 use Rattle.phases.specs.Phases.{Given}
-use Rattle.coding.{specs.Written.Wrote, specs.Written.Room, proofs.Basic.and-left}
+use Rattle.coding.{specs.Written.Wrote, proofs.Basic.and-left}
 use Rattle.events.{specs.Laid.rowsOf, specs.Laid.octetsOf, proofs.Laid.rows-count}
 use Rattle.framing.specs.{declared.Verdict.Verdict, Framing.framed, Framing.lengthsAddUp, Framing.messagesFrom, Framing.messagesOf, Framing.verdictOf}
 use Rattle.framing.proofs.Laws.{passing-starts, inside}
 use Rattle.messages.specs.Trace.{reference, allFramed, traceFrom, traceEvents}
 use Rattle.sizes.specs.{declared.Size.Size, Sizes.Sizes}
-use Rattle.trace.specs.{declared.Put.Put, declared.Laid.Laid, Into.eventsIn, Into.fitsIn, Into.laid, Into.roomOf, Into.laidOf, Into.laidOver, Into.rowsLeft, Into.octetsLeft, Putting.Puts}
+use Rattle.trace.specs.{declared.Put.Put, declared.Laid.Laid, Into.eventsIn, Into.fitsIn, Into.laid, Into.laidOf, Into.rowsLeft, Into.octetsLeft, Putting.Puts}
 use Rattle.trace.specs.{Putting.Rooms, Putting.Lays}
 
 -- ---- the call's reference

@@ -197,7 +197,7 @@ fn put_setup(rows: &mut [u16], p: Put, s: &[u8], start: usize, given: bool) -> P
     if !given {
         return p;
     }
-    let e = messages::setup_of(s, start);
+    let e = setups::setup_of(s, start);
     put_bare(rows, p, e)
 }
 

@@ -22,9 +22,9 @@ fn charge_at(
     at: usize,
     end: usize,
     form: u8,
+    figure: &mut [u8; 48],
     numbers: &mut [u32; 32],
     rows: &mut [u8; 192],
-    figure: &mut [u8; 48],
 ) -> read_elements::Empty
     requires { ⌜ end ≤ length (now s) ⌝ }
     requires { ⌜ Blank (now figure) (now numbers) (now rows) ⌝ }
@@ -39,7 +39,7 @@ fn charge_at(
     if read_lengths::is_tag(s, at, end, 0x05) {
         return read_figures::sign_at(s, at, end, 0x05, 0, figure);
     }
-    read_lists::rates_at(s, at, end, true, numbers, rows, figure)
+    read_lists::rates_at(s, at, end, true, figure, numbers, rows)
 }
 
 // What stands before the extension.
@@ -49,9 +49,9 @@ fn inner_at(
     end: usize,
     form: u8,
     front: &mut [u8; 48],
+    figure: &mut [u8; 48],
     numbers: &mut [u32; 32],
     rows: &mut [u8; 192],
-    figure: &mut [u8; 48],
 ) -> read_elements::Empty
     requires { ⌜ end ≤ length (now s) ⌝ }
     requires { ⌜ (now front ≡ replicate 48 0) × Blank (now figure) (now numbers) (now rows) ⌝ }
@@ -73,7 +73,7 @@ fn inner_at(
     if form == 65 {
         return trunk_fields::diverting_at(s, at, end, front, figure);
     }
-    charge_at(s, at, end, form, numbers, rows, figure)
+    charge_at(s, at, end, form, figure, numbers, rows)
 }
 
 // ---- arguments and results
@@ -86,9 +86,9 @@ fn extended_at(
     form: u8,
     front: &mut [u8; 48],
     lent: &mut [u8; 244],
+    figure: &mut [u8; 48],
     numbers: &mut [u32; 32],
     rows: &mut [u8; 192],
-    figure: &mut [u8; 48],
 ) -> read_elements::Empty
     requires { ⌜ end ≤ length (now s) ⌝ }
     requires { ⌜ Bare (now front) (now lent) (now figure) (now numbers) (now rows) ⌝ }
@@ -105,9 +105,9 @@ fn extended_at(
         e.value.stop,
         form,
         front,
+        figure,
         numbers,
         rows,
-        figure,
     );
     if b.fault != 0 {
         return read_figures::halted(b.fault, b.place);
@@ -142,9 +142,9 @@ pub fn argument_at(
     operation: u8,
     front: &mut [u8; 48],
     lent: &mut [u8; 244],
+    figure: &mut [u8; 48],
     numbers: &mut [u32; 32],
     rows: &mut [u8; 192],
-    figure: &mut [u8; 48],
 ) -> read_elements::Empty
     requires { ⌜ (end ≤ length (now s)) × (oneOf trunkOperations operation ≡ true) ⌝ }
     requires { ⌜ Bare (now front) (now lent) (now figure) (now numbers) (now rows) ⌝ }
@@ -154,7 +154,7 @@ pub fn argument_at(
     if operation == 60 {
         return dummy_at(s, at, end, lent);
     }
-    extended_at(s, at, end, operation, front, lent, numbers, rows, figure)
+    extended_at(s, at, end, operation, front, lent, figure, numbers, rows)
 }
 
 // The result of 59; else that of 64.
@@ -165,9 +165,9 @@ pub fn result_at(
     operation: u8,
     front: &mut [u8; 48],
     lent: &mut [u8; 244],
+    figure: &mut [u8; 48],
     numbers: &mut [u32; 32],
     rows: &mut [u8; 192],
-    figure: &mut [u8; 48],
 ) -> read_elements::Empty
     requires { ⌜ end ≤ length (now s) ⌝ }
     requires { ⌜ Bare (now front) (now lent) (now figure) (now numbers) (now rows) ⌝ }
@@ -175,7 +175,7 @@ pub fn result_at(
     ensures spare { λ _. ⌜ Spare (now (front .exit)) ⌝ }
 {
     if operation == 59 {
-        return extended_at(s, at, end, 1, front, lent, numbers, rows, figure);
+        return extended_at(s, at, end, 1, front, lent, figure, numbers, rows);
     }
-    extended_at(s, at, end, 2, front, lent, numbers, rows, figure)
+    extended_at(s, at, end, 2, front, lent, figure, numbers, rows)
 }

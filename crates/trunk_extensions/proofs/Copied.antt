@@ -1,6 +1,6 @@
 -- Octets copied into an extension's places.
-use Rattle.prelude.proofs.Prelude.{ℕ, _+_, _-_, _≤_, _≡_, refl, sym, ap, _∙_, List, [], _∷_, _++_, append-nil, Bool, true, arith, length, set}
-use Rattle.coding.{specs.Reader.part, specs.Codec.pad, proofs.Parts.part-length}
+use Rattle.prelude.proofs.Prelude.{ℕ, _+_, _-_, _≤_, _≡_, refl, sym, ap, _∙_, List, [], _∷_, append-nil, Bool, true, arith, set}
+use Rattle.coding.{specs.Reader.part, proofs.Parts.part-length}
 use Rattle.coding.{specs.Reader.Ans, specs.Reader.Reader, specs.Reader.Fault, specs.Reader.Ans.got, specs.Reader.Ans.halt, specs.Shown.shown, specs.Kept.keeping, proofs.Reading.some-code}
 use Rattle.types.proofs.Places.{Ends}
 use Rattle.coding.{specs.Reader.after, specs.Reader.opened, specs.Kept.judgedAlone, specs.Kept.asReceived, specs.Codec.canonical, specs.Codec.over, proofs.Reading.flat, proofs.Reading.stay}

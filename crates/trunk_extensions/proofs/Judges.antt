@@ -1,5 +1,5 @@
 -- Where a judge's answer lies, whichever it is.
-use Rattle.prelude.proofs.Prelude.{ℕ, _≤_, List, length, eqb, _≡_}
+use Rattle.prelude.proofs.Prelude.{ℕ, _≤_, List, eqb}
 use Rattle.prelude.proofs.Ways.{by-cases}
 use Rattle.types.proofs.{Places.Ends, Faults.Unnamed}
 use Rattle.trunks.proofs.Faults.{one-stays, list-stays}

@@ -1,8 +1,8 @@
 -- Values of a trunk's lists.
-use Rattle.prelude.proofs.Prelude.{ℕ, _+_, _-_, _≤_, _<_, min, arith, _≡_, refl, sym, _∙_, Bool, true, false, not, List, length, ltb, leb, eqb, lt-ltb}
+use Rattle.prelude.proofs.Prelude.{ℕ, _+_, _-_, _≤_, _<_, min, arith, _≡_, refl, sym, _∙_, Bool, true, false, not, List, length, leb, eqb, lt-ltb}
 use Rattle.prelude.proofs.Prelude.{le-ltb, lt-leb, not-true, not-false}
 use Rattle.coding.{specs.Reader.part, specs.Contents.negative, specs.Contents.numberFrom}
-use Rattle.coding.specs.{Codec.oneOf, Codec.all, Leaves.listing, Shown.verdict}
+use Rattle.coding.specs.{Codec.oneOf, Leaves.listing, Shown.verdict}
 use Rattle.prelude.proofs.Ways.{by-cases}
 use Rattle.coding.{proofs.Parts.part-length}
 use Rattle.trunks.specs.Components.{trunkOperations}

@@ -1,6 +1,5 @@
 -- Extensions: those that are there, how many octets they take, and their octets.
-use Rattle.prelude.proofs.Prelude.{ℕ, _+_, _≤_, _≡_, sym, ap, _∙_, [], _∷_, _++_, true, cond, arith, length, take, length-append, length-take, eqb, eqb-true, eqb-false, eq-eqb}
-use Rattle.prelude.proofs.Prelude.{ne-eqb}
+use Rattle.prelude.proofs.Prelude.{ℕ, _+_, _≤_, _≡_, sym, ap, _∙_, [], _∷_, _++_, true, cond, arith, length, take, length-append, length-take, eqb, eqb-true, eqb-false, eq-eqb, ne-eqb}
 use Rattle.coding.{specs.Reader.Reader, specs.Codec.canonical, specs.Codec.over, specs.Codec.sort, specs.Codec.nothing, specs.Codec.lengthOctets, specs.Kept.asReceived, specs.Written.lead}
 use Rattle.coding.proofs.Basic.{and-left, and-right, picked, unpicked}
 use Rattle.prelude.proofs.Ways.{by-cases}
@@ -80,7 +79,7 @@ module _ (x : Extension) where
   kept-size tag = omega (arith, length-append (lengthOctets (length (keptOctets x))) (keptOctets x))
 
   -- n octets, whatever the tag; none where there is none
-  abbrev Sized : ℕ → Type 0
+  abbrev pub Sized : ℕ → Type 0
   Sized n = (tag : ℕ) → n ≡ cond (eqb (x .kind) 0) 0 (length (extensionOctets tag x))
 
   pub size-none : x .kind ≡ 0 → Sized 0

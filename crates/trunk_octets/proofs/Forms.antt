@@ -1,7 +1,6 @@
 -- What stands before the extension, by its form: what a valid one holds, and its octets.
 use Rattle.prelude.proofs.Prelude.{ℕ, _+_, _-_, _*_, _≤_, _<_, _≡_, refl, sym, ap, _∙_, List, [], _∷_, _++_, append-assoc, Bool, true, _&&_, arith, length, getD, take, drop}
-use Rattle.prelude.proofs.Prelude.{length-append, length-take, length-drop}
-use Rattle.prelude.proofs.Prelude.{length-take-le, getD-take, getD-drop, eqb, eqb-true, ne-eqb, leb-true, leb}
+use Rattle.prelude.proofs.Prelude.{length-append, length-take, length-drop, length-take-le, getD-take, getD-drop, eqb, eqb-true, ne-eqb, leb-true, leb}
 use Rattle.coding.{specs.Reader.part, specs.Codec.canonical, specs.Codec.over, specs.Codec.pair, specs.Codec.prim, specs.Codec.cons, specs.Codec.any·more, specs.Codec.all, specs.Codec.writeAll}
 use Rattle.coding.{specs.Rows.table, specs.Leaves.number, specs.Written.lead, specs.Written.fullNumber, proofs.Basic.and-left, proofs.Basic.and-right, proofs.Rows.rows-table}
 use Rattle.coding.{proofs.Rows.table-length}
@@ -10,12 +9,12 @@ use Rattle.types.specs.{declared.Figure.Figure, declared.Charge.Charge, Charges
 use Rattle.types.specs.Arguments.{noCharge, sameCharge}
 use Rattle.write_tests.specs.Fine.{laid}
 use Rattle.trunks.specs.Extensions.{noExtension, sameExtension}
-use Rattle.trunks.specs.{Stored.modesIn, Bodies.sameBody, Bodies.sameModes, Bodies.askingFor, Bodies.modes, Bodies.detail, Bodies.detailed, Bodies.charged}
-use Rattle.trunks.specs.{Bodies.charging, Bodies.naming}
+use Rattle.trunks.specs.{Stored.modesIn, Bodies.sameBody, Bodies.sameModes, Bodies.askingFor, Bodies.modes, Bodies.detail, Bodies.detailed, Bodies.charged, Bodies.charging, Bodies.naming}
 use Rattle.trunks.specs.Bodies.{chargeFor}
 use Rattle.trunks.specs.Forms.{innerIn, users, diverting, innerOf}
-use Rattle.trunk_octets.specs.{Octets.innerGiven, Octets.mode, Octets.modeAt, Octets.modesOf, Octets.modesOctets}
+use Rattle.trunk_octets.specs.{Octets.mode, Octets.modeAt, Octets.modesOf, Octets.modesOctets}
 use Rattle.trunk_octets.specs.Octets.{detailIn, usersOctets}
+use Rattle.trunk_octets.proofs.Given.{Parts, inner}
 
 -- ---- modes
 
@@ -94,79 +93,77 @@ module _ (front : List ℕ) (c : Charge) (long : length front ≡ 48) (v : modes
 abbrev Users : List ℕ → List ℕ → Type 0
 Users front figure = ((partyNumber true) .valid (associationIn front) ≡ true) × ((association true) .valid (associationIn figure) ≡ true)
 
-module _ {form : ℕ} (front figure numbers rows : List ℕ) where
-  pub inner-1 : form ≡ 1 → (innerOf form) .write (innerGiven front figure numbers rows) ≡ fullNumber 0x0a (detailIn front)
+module _ {form : ℕ} (five : Parts) where
+  pub inner-1 : form ≡ 1 → (innerOf form) .write (inner five) ≡ fullNumber 0x0a (detailIn (five .front))
   unfolding innerOf innerIn detail canonical over
-  inner-1 e = rw e (number-write 0x0a 0 6 (detailIn front))
+  inner-1 e = rw e (number-write 0x0a 0 6 (detailIn (five .front)))
 
-  pub inner-2 : form ≡ 2 → (innerOf form) .write (innerGiven front figure numbers rows) ≡ fullNumber 0x0a (detailIn front)
+  pub inner-2 : form ≡ 2 → (innerOf form) .write (inner five) ≡ fullNumber 0x0a (detailIn (five .front))
   unfolding innerOf innerIn detail canonical over
-  inner-2 e = rw e (number-write 0x0a 0 2 (detailIn front))
+  inner-2 e = rw e (number-write 0x0a 0 2 (detailIn (five .front)))
 
-  pub inner-59 : form ≡ 59 → (innerOf form) .write (innerGiven front figure numbers rows) ≡ modes .write (innerGiven front figure numbers rows)
+  pub inner-59 : form ≡ 59 → (innerOf form) .write (inner five) ≡ modes .write (inner five)
   unfolding innerOf
   inner-59 e = rw e
 
-  pub inner-64 : form ≡ 64 → (innerOf form) .write (innerGiven front figure numbers rows) ≡ usersOctets (associationIn front) (associationIn figure)
+  pub inner-64 : form ≡ 64 → (innerOf form) .write (inner five) ≡ usersOctets (associationIn (five .front)) (associationIn (five .figure))
   unfolding innerOf innerIn users canonical over pair figureIn
   inner-64 e = rw e
 
-  pub inner-65 : form ≡ 65 → (innerOf form) .write (innerGiven front figure numbers rows) ≡ usersOctets (associationIn front) (associationIn figure) ++ fullNumber 0x0a (detailIn front)
+  pub inner-65 : form ≡ 65 → (innerOf form) .write (inner five) ≡ usersOctets (associationIn (five .front)) (associationIn (five .figure)) ++ fullNumber 0x0a (detailIn (five .front))
   unfolding innerOf innerIn diverting canonical over pair figureIn
   inner-65 e =
-      rw (e, number-write 0x0a 0 3 (detailIn front))
-      (sym (append-assoc ((partyNumber true) .write (associationIn front)) ((association true) .write (associationIn figure)) (fullNumber 0x0a (detailIn front))))
+      rw (e, number-write 0x0a 0 3 (detailIn (five .front)))
+      (sym (append-assoc ((partyNumber true) .write (associationIn (five .front))) ((association true) .write (associationIn (five .figure))) (fullNumber 0x0a (detailIn (five .front)))))
 
   -- what a valid one holds
-  pub low-1 : form ≡ 1 → (innerOf form) .valid (innerGiven front figure numbers rows) ≡ true → detailIn front < 128
+  pub low-1 : form ≡ 1 → (innerOf form) .valid (inner five) ≡ true → detailIn (five .front) < 128
   unfolding innerOf innerIn detail canonical over prim number
   low-1 e v =
-      let w : sameBody (detailed (detailIn front)) (innerGiven front figure numbers rows) && (leb 0 (detailIn front) && leb (detailIn front) 6) ≡ true = rw e at v in
-      omega (arith, leb-true (detailIn front) 6 (and-right (leb 0 (detailIn front)) _ (and-right (sameBody (detailed (detailIn front)) (innerGiven front figure numbers rows)) _ w)))
+      let w : sameBody (detailed (detailIn (five .front))) (inner five) && (leb 0 (detailIn (five .front)) && leb (detailIn (five .front)) 6) ≡ true = rw e at v in
+      omega (arith, leb-true (detailIn (five .front)) 6 (and-right (leb 0 (detailIn (five .front))) _ (and-right (sameBody (detailed (detailIn (five .front))) (inner five)) _ w)))
 
-  pub low-2 : form ≡ 2 → (innerOf form) .valid (innerGiven front figure numbers rows) ≡ true → detailIn front < 128
+  pub low-2 : form ≡ 2 → (innerOf form) .valid (inner five) ≡ true → detailIn (five .front) < 128
   unfolding innerOf innerIn detail canonical over prim number
   low-2 e v =
-      let w : sameBody (detailed (detailIn front)) (innerGiven front figure numbers rows) && (leb 0 (detailIn front) && leb (detailIn front) 2) ≡ true = rw e at v in
-      omega (arith, leb-true (detailIn front) 2 (and-right (leb 0 (detailIn front)) _ (and-right (sameBody (detailed (detailIn front)) (innerGiven front figure numbers rows)) _ w)))
+      let w : sameBody (detailed (detailIn (five .front))) (inner five) && (leb 0 (detailIn (five .front)) && leb (detailIn (five .front)) 2) ≡ true = rw e at v in
+      omega (arith, leb-true (detailIn (five .front)) 2 (and-right (leb 0 (detailIn (five .front))) _ (and-right (sameBody (detailed (detailIn (five .front))) (inner five)) _ w)))
 
-  pub asks-59 : form ≡ 59 → (innerOf form) .valid (innerGiven front figure numbers rows) ≡ true → modes .valid (innerGiven front figure numbers rows) ≡ true
+  pub asks-59 : form ≡ 59 → (innerOf form) .valid (inner five) ≡ true → modes .valid (inner five) ≡ true
   unfolding innerOf
   asks-59 e v = rw e at v
 
-  pub users-64 : form ≡ 64 → (innerOf form) .valid (innerGiven front figure numbers rows) ≡ true → Users front figure
+  pub users-64 : form ≡ 64 → (innerOf form) .valid (inner five) ≡ true → Users (five .front) (five .figure)
   unfolding innerOf innerIn users canonical over pair figureIn
   users-64 e v =
-      let n = (partyNumber true) .valid (associationIn front) in
-      let a = (association true) .valid (associationIn figure) in
-      let w : sameBody (naming 0 0 (associationIn front) (associationIn figure)) (innerGiven front figure numbers rows) && (n && a) ≡ true = rw e at v in
-      let p = and-right (sameBody (naming 0 0 (associationIn front) (associationIn figure)) (innerGiven front figure numbers rows)) _ w in
+      let n = (partyNumber true) .valid (associationIn (five .front)) in
+      let a = (association true) .valid (associationIn (five .figure)) in
+      let w : sameBody (naming 0 0 (associationIn (five .front)) (associationIn (five .figure))) (inner five) && (n && a) ≡ true = rw e at v in
+      let p = and-right (sameBody (naming 0 0 (associationIn (five .front)) (associationIn (five .figure))) (inner five)) _ w in
       (and-left n a p, and-right n a p)
 
-  pub users-65 : form ≡ 65 → (innerOf form) .valid (innerGiven front figure numbers rows) ≡ true → Users front figure × (detailIn front < 128)
+  pub users-65 : form ≡ 65 → (innerOf form) .valid (inner five) ≡ true → Users (five .front) (five .figure) × (detailIn (five .front) < 128)
   unfolding innerOf innerIn diverting canonical over pair prim number figureIn
   users-65 e v =
-      let n = (partyNumber true) .valid (associationIn front) in
-      let a = (association true) .valid (associationIn figure) in
-      let d = detailIn front in
-      let w : sameBody (naming d 0 (associationIn front) (associationIn figure)) (innerGiven front figure numbers rows) && (n && (a && (leb 0 d && leb d 3))) ≡ true = rw e at v in
-      let p = and-right (sameBody (naming d 0 (associationIn front) (associationIn figure)) (innerGiven front figure numbers rows)) _ w in
+      let n = (partyNumber true) .valid (associationIn (five .front)) in
+      let a = (association true) .valid (associationIn (five .figure)) in
+      let d = detailIn (five .front) in
+      let w : sameBody (naming d 0 (associationIn (five .front)) (associationIn (five .figure))) (inner five) && (n && (a && (leb 0 d && leb d 3))) ≡ true = rw e at v in
+      let p = and-right (sameBody (naming d 0 (associationIn (five .front)) (associationIn (five .figure))) (inner five)) _ w in
       let q = and-right n _ p in
       ((and-left n _ p, and-left a _ q), omega (arith, leb-true d 3 (and-right (leb 0 d) _ (and-right a _ q))))
 
-  module _ {f : Figure} (is : f ≡ figureIn figure) (a : form ≡ 1 → ⊥) (b : form ≡ 2 → ⊥) (c : form ≡ 59 → ⊥) (d : form ≡ 64 → ⊥) (e : form ≡ 65 → ⊥) where
+  module _ {f : Figure} (is : f ≡ figureIn (five .figure)) (a : form ≡ 1 → ⊥) (b : form ≡ 2 → ⊥) (c : form ≡ 59 → ⊥) (d : form ≡ 64 → ⊥) (e : form ≡ 65 → ⊥) where
     abbrev ofFigure : Charge
-    ofFigure = record { figure = f; entries = laid numbers rows }
+    ofFigure = record { figure = f; entries = laid (five .numbers) (five .rows) }
 
-    pub inner-charge : (innerOf form) .write (innerGiven front figure numbers rows) ≡ (chargeFor form) .write ofFigure
+    pub inner-charge : ((innerOf form) .write (inner five) ≡ (chargeFor form) .write ofFigure) × ((innerOf form) .valid (inner five) ≡ true → (chargeFor form) .valid ofFigure ≡ true)
     unfolding innerOf innerIn charged canonical over
-    inner-charge =
-        rw (ne-eqb form 1 a, ne-eqb form 2 b, ne-eqb form 59 c, ne-eqb form 64 d, ne-eqb form 65 e)
-        (ap (λ (g : Figure). (chargeFor form) .write (record { figure = g; entries = laid numbers rows })) (sym is))
-
-    pub charge-valid : (innerOf form) .valid (innerGiven front figure numbers rows) ≡ true → (chargeFor form) .valid ofFigure ≡ true
-    unfolding innerOf innerIn charged canonical over
-    charge-valid v =
-        let w = rw (ne-eqb form 1 a, ne-eqb form 2 b, ne-eqb form 59 c, ne-eqb form 64 d, ne-eqb form 65 e) at v in
-        ap (λ (g : Figure). (chargeFor form) .valid (record { figure = g; entries = laid numbers rows })) is
-        ∙ and-right (sameBody (charging (storedCharge figure numbers rows)) (innerGiven front figure numbers rows)) _ w
+    inner-charge = (
+      rw (ne-eqb form 1 a, ne-eqb form 2 b, ne-eqb form 59 c, ne-eqb form 64 d, ne-eqb form 65 e)
+          (ap (λ (g : Figure). (chargeFor form) .write (record { figure = g; entries = laid (five .numbers) (five .rows) })) (sym is)),
+      λ v.
+          let w = rw (ne-eqb form 1 a, ne-eqb form 2 b, ne-eqb form 59 c, ne-eqb form 64 d, ne-eqb form 65 e) at v in
+          ap (λ (g : Figure). (chargeFor form) .valid (record { figure = g; entries = laid (five .numbers) (five .rows) })) is
+          ∙ and-right (sameBody (charging (storedCharge (five .figure) (five .numbers) (five .rows))) (inner five)) _ w,
+    )

@@ -1,26 +1,23 @@
 -- What a frame holds, by its kind: what a valid component has, and its octets.
-use Rattle.prelude.proofs.Prelude.{ℕ, _+_, _≤_, _<_, _≡_, refl, sym, ap, ap₂, _∙_, List, _++_, true, false, _&&_, cond, _⊎_, inl, inr}
-use Rattle.prelude.proofs.Prelude.{arith, length, getD}
-use Rattle.prelude.proofs.Prelude.{length-append, leb, eqb, eqb-true, eq-eqb, ne-eqb, leb-true}
+use Rattle.prelude.proofs.Prelude.{ℕ, _+_, _≤_, _<_, _≡_, refl, sym, ap, ap₂, _∙_, List, _++_, true, false, _&&_, cond, _⊎_, inl, inr, arith, length, getD}
+use Rattle.prelude.proofs.Prelude.{length-append, leb, eqb, eqb-true, ne-eqb, leb-true}
 use Rattle.coding.{specs.Codec.Run, specs.Codec.oneOf, specs.Codec.prim, specs.Codec.cons, specs.Codec.pair, specs.Codec.alt, specs.Codec.sort, specs.Codec.canonical, specs.Codec.over}
 use Rattle.coding.{specs.Codec.leads, specs.Codec.barring, specs.Codec.marked, specs.Codec.frames, specs.Codec.nothing, specs.Codec.pickRun, specs.Leaves.number, specs.Leaves.identifier}
-use Rattle.coding.{specs.Leaves.listed}
-use Rattle.coding.{specs.Written.lead, specs.Written.fullNumber, proofs.Basic.and-left, proofs.Basic.and-right, proofs.Basic.or-false, proofs.Holds.holds}
+use Rattle.coding.{specs.Leaves.listed, specs.Written.lead, specs.Written.fullNumber, proofs.Basic.and-left, proofs.Basic.and-right, proofs.Basic.or-false, proofs.Holds.holds}
 use Rattle.prelude.proofs.Ways.{by-cases}
 use Rattle.coding.{proofs.Small.null-write, proofs.Small.small-length}
 use Rattle.coding.proofs.{Small.id-length, Writing.number-write}
 use Rattle.types.specs.{declared.Record.Record, Frames.value, Frames.caller, Frames.problem, Frames.problems, Frames.reject, Frames.frontBy, Frames.sameFront, Frames.sameRecord}
-use Rattle.types.specs.{Frames.rejects, Frames.callerOf}
-use Rattle.types.specs.{Stored.two, Stored.associationIn, Stored.figureIn}
+use Rattle.types.specs.{Frames.rejects, Frames.callerOf, Stored.two, Stored.associationIn, Stored.figureIn}
 use Rattle.read_heads.proofs.Codes.{has-below}
 use Rattle.trunks.specs.{declared.Body.Body, declared.Trunk.Trunk, Extensions.parameter, Extensions.unextended, Stored.extensionIn, Stored.bodyIn, Stored.trunkIn}
 use Rattle.trunks.specs.Bodies.{argumentOf, resultOf, finalCharge, interim, tariff, complete, diverted, naming, sameBody, address, network, extending}
 use Rattle.trunks.specs.Components.{leadBy, trunkBy, sameTrunk, trunkOperations, answerable, carryingBody, trunkInvoke, trunkResult, trunkErrors, failing, trunkError, ofReject, rejectOf}
 use Rattle.trunks.specs.Components.{rejected, facility, tags, trunkFrame, trunkComponent}
-use Rattle.trunk_octets.proofs.Extensions.{bare-parameter}
+use Rattle.trunk_octets.proofs.{Extensions.bare-parameter, Given.Parts, Given.whole, Given.body}
 use Rattle.trunks.specs.Bodies.{chargeFor}
 use Rattle.trunks.specs.Forms.{users, diverting, innerOf}
-use Rattle.trunk_octets.specs.{Octets.given, Octets.bodyGiven, Octets.bodyOf, Octets.resultForm, Octets.idOctets}
+use Rattle.trunk_octets.specs.{Octets.given, Octets.bodyOf, Octets.resultForm, Octets.idOctets}
 use Rattle.trunk_octets.specs.Octets.{detailIn, errorOctets, rejectOctets, NetworkFine, networkOctets, contentsOf}
 
 -- an operation or error value
@@ -87,163 +84,138 @@ module _ (c : Unit {0} ⊎ ℕ) (r : Record) where
   problem-write (inr (inr (inl q))) = rw q (number-write 0x82 0 2 (r .front .detail))
   problem-write (inr (inr (inr q))) = rw q (number-write 0x83 0 4 (r .front .detail))
 
-module _ (front lent figure numbers rows : List ℕ) where
+module _ (five : Parts) where
   abbrev operation : ℕ
-  operation = getD front 6 0
-
-  abbrev body : Body
-  body = bodyGiven front lent figure numbers rows
-
-  abbrev whole : Trunk
-  whole = given front lent figure numbers rows
+  operation = getD (five .front) 6 0
 
   -- ---- A1
 
-  module _ (v : trunkInvoke .valid whole ≡ true) where
-    invoke-parts : (oneOf trunkOperations operation ≡ true) × ((argumentOf operation) .valid body ≡ true)
+  module _ (v : trunkInvoke .valid (whole five) ≡ true) where
+    invoke-parts : (oneOf trunkOperations operation ≡ true) × ((argumentOf operation) .valid (body five) ≡ true)
     unfolding trunkInvoke leads value barring prim listed carryingBody canonical over marked trunkIn
     invoke-parts =
-        let p = and-right (identifier .valid (two front 2)) _ v in
+        let p = and-right (identifier .valid (two (five .front) 2)) _ v in
         let q = and-right (oneOf trunkOperations operation) _ p in
-        (and-left (oneOf trunkOperations operation) _ p, and-right (sameTrunk (trunkBy (leadBy 1 0 (two front 2) 0 operation 0) body) whole) _ q)
+        (and-left (oneOf trunkOperations operation) _ p, and-right (sameTrunk (trunkBy (leadBy 1 0 (two (five .front) 2) 0 operation 0) (body five)) (whole five)) _ q)
 
     pub invoke-operation : operation < 128
     invoke-operation = has-below 128 trunkOperations operation refl (invoke-parts .0)
 
-    pub invoke-body : (bodyOf operation) .valid body ≡ true
-    invoke-body = sym (argument-alike operation body (invoke-parts .0) .1) ∙ invoke-parts .1
+    pub invoke-body : (bodyOf operation) .valid (body five) ≡ true
+    invoke-body = sym (argument-alike operation (body five) (invoke-parts .0) .1) ∙ invoke-parts .1
 
-    pub invoke-octets : trunkInvoke .write whole ≡ idOctets front ++ (fullNumber 0x02 operation ++ (bodyOf operation) .write body)
+    pub invoke-octets : trunkInvoke .write (whole five) ≡ idOctets (five .front) ++ (fullNumber 0x02 operation ++ (bodyOf operation) .write (body five))
     unfolding trunkInvoke leads carryingBody canonical over marked trunkIn
-    invoke-octets = rw (value-write 7 trunkOperations operation, argument-alike operation body (invoke-parts .0) .0)
+    invoke-octets = rw (value-write 7 trunkOperations operation, argument-alike operation (body five) (invoke-parts .0) .0)
 
     -- as the code has its parts
-    module _ {i : ℕ} (is : i ≡ two front 2) where
-      pub invoke-split : trunkInvoke .write whole ≡ (prim 0x02 identifier) .write i ++ (fullNumber 0x02 operation ++ (bodyOf operation) .write body)
-      invoke-split = invoke-octets ∙ ap (λ (k : ℕ). (prim 0x02 identifier) .write k ++ (fullNumber 0x02 operation ++ (bodyOf operation) .write body)) (sym is)
+    module _ {i : ℕ} (is : i ≡ two (five .front) 2) where
+      pub invoke-split : trunkInvoke .write (whole five) ≡ (prim 0x02 identifier) .write i ++ (fullNumber 0x02 operation ++ (bodyOf operation) .write (body five))
+      invoke-split = invoke-octets ∙ ap (λ (k : ℕ). (prim 0x02 identifier) .write k ++ (fullNumber 0x02 operation ++ (bodyOf operation) .write (body five))) (sym is)
 
-      pub invoke-length : {w n : ℕ} → w ≡ length (identifier .write i) → n ≡ length ((bodyOf operation) .write body) → 5 + w + n ≡ length (trunkInvoke .write whole)
-      invoke-length ew en =
-          omega (
-            arith,
-            ew,
-            en,
-            ap length invoke-split,
-            length-append ((prim 0x02 identifier) .write i) (fullNumber 0x02 operation ++ (bodyOf operation) .write body),
-            length-append (fullNumber 0x02 operation) ((bodyOf operation) .write body),
-            id-length 0x02 i,
-            small-length 0x02 operation invoke-operation,
-          )
+      pub invoke-length : {w n : ℕ} → w ≡ length (identifier .write i) → n ≡ length ((bodyOf operation) .write (body five)) → 5 + w + n ≡ length (trunkInvoke .write (whole five))
+      invoke-length ew en = omega (arith, ew, en, simp length-append at (ap length invoke-split), id-length 0x02 i, small-length 0x02 operation invoke-operation)
 
-    pub invoke-within : length ((bodyOf operation) .write body) ≤ length (trunkInvoke .write whole)
+    pub invoke-within : length ((bodyOf operation) .write (body five)) ≤ length (trunkInvoke .write (whole five))
     invoke-within = omega (arith, invoke-length refl refl refl)
 
   -- ---- A2
 
-  module _ (v : trunkResult .valid whole ≡ true) where
-    result-parts : (oneOf answerable operation ≡ true) × ((resultOf operation) .valid body ≡ true)
+  module _ (v : trunkResult .valid (whole five) ≡ true) where
+    result-parts : (oneOf answerable operation ≡ true) × ((resultOf operation) .valid (body five) ≡ true)
     unfolding trunkResult leads cons value barring prim listed carryingBody canonical over marked trunkIn
     result-parts =
-        let p = and-right (identifier .valid (two front 2)) _ v in
+        let p = and-right (identifier .valid (two (five .front) 2)) _ v in
         let q = and-right (oneOf answerable operation) _ p in
-        (and-left (oneOf answerable operation) _ p, and-right (sameTrunk (trunkBy (leadBy 2 0 (two front 2) 0 operation 0) body) whole) _ q)
+        (and-left (oneOf answerable operation) _ p, and-right (sameTrunk (trunkBy (leadBy 2 0 (two (five .front) 2) 0 operation 0) (body five)) (whole five)) _ q)
 
     pub result-operation : operation < 128
     result-operation = has-below 128 answerable operation refl (result-parts .0)
 
     module _ {form : ℕ} (f : form ≡ resultForm operation) where
-      pub result-body : (bodyOf form) .valid body ≡ true
-      result-body = rw f (sym (result-alike operation body .1) ∙ result-parts .1)
+      pub result-body : (bodyOf form) .valid (body five) ≡ true
+      result-body = rw f (sym (result-alike operation (body five) .1) ∙ result-parts .1)
 
-      module _ {n : ℕ} (e : n ≡ length ((bodyOf form) .write body)) where
-        result-contents : 3 + n ≡ length (fullNumber 0x02 operation ++ (bodyOf form) .write body)
-        result-contents = omega (arith, e, length-append (fullNumber 0x02 operation) ((bodyOf form) .write body), small-length 0x02 operation result-operation)
+      module _ {n : ℕ} (e : n ≡ length ((bodyOf form) .write (body five))) where
+        result-contents : 3 + n ≡ length (fullNumber 0x02 operation ++ (bodyOf form) .write (body five))
+        result-contents = omega (arith, e, length-append (fullNumber 0x02 operation) ((bodyOf form) .write (body five)), small-length 0x02 operation result-operation)
 
-        pub result-octets : trunkResult .write whole ≡ idOctets front ++ (lead 0x30 (3 + n) ++ (fullNumber 0x02 operation ++ (bodyOf form) .write body))
+        pub result-octets : trunkResult .write (whole five) ≡ idOctets (five .front) ++ (lead 0x30 (3 + n) ++ (fullNumber 0x02 operation ++ (bodyOf form) .write (body five)))
         unfolding trunkResult leads cons lead value barring carryingBody canonical over marked trunkIn
         result-octets =
-            rw (value-write 7 answerable operation, result-alike operation body .0, sym f)
-            (ap (λ (k : ℕ). idOctets front ++ (lead 0x30 k ++ (fullNumber 0x02 operation ++ (bodyOf form) .write body))) (sym result-contents))
+            rw (value-write 7 answerable operation, result-alike operation (body five) .0, sym f)
+            (ap (λ (k : ℕ). idOctets (five .front) ++ (lead 0x30 k ++ (fullNumber 0x02 operation ++ (bodyOf form) .write (body five)))) (sym result-contents))
 
-        module _ {i : ℕ} (is : i ≡ two front 2) where
-          pub result-split : trunkResult .write whole ≡ (prim 0x02 identifier) .write i ++ (lead 0x30 (3 + n) ++ (fullNumber 0x02 operation ++ (bodyOf form) .write body))
+        module _ {i : ℕ} (is : i ≡ two (five .front) 2) where
+          pub result-split : trunkResult .write (whole five) ≡ (prim 0x02 identifier) .write i ++ (lead 0x30 (3 + n) ++ (fullNumber 0x02 operation ++ (bodyOf form) .write (body five)))
           result-split =
-              result-octets ∙ ap (λ (k : ℕ). (prim 0x02 identifier) .write k ++ (lead 0x30 (3 + n) ++ (fullNumber 0x02 operation ++ (bodyOf form) .write body))) (sym is)
+              result-octets ∙ ap (λ (k : ℕ). (prim 0x02 identifier) .write k ++ (lead 0x30 (3 + n) ++ (fullNumber 0x02 operation ++ (bodyOf form) .write (body five)))) (sym is)
 
-          pub result-length : {w r : ℕ} → w ≡ length (identifier .write i) → r ≡ length (lead 0x30 (3 + n)) + (3 + n) → 2 + w + r ≡ length (trunkResult .write whole)
+          pub result-length : {w r : ℕ} → w ≡ length (identifier .write i) → r ≡ length (lead 0x30 (3 + n)) + (3 + n) → 2 + w + r ≡ length (trunkResult .write (whole five))
           result-length ew er =
-              let inside = fullNumber 0x02 operation ++ (bodyOf form) .write body in
-              omega (
-                arith,
-                ew,
-                er,
-                ap length result-split,
-                length-append ((prim 0x02 identifier) .write i) (lead 0x30 (3 + n) ++ inside),
-                length-append (lead 0x30 (3 + n)) inside,
-                id-length 0x02 i,
-                result-contents,
-              )
+              omega (arith, ew, er, simp length-append at (ap length result-split), id-length 0x02 i, simp length-append at result-contents)
 
-        pub result-within : 3 + n ≤ length (trunkResult .write whole)
+        pub result-within : 3 + n ≤ length (trunkResult .write (whole five))
         result-within = omega (arith, result-length refl refl refl)
 
   -- ---- A3
 
   abbrev code : ℕ
-  code = two front 4
+  code = two (five .front) 4
 
-  module _ (v : trunkError .valid whole ≡ true) where
-    error-parts : (pickRun (eqb code 1008) parameter unextended) .valid (extensionIn lent) ≡ true
+  module _ (v : trunkError .valid (whole five) ≡ true) where
+    error-parts : (pickRun (eqb code 1008) parameter unextended) .valid (extensionIn (five .lent)) ≡ true
     unfolding trunkError leads value barring prim listed failing canonical over trunkIn bodyIn
     error-parts =
-        let p = and-right (oneOf trunkErrors code) _ (and-right (identifier .valid (two front 2)) _ v) in
-        and-right (sameTrunk (trunkBy (leadBy 3 0 (two front 2) code 0 0) (extending (extensionIn lent))) whole) _ p
+        let p = and-right (oneOf trunkErrors code) _ (and-right (identifier .valid (two (five .front) 2)) _ v) in
+        and-right (sameTrunk (trunkBy (leadBy 3 0 (two (five .front) 2) code 0 0) (extending (extensionIn (five .lent)))) (whole five)) _ p
 
-    pub error-parameter : parameter .valid (extensionIn lent) ≡ true
-    error-parameter = by-cases (eqb code 1008) (λ t. rw t at error-parts) (λ t. bare-parameter (extensionIn lent) (rw t at error-parts) .0)
+    pub error-parameter : parameter .valid (extensionIn (five .lent)) ≡ true
+    error-parameter = by-cases (eqb code 1008) (λ t. rw t at error-parts) (λ t. bare-parameter (extensionIn (five .lent)) (rw t at error-parts) .0)
 
-    pub error-octets : trunkError .write whole ≡ errorOctets front lent
+    pub error-octets : trunkError .write (whole five) ≡ errorOctets (five .front) (five .lent)
     unfolding trunkError leads failing canonical over trunkIn bodyIn errorOctets unextended nothing
     error-octets =
         by-cases (eqb code 1008) (λ t. rw (t, value-write 8 trunkErrors code))
-        (λ t. rw (t, value-write 8 trunkErrors code, bare-parameter (extensionIn lent) (rw t at error-parts) .1))
+        (λ t. rw (t, value-write 8 trunkErrors code, bare-parameter (extensionIn (five .lent)) (rw t at error-parts) .1))
 
   -- ---- A4
 
-  module _ (v : rejected .valid whole ≡ true) where
+  module _ (v : rejected .valid (whole five) ≡ true) where
     abbrev plain : Record
-    plain = rejectOf whole
+    plain = rejectOf (whole five)
 
     problem-fine : (problems (callerOf plain)) .valid plain ≡ true
     unfolding rejected canonical over reject leads trunkIn
-    problem-fine = and-right (caller .valid (callerOf plain)) _ (and-right (sameTrunk (ofReject plain) whole) _ v)
+    problem-fine = and-right (caller .valid (callerOf plain)) _ (and-right (sameTrunk (ofReject plain) (whole five)) _ v)
 
     abbrev tagOf : ℕ
-    tagOf = getD front 7 0
+    tagOf = getD (five .front) 7 0
 
-    problem-is : (detailIn front < 128) × ((tagOf ≡ 0x80) ⊎ ((tagOf ≡ 0x81) ⊎ ((tagOf ≡ 0x82) ⊎ (tagOf ≡ 0x83))))
+    problem-is : (detailIn (five .front) < 128) × ((tagOf ≡ 0x80) ⊎ ((tagOf ≡ 0x81) ⊎ ((tagOf ≡ 0x82) ⊎ (tagOf ≡ 0x83))))
     unfolding trunkIn bodyIn
     problem-is = problem-held (callerOf plain) plain problem-fine
 
-    pub reject-detail : detailIn front < 128
+    pub reject-detail : detailIn (five .front) < 128
     reject-detail = problem-is .0
 
-    pub reject-octets : rejected .write whole ≡ rejectOctets front
+    pub reject-octets : rejected .write (whole five) ≡ rejectOctets (five .front)
     unfolding rejected canonical over reject leads trunkIn bodyIn
-    reject-octets = ap₂ (λ (x y : List ℕ). x ++ y) (call (getD front 1 0) (two front 2)) (problem-write (callerOf plain) plain (problem-is .1))
+    reject-octets = ap₂ (λ (x y : List ℕ). x ++ y) (call (getD (five .front) 1 0) (two (five .front) 2)) (problem-write (callerOf plain) plain (problem-is .1))
 
   -- ---- AA
 
-  module _ (v : facility .valid whole ≡ true) where
-    pub network-fine : NetworkFine front figure
+  module _ (v : facility .valid (whole five) ≡ true) where
+    pub network-fine : NetworkFine (five .front) (five .figure)
     unfolding facility network canonical over marked pair prim number address sort cons trunkIn bodyIn figureIn
     network-fine =
-        let d = getD front 42 0 in
-        let e = getD front 43 0 in
-        let u = (address 0xa1) .valid (associationIn front) in
-        let a = (address 0xa1) .valid (associationIn figure) in
-        let n = and-right (sameTrunk (trunkBy (leadBy 10 0 0 0 0 0) body) whole) _ v in
-        let p : (leb 0 d && leb d 1) && (u && ((leb 0 e && leb e 1) && a)) ≡ true = and-right (sameBody (naming d e (associationIn front) (associationIn figure)) body) _ n in
+        let d = getD (five .front) 42 0 in
+        let e = getD (five .front) 43 0 in
+        let u = (address 0xa1) .valid (associationIn (five .front)) in
+        let a = (address 0xa1) .valid (associationIn (five .figure)) in
+        let n = and-right (sameTrunk (trunkBy (leadBy 10 0 0 0 0 0) (body five)) (whole five)) _ v in
+        let p : (leb 0 d && leb d 1) && (u && ((leb 0 e && leb e 1) && a)) ≡ true =
+        and-right (sameBody (naming d e (associationIn (five .front)) (associationIn (five .figure))) (body five)) _ n in
         let q = and-right (leb 0 d && leb d 1) _ p in
         let w = and-right u _ q in
         record {
@@ -253,55 +225,43 @@ module _ (front lent figure numbers rows : List ℕ) where
           destinationAddress = and-right (leb 0 e && leb e 1) _ w;
         }
 
-    pub network-octets : facility .write whole ≡ networkOctets front figure
+    pub network-octets : facility .write (whole five) ≡ networkOctets (five .front) (five .figure)
     unfolding facility network canonical over marked pair trunkIn bodyIn figureIn networkOctets
-    network-octets = rw (number-write 0x80 0 1 (getD front 42 0), number-write 0x82 0 1 (getD front 43 0))
+    network-octets = rw (number-write 0x80 0 1 (getD (five .front) 42 0), number-write 0x82 0 1 (getD (five .front) 43 0))
 
   -- ---- by the frame
 
   abbrev kind : ℕ
-  kind = getD front 0 0
+  kind = getD (five .front) 0 0
 
-  frame-valid : trunkComponent .valid whole ≡ true → (oneOf tags (0xa0 + kind) ≡ true) × ((trunkFrame (0xa0 + kind)) .valid whole ≡ true)
+  frame-valid : trunkComponent .valid (whole five) ≡ true → (oneOf tags (0xa0 + kind) ≡ true) × ((trunkFrame (0xa0 + kind)) .valid (whole five) ≡ true)
   unfolding trunkComponent frames trunkIn
   frame-valid v = (and-left (oneOf tags (0xa0 + kind)) _ v, and-right (oneOf tags (0xa0 + kind)) _ v)
 
-  module _ (v : trunkComponent .valid whole ≡ true) where
-    pub known-frame : kind < 11
-    known-frame = omega (arith, has-below 171 tags (0xa0 + kind) refl (frame-valid v .0))
-
+  module _ (v : trunkComponent .valid (whole five) ≡ true) where
     -- what the frame holds is what one of the five has
     abbrev Holds : Run Trunk → Type 0
-    Holds f = (f .valid whole ≡ true) × (contentsOf whole ≡ f .write whole)
+    Holds f = (f .valid (whole five) ≡ true) × (contentsOf (whole five) ≡ f .write (whole five))
 
-    module _ (e : kind ≡ 1) where
-      pub holds-1 : Holds trunkInvoke
-      unfolding trunkFrame trunkIn
-      holds-1 = let t = eq-eqb (0xa0 + kind) 0xa1 (omega (arith, e)) in (rw t at (frame-valid v .1), rw (t, contentsOf))
+    holding : (k : ℕ) → kind ≡ k → Holds (trunkFrame (0xa0 + k))
+    unfolding trunkIn
+    holding k e = (ap (λ (n : ℕ). (trunkFrame (0xa0 + n)) .valid (whole five)) (sym e) ∙ frame-valid v .1, ap (λ (n : ℕ). (trunkFrame (0xa0 + n)) .write (whole five)) e)
 
-    module _ (e : kind ≡ 2) where
-      pub holds-2 : Holds trunkResult
-      unfolding trunkFrame trunkIn
-      holds-2 =
-          let a = ne-eqb (0xa0 + kind) 0xa1 (λ z. omega (arith, e, z)) in
-          let t = eq-eqb (0xa0 + kind) 0xa2 (omega (arith, e)) in (rw (a, t) at (frame-valid v .1), rw (a, t, contentsOf))
+    pub holds-1 : kind ≡ 1 → Holds trunkInvoke
+    unfolding trunkFrame
+    holds-1 e = holding 1 e
 
-    module _ (e : kind ≡ 3) where
-      pub holds-3 : Holds trunkError
-      unfolding trunkFrame trunkIn
-      holds-3 =
-          let a = ne-eqb (0xa0 + kind) 0xa1 (λ z. omega (arith, e, z)) in
-          let b = ne-eqb (0xa0 + kind) 0xa2 (λ z. omega (arith, e, z)) in
-          let t = eq-eqb (0xa0 + kind) 0xa3 (omega (arith, e)) in (rw (a, b, t) at (frame-valid v .1), rw (a, b, t, contentsOf))
+    pub holds-2 : kind ≡ 2 → Holds trunkResult
+    unfolding trunkFrame
+    holds-2 e = holding 2 e
 
-    module _ (e : kind ≡ 4) where
-      pub holds-4 : Holds rejected
-      unfolding trunkFrame trunkIn
-      holds-4 =
-          let a = ne-eqb (0xa0 + kind) 0xa1 (λ z. omega (arith, e, z)) in
-          let b = ne-eqb (0xa0 + kind) 0xa2 (λ z. omega (arith, e, z)) in
-          let c = ne-eqb (0xa0 + kind) 0xa3 (λ z. omega (arith, e, z)) in
-          let t = eq-eqb (0xa0 + kind) 0xa4 (omega (arith, e)) in (rw (a, b, c, t) at (frame-valid v .1), rw (a, b, c, t, contentsOf))
+    pub holds-3 : kind ≡ 3 → Holds trunkError
+    unfolding trunkFrame
+    holds-3 e = holding 3 e
+
+    pub holds-4 : kind ≡ 4 → Holds rejected
+    unfolding trunkFrame
+    holds-4 e = holding 4 e
 
     module _ (n1 : kind ≡ 1 → ⊥) (n2 : kind ≡ 2 → ⊥) (n3 : kind ≡ 3 → ⊥) (n4 : kind ≡ 4 → ⊥) where
       pub holds-10 : Holds facility
@@ -311,3 +271,8 @@ module _ (front lent figure numbers rows : List ℕ) where
           let b = ne-eqb (0xa0 + kind) 0xa2 (λ z. n2 (omega (arith, z))) in
           let c = ne-eqb (0xa0 + kind) 0xa3 (λ z. n3 (omega (arith, z))) in
           let d = ne-eqb (0xa0 + kind) 0xa4 (λ z. n4 (omega (arith, z))) in (rw (a, b, c, d) at (frame-valid v .1), rw (a, b, c, d, contentsOf))
+
+pub known-frame : (front lent figure numbers rows : List ℕ) → trunkComponent .valid (given front lent figure numbers rows) ≡ true → getD front 0 0 < 11
+known-frame front lent figure numbers rows v =
+    let five : Parts = record { front = front; lent = lent; figure = figure; numbers = numbers; rows = rows } in
+    omega (arith, has-below 171 tags (0xa0 + getD front 0 0) refl (frame-valid five v .0))

@@ -1,3 +1,4 @@
+pub mod Given
 pub mod Extensions
 pub mod Forms
 pub mod Bodies

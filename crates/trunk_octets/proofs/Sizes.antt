@@ -1,7 +1,6 @@
 -- How many octets the parts take, and the parts one after the other, by what the code has of each.
 use Rattle.prelude.proofs.Prelude.{ℕ, _+_, _-_, _*_, _≤_, _<_, _≡_, refl, sym, ap, ap₂, _∙_, List, [], _∷_, _++_, true, arith, length, getD, take, drop, length-append}
-use Rattle.prelude.proofs.Prelude.{length-drop, take-length}
-use Rattle.prelude.proofs.Prelude.{eq-eqb, ne-eqb}
+use Rattle.prelude.proofs.Prelude.{length-drop, take-length, eq-eqb, ne-eqb}
 use Rattle.coding.{specs.Codec.canonical, specs.Codec.over, specs.Codec.sort, specs.Codec.cons, specs.Codec.nothing, specs.Codec.prim, specs.Codec.all, specs.Codec.writeAll}
 use Rattle.coding.{specs.Codec.lengthOctets}
 use Rattle.coding.{specs.Rows.table, specs.Leaves.identifier, specs.Leaves.width, specs.Written.lead, specs.Written.fullNumber, proofs.Basic.picked, proofs.Basic.unpicked}
@@ -9,9 +8,10 @@ use Rattle.coding.proofs.{Small.small-length, Small.id-length, Small.null-lengt
 use Rattle.types.specs.{declared.Association.Association, Charges.partyNumber, Charges.association, Charges.unassociated, Stored.two, Stored.associationIn}
 use Rattle.trunks.specs.{Extensions.parameter, Bodies.address, Stored.modesIn, Stored.extensionIn}
 use Rattle.trunks.specs.Forms.{innerOf}
-use Rattle.trunk_octets.specs.{Octets.innerGiven, Octets.extensionOctets, Octets.Counted, Octets.mode, Octets.modeAt, Octets.modesOf, Octets.modesOctets, Octets.detailIn}
+use Rattle.trunk_octets.specs.{Octets.extensionOctets, Octets.Counted, Octets.mode, Octets.modeAt, Octets.modesOf, Octets.modesOctets, Octets.detailIn}
 use Rattle.trunk_octets.specs.Octets.{usersOctets, idOctets, errorOctets, callerOctets, rejectOctets, NetworkFine, networkOctets}
 use Rattle.trunk_octets.proofs.{Extensions.kept-as, Extensions.kept-fits, Forms.Asking, Forms.modes-size, Forms.modes-asking, Forms.modes-write, Forms.asks-59}
+use Rattle.trunk_octets.proofs.Given.{Parts, inner}
 use Rattle.trunk_octets.proofs.Forms.{inner-1, inner-2, inner-59, inner-64, inner-65, low-1, low-2, users-65}
 
 -- ---- the extension's octets lie in the lent part from the third on
@@ -48,44 +48,33 @@ module _ {U A u a : Association} (eu : u ≡ U) (ea : a ≡ A) where
 
 -- ---- by the form
 
-module _ {form : ℕ} (front figure numbers rows : List ℕ) (v : (innerOf form) .valid (innerGiven front figure numbers rows) ≡ true) where
-  pub size-1 : form ≡ 1 → 3 ≡ length ((innerOf form) .write (innerGiven front figure numbers rows))
-  size-1 e = sym (ap length (inner-1 front figure numbers rows e) ∙ small-length 0x0a (detailIn front) (low-1 front figure numbers rows e v))
+module _ {form : ℕ} (five : Parts) (v : (innerOf form) .valid (inner five) ≡ true) where
+  pub size-1 : form ≡ 1 → 3 ≡ length ((innerOf form) .write (inner five))
+  size-1 e = sym (ap length (inner-1 five e) ∙ small-length 0x0a (detailIn (five .front)) (low-1 five e v))
 
-  pub size-2 : form ≡ 2 → 3 ≡ length ((innerOf form) .write (innerGiven front figure numbers rows))
-  size-2 e = sym (ap length (inner-2 front figure numbers rows e) ∙ small-length 0x0a (detailIn front) (low-2 front figure numbers rows e v))
+  pub size-2 : form ≡ 2 → 3 ≡ length ((innerOf form) .write (inner five))
+  size-2 e = sym (ap length (inner-2 five e) ∙ small-length 0x0a (detailIn (five .front)) (low-2 five e v))
 
-  module _ (long : length front ≡ 48) (e : form ≡ 59) where
-    pub asking : Asking front
-    asking = modes-asking front _ long (asks-59 front figure numbers rows e v)
+  module _ (long : length (five .front) ≡ 48) (e : form ≡ 59) where
+    pub asking : Asking (five .front)
+    asking = modes-asking (five .front) _ long (asks-59 five e v)
 
-    pub inner-modes : (innerOf form) .write (innerGiven front figure numbers rows) ≡ modesOctets front
-    inner-modes = inner-59 front figure numbers rows e ∙ modes-write front _ long (asks-59 front figure numbers rows e v)
+    pub inner-modes : (innerOf form) .write (inner five) ≡ modesOctets (five .front)
+    inner-modes = inner-59 five e ∙ modes-write (five .front) _ long (asks-59 five e v)
 
-    pub size-59 : {n : ℕ} → n ≡ modesIn front .count → 2 + 3 * n ≡ length ((innerOf form) .write (innerGiven front figure numbers rows))
-    size-59 {n} q =
-        omega (
-          arith,
-          asking .few,
-          q,
-          ap length (inner-modes ∙ modes-split front refl),
-          length-append (lead 0x30 (3 * modesIn front .count)) (writeAll (mode .write) (modesOf front)),
-          lead-length-short 0x30 (3 * modesIn front .count) (omega (arith, asking .few)),
-          modes-size asking,
-        )
+    pub size-59 : {n : ℕ} → n ≡ modesIn (five .front) .count → 2 + 3 * n ≡ length ((innerOf form) .write (inner five))
+    size-59 q =
+        let l = simp length-append at (ap length (inner-modes ∙ modes-split (five .front) refl)) in
+        let few = asking .few in
+        omega (arith, q, l, lead-length-short 0x30 (3 * modesIn (five .front) .count) (omega arith), modes-size asking)
 
-  pub size-64 : {n : ℕ} → form ≡ 64 → n ≡ length (usersOctets (associationIn front) (associationIn figure)) → n ≡ length ((innerOf form) .write (innerGiven front figure numbers rows))
-  size-64 e q = q ∙ sym (ap length (inner-64 front figure numbers rows e))
+  pub size-64 : {n : ℕ} → form ≡ 64 → n ≡ length (usersOctets (associationIn (five .front)) (associationIn (five .figure))) → n ≡ length ((innerOf form) .write (inner five))
+  size-64 e q = q ∙ sym (ap length (inner-64 five e))
 
-  pub size-65 : {n : ℕ} → form ≡ 65 → n ≡ length (usersOctets (associationIn front) (associationIn figure)) → n + 3 ≡ length ((innerOf form) .write (innerGiven front figure numbers rows))
+  pub size-65 : {n : ℕ} → form ≡ 65 → n ≡ length (usersOctets (associationIn (five .front)) (associationIn (five .figure))) → n + 3 ≡ length ((innerOf form) .write (inner five))
   size-65 e q =
-      omega (
-        arith,
-        q,
-        ap length (inner-65 front figure numbers rows e),
-        length-append (usersOctets (associationIn front) (associationIn figure)) (fullNumber 0x0a (detailIn front)),
-        small-length 0x0a (detailIn front) (users-65 front figure numbers rows e v .1),
-      )
+      let l = length-append (usersOctets (associationIn (five .front)) (associationIn (five .figure))) (fullNumber 0x0a (detailIn (five .front))) in
+      omega (arith, q, l, ap length (inner-65 five e), small-length 0x0a (detailIn (five .front)) (users-65 five e v .1))
 
 -- ---- addresses
 
@@ -108,20 +97,9 @@ module _ {front figure : List ℕ} (f : NetworkFine front figure) where
       → 6 + n + k ≡ length (networkOctets front figure)
   unfolding networkOctets
   network-length p q =
-      let here = (address 0xa1) .write (associationIn front) in
-      let there = (address 0xa3) .write (associationIn figure) in
-      let d = fullNumber 0x80 (getD front 42 0) in
-      let e = fullNumber 0x82 (getD front 43 0) in
-      omega (
-        arith,
-        p 0xa1,
-        q 0xa3,
-        length-append d (here ++ (e ++ there)),
-        length-append here (e ++ there),
-        length-append e there,
-        small-length 0x80 (getD front 42 0) (omega (arith, f .source)),
-        small-length 0x82 (getD front 43 0) (omega (arith, f .destination)),
-      )
+      let source = small-length 0x80 (getD front 42 0) (omega (arith, f .source)) in
+      let destination = small-length 0x82 (getD front 43 0) (omega (arith, f .destination)) in
+      simp length-append (omega (arith, p 0xa1, q 0xa3, source, destination))
 
 pub network-split : (front figure : List ℕ)
     → networkOctets front figure
@@ -136,47 +114,23 @@ module _ (front : List ℕ) {i : ℕ} (is : i ≡ two front 2) where
   pub id-is : idOctets front ≡ (prim 0x02 identifier) .write i
   id-is = ap ((prim 0x02 identifier) .write) (sym is)
 
-  pub id-size : {w : ℕ} → w ≡ length (identifier .write i) → 2 + w ≡ length (idOctets front)
-  id-size e = omega (arith, e, ap length id-is, id-length 0x02 i)
-
   module _ (lent : List ℕ) {n : ℕ} (en : n ≡ two front 4) where
     pub error-split : errorOctets front lent ≡ (prim 0x02 identifier) .write i ++ (fullNumber 0x02 n ++ parameter .write (extensionIn lent))
     unfolding errorOctets
     error-split = ap₂ (λ (x : List ℕ) (k : ℕ). x ++ (fullNumber 0x02 k ++ parameter .write (extensionIn lent))) id-is (sym en)
 
     pub error-length : {w d x : ℕ} → w ≡ length (identifier .write i) → d ≡ width n → x ≡ length (parameter .write (extensionIn lent)) → 4 + w + d + x ≡ length (errorOctets front lent)
-    error-length ew ed ex =
-        omega (
-          arith,
-          ew,
-          ed,
-          ex,
-          ap length error-split,
-          id-length 0x02 i,
-          length-append ((prim 0x02 identifier) .write i) (fullNumber 0x02 n ++ parameter .write (extensionIn lent)),
-          length-append (fullNumber 0x02 n) (parameter .write (extensionIn lent)),
-          number-length 0x02 n,
-        )
+    error-length ew ed ex = omega (arith, ew, ed, ex, simp length-append at (ap length error-split), id-length 0x02 i, number-length 0x02 n)
 
   pub caller-id : (getD front 1 0 ≡ 1 → ⊥) → callerOctets front ≡ (prim 0x02 identifier) .write i
   caller-id h = unpicked _ _ (ne-eqb (getD front 1 0) 1 h) ∙ id-is
 
   pub reject-named : {w : ℕ} → w ≡ length (identifier .write i) → (getD front 1 0 ≡ 1 → ⊥) → detailIn front < 128 → 5 + w ≡ length (rejectOctets front)
-  reject-named e h l =
-      omega (
-        arith,
-        ap length (caller-id h),
-        e,
-        id-length 0x02 i,
-        length-append (callerOctets front) (fullNumber (getD front 7 0) (detailIn front)),
-        small-length (getD front 7 0)
-            (detailIn front) l,
-      )
+  reject-named e h l = simp length-append (omega (arith, ap length (caller-id h), e, id-length 0x02 i, small-length (getD front 7 0) (detailIn front) l))
 
 module _ (front : List ℕ) (e : getD front 1 0 ≡ 1) where
   pub caller-null : callerOctets front ≡ lead 0x05 0
   caller-null = picked _ _ (eq-eqb (getD front 1 0) 1 e)
 
   pub reject-null : detailIn front < 128 → 5 ≡ length (rejectOctets front)
-  reject-null l =
-      omega (arith, ap length caller-null, null-length 0x05, length-append (callerOctets front) (fullNumber (getD front 7 0) (detailIn front)), small-length (getD front 7 0) (detailIn front) l)
+  reject-null l = simp length-append (omega (arith, ap length caller-null, null-length 0x05, small-length (getD front 7 0) (detailIn front) l))

@@ -22,9 +22,9 @@ fn invoke_at(
     end: usize,
     front: &mut [u8; 48],
     lent: &mut [u8; 244],
+    figure: &mut [u8; 48],
     numbers: &mut [u32; 32],
     rows: &mut [u8; 192],
-    figure: &mut [u8; 48],
 ) -> read_elements::Empty
     requires { ⌜ end ≤ length (now s) ⌝ }
     requires { ⌜ Bare (now front) (now lent) (now figure) (now numbers) (now rows) ⌝ }
@@ -47,9 +47,9 @@ fn invoke_at(
         operation,
         front,
         lent,
+        figure,
         numbers,
         rows,
-        figure,
     );
     if b.fault != 0 {
         return read_figures::halted(read_heads::inner(b.fault), b.place);
@@ -66,9 +66,9 @@ fn answer_at(
     end: usize,
     front: &mut [u8; 48],
     lent: &mut [u8; 244],
+    figure: &mut [u8; 48],
     numbers: &mut [u32; 32],
     rows: &mut [u8; 192],
-    figure: &mut [u8; 48],
 ) -> read_elements::Empty
     requires { ⌜ end ≤ length (now s) ⌝ }
     requires { ⌜ Bare (now front) (now lent) (now figure) (now numbers) (now rows) ⌝ }
@@ -97,9 +97,9 @@ fn answer_at(
         operation,
         front,
         lent,
+        figure,
         numbers,
         rows,
-        figure,
     );
     if b.fault != 0 {
         return read_figures::halted(read_heads::inner(b.fault), b.place);
@@ -120,9 +120,9 @@ fn frame_at(
     tag: u8,
     front: &mut [u8; 48],
     lent: &mut [u8; 244],
+    figure: &mut [u8; 48],
     numbers: &mut [u32; 32],
     rows: &mut [u8; 192],
-    figure: &mut [u8; 48],
 ) -> read_elements::Empty
     requires { ⌜ end ≤ length (now s) ⌝ }
     requires { ⌜ Bare (now front) (now lent) (now figure) (now numbers) (now rows) ⌝ }
@@ -130,10 +130,10 @@ fn frame_at(
     ensures spare { λ _. ⌜ Spare (now (front .exit)) ⌝ }
 {
     if tag == 0xa1 {
-        return invoke_at(s, at, end, front, lent, numbers, rows, figure);
+        return invoke_at(s, at, end, front, lent, figure, numbers, rows);
     }
     if tag == 0xa2 {
-        return answer_at(s, at, end, front, lent, numbers, rows, figure);
+        return answer_at(s, at, end, front, lent, figure, numbers, rows);
     }
     if tag == 0xa3 {
         return trunk_frames::error_at(s, at, end, front, lent);
@@ -151,9 +151,9 @@ fn component_at(
     s: &[u8],
     front: &mut [u8; 48],
     lent: &mut [u8; 244],
+    figure: &mut [u8; 48],
     numbers: &mut [u32; 32],
     rows: &mut [u8; 192],
-    figure: &mut [u8; 48],
 ) -> read_elements::Empty
     requires { ⌜ Bare (now front) (now lent) (now figure) (now numbers) (now rows) ⌝ }
     ensures { λ r. ⌜ framed r (now (front .exit)) (now (lent .exit)) (storedCharge (now (figure .exit)) (now (numbers .exit)) (now (rows .exit))) ≡ shown noTrunk (trunkComponent .read (now (s .entry)) 0 (length (now (s .entry)))) ⌝ }
@@ -171,9 +171,9 @@ fn component_at(
         tag,
         front,
         lent,
+        figure,
         numbers,
         rows,
-        figure,
     );
     if f.fault != 0 {
         return read_figures::halted(f.fault, f.place);
@@ -218,7 +218,7 @@ pub fn read_into(
             offset: 0,
         };
     }
-    let r = component_at(octets, front, lent, numbers, rows, figure);
+    let r = component_at(octets, front, lent, figure, numbers, rows);
     if r.fault == 0 {
         return read::Refusal {
             number: 0,

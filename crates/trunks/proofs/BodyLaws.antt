@@ -1,15 +1,15 @@
 -- The laws of the arguments of operations 59 to 65, of the results of 59 and 64, and of the network facility extension.
-use Rattle.prelude.proofs.Prelude.{ℕ, _≤_, _<_, _≡_, refl, sym, ap, ap₂, List, [], _∷_, Bool, true, not, arith, length, take, eqb, eq-eqb, ne-eqb}
-use Rattle.coding.{specs.Codec.Leaf, specs.Codec.Run, specs.Codec.isTag, specs.Codec.apart, specs.Codec.oneOf, specs.Codec.prim, specs.Codec.cons, specs.Codec.pair, specs.Codec.sort}
-use Rattle.coding.{specs.Codec.over, specs.Codec.canonical, specs.Codec.nothing, specs.Codec.any·more, specs.Codec.pad, specs.Leaves.number, proofs.Laws.LeafLaws, proofs.Laws.RunLaws}
+use Rattle.prelude.proofs.Prelude.{ℕ, _<_, _≡_, refl, sym, ap, List, true, not, arith, take, eqb, eq-eqb, ne-eqb}
+use Rattle.coding.{specs.Codec.Run, specs.Codec.isTag, specs.Codec.apart, specs.Codec.oneOf, specs.Codec.prim, specs.Codec.cons, specs.Codec.pair, specs.Codec.sort}
+use Rattle.coding.{specs.Codec.over, specs.Codec.canonical, specs.Codec.nothing, proofs.Laws.LeafLaws, proofs.Laws.RunLaws}
 use Rattle.coding.{specs.Kept.asReceived, proofs.Combine.primLaws, proofs.Combine.consLaws, proofs.Combine.pairLaws, proofs.Combine.anyLaws, proofs.Number.numberLaws, proofs.Only.onlyLaws}
 use Rattle.coding.{proofs.Leaves.nullLaws, proofs.Padded.Equal, proofs.Padded.eqbEqual, proofs.Padded.listEqual, proofs.Padded.pairEqual, proofs.Padded.viaEqual}
-use Rattle.types.specs.{declared.Association.Association, declared.Charge.Charge, Charges.ofKind, Charges.planned, Charges.plainParty, Charges.partyNumber, Charges.party, Charges.identified}
-use Rattle.types.specs.{Charges.association, Charges.unassociated, Arguments.isKind, Arguments.sign, Arguments.inMoney, Arguments.ending, Arguments.settled, Arguments.withAssociation, Arguments.rates}
+use Rattle.types.specs.{declared.Charge.Charge, Charges.ofKind, Charges.planned, Charges.plainParty, Charges.partyNumber, Charges.party, Charges.identified}
+use Rattle.types.specs.{Charges.association, Charges.unassociated, Arguments.sign, Arguments.inMoney, Arguments.ending, Arguments.settled, Arguments.withAssociation, Arguments.rates}
 use Rattle.types.proofs.{Chains.Known, Chains.From, Chains.weaken, Chains.made, Chains.held, Chains.chosen, Chains.parted, Chains.sorted, PartLaws.numberAt, PartLaws.apart-none}
 use Rattle.types.proofs.{PartLaws.pair-left, PartLaws.taken, PartLaws.associationEqual, PartLaws.numbers, PartLaws.unassociateds, PartLaws.associations, ArgumentLaws.chargeEqual}
 use Rattle.types.proofs.{ArgumentLaws.kindOf, ArgumentLaws.Alone, ArgumentLaws.signs, ArgumentLaws.moneys, ArgumentLaws.settleds, ArgumentLaws.associateds, ArgumentLaws.all-rates}
-use Rattle.trunks.specs.{declared.Modes.Modes, declared.Extension.Extension, declared.Body.Body, Extensions.noExtension, Extensions.extension, Extensions.extensionAt}
+use Rattle.trunks.specs.{declared.Extension.Extension, declared.Body.Body, Extensions.noExtension, Extensions.extension, Extensions.extensionAt}
 use Rattle.trunks.specs.{Extensions.unextended, Extensions.someExtension, Bodies.sameModes, Bodies.sameBody, Bodies.bodyBy, Bodies.noBody, Bodies.withExtension, Bodies.extended, Bodies.askingFor}
 use Rattle.trunks.specs.{Bodies.modes, Bodies.detailed, Bodies.detail, Bodies.extending, Bodies.dummy, Bodies.charging, Bodies.charged, Bodies.billings, Bodies.figures, Bodies.finalCharge}
 use Rattle.trunks.specs.{Bodies.interim, Bodies.tariff, Bodies.naming, Bodies.otherOf, Bodies.complete, Bodies.diverted, Bodies.address, Bodies.network, Bodies.argumentOf, Bodies.resultOf}

@@ -1,11 +1,11 @@
 -- The laws of each frame and of a component.
-use Rattle.prelude.proofs.Prelude.{ℕ, _+_, _≡_, refl, sym, ap, _∙_, List, [], _∷_, Bool, true, false, _⊎_, inl, inr, arith, eqb, eqb-true}
-use Rattle.coding.{specs.Reader.Fault.named, specs.Codec.Run, specs.Codec.oneOf, specs.Codec.apart, specs.Codec.prim, specs.Codec.barring, specs.Codec.canonical, specs.Codec.over}
-use Rattle.coding.{specs.Leaves.identifier, proofs.Basic.or-false, proofs.Laws.RunLaws, proofs.Frame.pickLaws, proofs.More.markedLaws, proofs.Frames.framesLaws, proofs.Padded.Equal}
+use Rattle.prelude.proofs.Prelude.{ℕ, _+_, _≡_, refl, true, false, arith, eqb, eqb-true}
+use Rattle.coding.{specs.Reader.Fault.named, specs.Codec.Run, specs.Codec.oneOf, specs.Codec.apart, specs.Codec.prim, specs.Codec.barring}
+use Rattle.coding.{proofs.Basic.or-false, proofs.Laws.RunLaws, proofs.Frame.pickLaws, proofs.More.markedLaws, proofs.Frames.framesLaws, proofs.Padded.Equal}
 use Rattle.coding.{proofs.Padded.eqbEqual, proofs.Padded.pairEqual, proofs.Padded.viaEqual}
-use Rattle.types.specs.{declared.Record.Record, Frames.outside, Frames.inArgument, Frames.value, Frames.reject}
+use Rattle.types.specs.{Frames.outside, Frames.inArgument, Frames.value}
 use Rattle.types.proofs.{Chains.Known, Chains.weaken, Chains.made, Chains.held, Chains.led, Chains.chosen, FrameLaws.idLaws, FrameLaws.valueLaws, FrameLaws.rejections}
-use Rattle.trunks.specs.{declared.Body.Body, declared.Trunk.Trunk, Bodies.extending, Bodies.argumentOf, Bodies.resultOf, Components.leadBy, Components.trunkBy, Components.sameLead}
+use Rattle.trunks.specs.{declared.Body.Body, declared.Trunk.Trunk, Bodies.extending, Components.leadBy, Components.trunkBy, Components.sameLead}
 use Rattle.trunks.specs.{Components.sameTrunk, Components.idOf, Components.trunkOperations, Components.answerable, Components.carryingBody, Components.trunkInvoke, Components.trunkResult}
 use Rattle.trunks.specs.{Components.trunkErrors, Components.failing, Components.trunkError, Components.ofReject, Components.rejectOf, Components.rejected, Components.inNetwork}
 use Rattle.trunks.specs.{Components.facility, Components.tags, Components.trunkFrame, Components.trunkComponent}

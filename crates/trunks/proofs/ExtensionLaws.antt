@@ -1,11 +1,11 @@
 -- The laws of extensions.
-use Rattle.prelude.proofs.Prelude.{ℕ, _≤_, _≡_, refl, List, Bool, true, arith, eqb, eq-eqb, ne-eqb}
+use Rattle.prelude.proofs.Prelude.{ℕ, _≡_, refl, true, arith, eqb, eq-eqb, ne-eqb}
 use Rattle.coding.{specs.Reader.Reader, specs.Codec.Run, specs.Codec.isTag, specs.Codec.apart, specs.Codec.oneOf, specs.Codec.sort, specs.Codec.over, specs.Codec.canonical}
 use Rattle.coding.{specs.Codec.nothing, specs.Kept.asReceived, proofs.Combine.nothingLaws, proofs.Kept.keptLaws, proofs.Padded.Equal, proofs.Padded.eqbEqual, proofs.Padded.listEqual}
 use Rattle.coding.{proofs.Padded.pairEqual, proofs.Padded.viaEqual}
-use Rattle.types.proofs.{Chains.Known, Chains.weaken, Chains.made, Chains.parted, PartLaws.taken}
+use Rattle.types.proofs.{Chains.Known, Chains.made, Chains.parted, PartLaws.taken}
 use Rattle.trunks.specs.declared.Extension.{Extension}
-use Rattle.trunks.specs.Extensions.{noExtension, sameExtension, extensionBy, keptOctets, isExtension, inOne, inList, extensionAt, unextended, someExtension, extension, parameter}
+use Rattle.trunks.specs.Extensions.{noExtension, sameExtension, extensionBy, keptOctets, isExtension, inList, extensionAt, unextended, someExtension, extension, parameter}
 
 pub extensionEqual : Equal sameExtension
 extensionEqual =

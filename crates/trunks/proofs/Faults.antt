@@ -1,14 +1,14 @@
 -- Which faults a component's reading can have, and where: the argument's lie after the eighth octet; those of a network facility extension are all 6.
-use Rattle.prelude.proofs.Prelude.{ℕ, zero, suc, _+_, _≤_, _≡_, refl, List, [], _∷_, Bool, true, inl, arith, length, getD, ltb, leb, eqb}
-use Rattle.coding.{specs.Reader.Ans, specs.Reader.Reader, specs.Reader.Fault, specs.Reader.Ruling, specs.Reader.after, specs.Reader.choice, specs.Reader.tagged, specs.Reader.opened}
-use Rattle.coding.{specs.Reader.numberedAt, specs.Reader.closed, specs.Reader.blamed, specs.Reader.part, specs.Reader.primitive, specs.Reader.entries, specs.Reader.Ans.got, specs.Reader.Ans.halt}
+use Rattle.prelude.proofs.Prelude.{ℕ, zero, suc, _+_, _≤_, _≡_, refl, List, Bool, true, inl, arith, length, leb, eqb}
+use Rattle.coding.{specs.Reader.Ans, specs.Reader.Reader, specs.Reader.Fault, specs.Reader.after, specs.Reader.choice, specs.Reader.tagged, specs.Reader.opened}
+use Rattle.coding.{specs.Reader.numberedAt, specs.Reader.blamed, specs.Reader.part, specs.Reader.primitive, specs.Reader.entries, specs.Reader.Ans.got, specs.Reader.Ans.halt}
 use Rattle.coding.{specs.Reader.Fault.named, specs.Codec.Run, specs.Codec.shape, specs.Codec.canonical, specs.Codec.marked, specs.Leaves.given, specs.Kept.tile, specs.Kept.counted·in, specs.Kept.everyEntry}
 use Rattle.coding.{proofs.Length.length-forward, proofs.Length.number-given, proofs.Basic.known, specs.declared.Extent.Extent}
 use Rattle.types.specs.Charges.{scaled, currencyLeaf, currency, money, digitsLeaf, identified, planned, plainParty, partyNumber, party, unassociated, association}
 use Rattle.types.specs.Rates.{duration, flatRate, volume, coded, plainRate, price, rate}
 use Rattle.types.specs.Arguments.{sign, inMoney, ending, settled, withAssociation, rates}
 use Rattle.types.proofs.{Places.Plain, Places.Ends, Places.Blames, Places.Placed, Places.pick, Places.nearer, Places.farther, Places.before-end, Places.follows, Places.Lengths, Places.number-ends}
-use Rattle.types.proofs.{Places.neither-ends, Places.opened-ends, Places.closed-ends, Places.judged-ends, Places.kept-placed, Places.over-placed, Places.either-placed, Places.placing, Faults.Unnamed, Faults.unnamed}
+use Rattle.types.proofs.{Places.neither-ends, Places.opened-ends, Places.closed-ends, Places.judged-ends, Places.kept-placed, Places.over-placed, Places.either-placed, Faults.Unnamed, Faults.unnamed}
 use Rattle.types.proofs.{Faults.Told, Faults.Inside, Faults.framed, Faults.marked-placed, Faults.id-led, Faults.value-led, Faults.value-placed, Faults.seven, Faults.eight, Faults.reject-placed}
 use Rattle.types.proofs.{Faults.placed, Faults.family-told}
 use Rattle.trunks.specs.Extensions.{arcs, objectIdentifier, inOne, inList, extensionAt, unextended, someExtension, extension, parameter}

@@ -1,10 +1,10 @@
 -- What reading octets answers, and what is written of a component of a trunk: instances of what holds of any family.
 use Rattle.prelude.proofs.Prelude.{ℕ, _+_, _≤_, _<_, _≡_, refl, List, true, _⊎_, _↔_, arith, length}
 use Rattle.coding.{specs.Reader.Ans.got, specs.Reader.Ans.halt, specs.Reader.Fault.named, proofs.Laws.Octets, proofs.Whole.Encodes, proofs.Whole.one-meaning, proofs.Frames.frames-ends}
-use Rattle.types.specs.Frames.{outside, answerOf, readFamily}
+use Rattle.types.specs.Frames.{outside, readFamily}
 use Rattle.types.proofs.{Places.Ends, Faults.Told}
 use Rattle.trunks.specs.{declared.Trunk.Trunk, declared.TrunkAnswer.TrunkAnswer, Components.noTrunk, Components.trunkFrame, Components.trunkComponent, Components.tags, Components.readWholeTrunk}
-use Rattle.trunks.specs.Components.{trunkAccepted, trunkAnswered, readTrunk}
+use Rattle.trunks.specs.Components.{trunkAccepted, readTrunk}
 use Rattle.trunks.proofs.{ComponentLaws.componentLaws, Faults.whole-told}
 use Rattle.coding.proofs.Whole as Whole
 use Rattle.types.proofs.Family as Family

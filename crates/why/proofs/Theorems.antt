@@ -1,5 +1,5 @@
 -- The reason given holds with its event, no reason earlier in the order holds with any event, and it holds with no earlier event.
-use Rattle.prelude.proofs.Prelude.{ℕ, _+_, _≤_, _<_, _≡_, refl, Bool, true, false, cond, List, [], _∷_, reverse, arith, length, eqb, lit<, eqb-false, ne-eqb}
+use Rattle.prelude.proofs.Prelude.{ℕ, _≤_, _<_, _≡_, refl, Bool, true, false, cond, List, reverse, arith, eqb, lit<, eqb-false, ne-eqb}
 use Rattle.prelude.proofs.Ways.{by-cases}
 use Rattle.phases.{proofs.Choice.by-number, specs.Phases.Ended, specs.Phases.D, specs.Phases.E, specs.Phases.Given}
 use Rattle.outcomes.specs.Outcome.{was, its}

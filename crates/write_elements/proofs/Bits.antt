@@ -1,5 +1,5 @@
 -- The width of a number in octets from its leading zeros. The count of bits is tied to the number once, over any number of bits.
-use Rattle.prelude.proofs.Prelude.{_≡_, ℕ, zero, suc, _+_, _-_, _*_, _/_, _^_, _≤_, _<_, arith, sym, _∙_, pow-suc, pow-mono, leadingZeros, leading-top}
+use Rattle.prelude.proofs.Prelude.{_≡_, ℕ, zero, suc, _+_, _-_, _*_, _/_, _^_, _≤_, _<_, arith, pow-suc, pow-mono, leadingZeros, leading-top}
 use Rattle.coding.{specs.Leaves.width, proofs.Digits.power-bits, proofs.Number.width-is}
 
 -- j octets do not hold a number, where they do not hold the odd number beside it

@@ -1,5 +1,6 @@
 -- The octets of a charge's parts, how many they are, and that each has room where all have.
-use Rattle.prelude.proofs.Prelude.{ℕ, suc, _+_, _≤_, _<_, _≡_, refl, sym, ap, ap₂, _∙_, List, [], _∷_, _++_, Bool, true, false, true≢false, _&&_, _||_, cond, arith, length, take, length-append, length-take}
+use Rattle.prelude.proofs.Prelude.{ℕ, suc, _+_, _≤_, _<_, _≡_, refl, sym, ap, ap₂, _∙_, List, [], _∷_, _++_, Bool, true, false, true≢false, _&&_, _||_, cond, arith, length, take}
+use Rattle.prelude.proofs.Prelude.{length-append, length-take}
 use Rattle.prelude.proofs.Prelude.{length-take-le, ltb, leb, leb·zero, eqb, eq-eqb, ne-eqb, eqb-true, eqb-false, le-ltb, ltb-true, ltb-false}
 use Rattle.coding.{specs.Codec.canonical, specs.Codec.over, specs.Codec.shape, specs.Codec.prim, specs.Codec.pair, specs.Codec.sort, specs.Codec.nothing, specs.Codec.leafOver, specs.Codec.cons}
 use Rattle.coding.{specs.Codec.lengthOctets, specs.Codec.padded, specs.Leaves.number, specs.Leaves.string, specs.Leaves.identifier, specs.Leaves.only, specs.Leaves.width}
@@ -12,7 +13,8 @@ use Rattle.types.specs.{declared.Money.Money, declared.Currency.Currency, decla
 use Rattle.types.specs.{Charges.currency, Charges.money, Charges.isDigit, Charges.isPlan, Charges.digitsLeaf, Charges.digitsOf}
 use Rattle.types.specs.{Charges.identified, Charges.planned, Charges.partyNumber, Charges.plainParty, Charges.party, Charges.unassociated, Charges.association}
 use Rattle.write_figures.specs.Octets.{element, planTag}
-use Rattle.write_tests.{specs.Fine.digitsFine, specs.Fine.isPlanned, proofs.Truth.truth, proofs.Tests.scaled-is, proofs.Tests.money-is, proofs.Tests.planned-is, proofs.Tests.plain-is, proofs.Tests.number-planned}
+use Rattle.write_tests.{specs.Fine.digitsFine, specs.Fine.isPlanned, proofs.Truth.truth, proofs.Tests.scaled-is, proofs.Tests.money-is, proofs.Tests.planned-is, proofs.Tests.plain-is}
+use Rattle.write_tests.{proofs.Tests.number-planned}
 use Rattle.write_tests.{proofs.Tests.number-plain, proofs.Tests.association-number}
 
 -- ---- by a test, by the kind of an association, by the time of a charge

@@ -9,4 +9,4 @@ returns c =
     place-in (a .t1) (a .i) (c .before .if1 .taken) (omega arith)
 
 pub letter-spec : {M : Type 1} → statement M
-letter-spec = tie.close (tie.spec (search needs) (search needs) returns (λ c. place-past (c .before .args .t1) (c .before .args .i) (c .if1 .left)))
+letter-spec = tie.close (tie.spec (omega arith) (omega arith) returns (λ c. place-past (c .before .args .t1) (c .before .args .i) (c .if1 .left)))

@@ -1,6 +1,6 @@
 -- `event_in` meets its contract: the walk of `Lent` at its types. The keys are searched by `seat_of`; where the reference holds the slot, its account is lent on to `step_in` for a new lifetime;
 -- a Setup stores what `taken_up` makes.
-use mathlib.Core.Path.{_≡_, refl, ap, _∙_, subst}
+use mathlib.Core.Path.{_≡_, refl, subst}
 use Prim.Native.Nat.{ℕ, _%_, _^_, _<_}
 use mathlib.Core.List.{List, [], _∷_, map}
 use lib.ListN.{length, set}

@@ -1,4 +1,4 @@
-use Rattle.prelude.proofs.Prelude.{sym, _∙_, and-false, needs, not-true, not-false, eq-eqb, ne-eqb}
+use Rattle.prelude.proofs.Prelude.{sym, _∙_, and-false, arith, not-true, not-false, eq-eqb, ne-eqb}
 use Rattle.closing.specs.Range.{inRange}
 use Rattle.closing.proofs.{Small.operation-range, in_range.Statement.statement}
 use Rattle.closing.proofs.in_range.Tie as tie
@@ -20,5 +20,5 @@ pub in-range-spec : {M : Type 1} → statement M
 unfolding inRange
 in-range-spec =
     tie.close
-    (tie.spec (search needs) (λ c. rw (sym (c .before .is-closing .ensures) ∙ not-true _ (c .if1 .taken))) (λ c. simp (eq-eqb _ _ (c .if2 .taken), and-false))
-    (search needs) argument-fine-requires returns-3)
+    (tie.spec (omega arith) (λ c. rw (sym (c .before .is-closing .ensures) ∙ not-true _ (c .if1 .taken))) (λ c. simp (eq-eqb _ _ (c .if2 .taken), and-false))
+    (omega arith) argument-fine-requires returns-3)

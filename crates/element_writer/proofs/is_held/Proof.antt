@@ -1,4 +1,4 @@
-use Rattle.prelude.proofs.Prelude.{needs, sym, _∙_, true≢false}
+use Rattle.prelude.proofs.Prelude.{arith, sym, _∙_, true≢false}
 use Rattle.element_writer.proofs.{Left.held-none, Left.held-over, Left.held-by, is_held.Statement.statement}
 use Rattle.element_writer.proofs.is_held.Tie as tie
 
@@ -11,4 +11,4 @@ pub is-held-spec : {M : Type 1} → statement M
 is-held-spec =
     tie.close
     (tie.spec (λ c. (held-none _ (c .if1 .taken), λ e. absurd (true≢false (sym e))))
-    (λ c. (held-over _ (c .before .if1 .left) (c .if2 .taken), λ e. absurd (true≢false (sym e)))) (search needs) returns-3)
+    (λ c. (held-over _ (c .before .if1 .left) (c .if2 .taken), λ e. absurd (true≢false (sym e)))) (omega arith) returns-3)

@@ -1,4 +1,4 @@
-use Rattle.prelude.proofs.Prelude.{needs}
+use Rattle.prelude.proofs.Prelude.{arith}
 use Rattle.phases.proofs.Choice.{tests}
 use Rattle.events.specs.Events.{addsUp}
 use Rattle.events.proofs.adds_up.Statement.{statement}
@@ -6,4 +6,4 @@ use Rattle.events.proofs.adds_up.Tie as tie
 
 pub adds-up-spec : {M : Type 1} → statement M
 unfolding addsUp
-adds-up-spec = tie.close (tie.spec (λ c. search tests) (search needs) (λ c. search tests))
+adds-up-spec = tie.close (tie.spec (λ c. search tests) (omega arith) (λ c. search tests))

@@ -1,4 +1,4 @@
-use Rattle.prelude.proofs.Prelude.{needs, _≤_, _-_, _/_, _≡_, sym, _∙_, arith, length}
+use Rattle.prelude.proofs.Prelude.{_≤_, _-_, _/_, _≡_, sym, _∙_, arith, length}
 use Rattle.events.specs.Events.{rowsFit}
 use Rattle.events.proofs.{Laws.fits-short, Laws.fits-more, Laws.fits-end, Laws.fits-start, rows_fit.Statement.statement}
 use Rattle.events.proofs.rows_fit.Tie as tie
@@ -34,11 +34,11 @@ rows-fit-spec =
     Inv-loop
     μ-loop
     (λ c. (omega arith, fits-start _ _ _))
-    (search needs)
-    (search needs)
-    (search needs)
     (omega arith)
-    (search needs)
+    (omega arith)
+    (omega arith)
+    (omega arith)
+    (omega arith)
     returns
     (omega arith)
     (omega arith)

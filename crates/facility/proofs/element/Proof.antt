@@ -1,4 +1,4 @@
-use Rattle.prelude.proofs.Prelude.{arith, needs}
+use Rattle.prelude.proofs.Prelude.{arith}
 use Rattle.facility.specs.Element.{elementOf}
 use Rattle.facility.proofs.element.Statement.{statement}
 use Rattle.facility.proofs.element.Tie as tie
@@ -13,4 +13,4 @@ returns-2 c =
     (rw (← c .before .before .is-led .ensures .0, c .before .if1 .left) (c .refused .ensures), rw (c .refused .ensures) (omega arith))
 
 pub element-spec : {M : Type 1} → statement M
-element-spec = tie.close (tie.spec (search needs) (λ c κs. c .before .is-led .ensures .1 (c .if1 .taken)) returns (search needs) returns-2)
+element-spec = tie.close (tie.spec (omega arith) (λ c κs. c .before .is-led .ensures .1 (c .if1 .taken)) returns (omega arith) returns-2)

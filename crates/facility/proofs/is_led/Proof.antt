@@ -1,4 +1,4 @@
-use Rattle.prelude.proofs.Prelude.{arith, _<_, le-pred-of-lt, sym, _∙_, length, true≢false, le-ltb, lt-ltb, eq-eqb, ne-eqb, needs}
+use Rattle.prelude.proofs.Prelude.{arith, _<_, le-pred-of-lt, sym, _∙_, length, true≢false, le-ltb, lt-ltb, eq-eqb, ne-eqb}
 use Rattle.facility.specs.Element.{led}
 use Rattle.facility.proofs.{Tiling.third-decides, is_led.Statement.statement}
 use Rattle.facility.proofs.is_led.Tie as tie
@@ -30,4 +30,4 @@ returns-4 c =
     (c .is-profile .ensures ∙ third-decides _ l (e .if2 .left) (sym (w .wide .ensures .0) ∙ t .if3 .left), λ e. (l, omega (arith, w .wide .ensures .1)))
 
 pub is-led-spec : {M : Type 1} → statement M
-is-led-spec = tie.close (tie.spec returns (search needs) returns-2 (search needs) (search needs) (search needs) returns-3 (search needs) (search needs) returns-4)
+is-led-spec = tie.close (tie.spec returns (omega arith) returns-2 (omega arith) (omega arith) (omega arith) returns-3 (omega arith) (omega arith) returns-4)

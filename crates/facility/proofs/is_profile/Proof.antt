@@ -1,4 +1,4 @@
-use Rattle.prelude.proofs.Prelude.{needs, refl, eq-eqb, ne-eqb}
+use Rattle.prelude.proofs.Prelude.{eq-eqb, ne-eqb}
 use Rattle.facility.specs.Element.{isProfile}
 use Rattle.facility.proofs.is_profile.Statement.{statement}
 use Rattle.facility.proofs.is_profile.Tie as tie

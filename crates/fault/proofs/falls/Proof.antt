@@ -1,5 +1,4 @@
-use Rattle.prelude.proofs.Prelude.{needs, ℕ, _≡_, refl, sym, _∙_, ap, ap₂, Bool, _&&_, eqb, ltb, ne-eqb, eq-eqb, not-true, not-false}
-use Rattle.fault.specs.{declared.Last.Last, Running.fallsBy}
+use Rattle.prelude.proofs.Prelude.{arith, needs, refl, sym, _∙_, ne-eqb, eq-eqb, not-true, not-false}
 use Rattle.fault.proofs.falls.Statement.{statement}
 use Rattle.fault.proofs.falls.Tie as tie
 
@@ -21,4 +20,4 @@ returns-3 c =
     rw (sym (e .before .counted-money .ensures) ∙ not-false _ (e .if1 .left), ← found .last-of .ensures, eq-eqb _ 1 (f .if2 .left), amount .thousandths .ensures .0) refl
 
 pub falls-spec : {M : Type 1} → statement M
-falls-spec = tie.close (tie.spec (search needs) returns (λ c κs. search needs) returns-2 (search needs) returns-3)
+falls-spec = tie.close (tie.spec (omega arith) returns (λ c κs. search needs) returns-2 (omega arith) returns-3)

@@ -1,4 +1,4 @@
-use Rattle.prelude.proofs.Prelude.{needs, ℕ, _+_, _-_, _/_, _≡_, refl, sym, _∙_, ap, [], arith, length}
+use Rattle.prelude.proofs.Prelude.{ℕ, _+_, _-_, _/_, _≡_, sym, _∙_, ap, [], arith, length}
 use Rattle.account.specs.{History.judged, declared.Account.Account}
 use Rattle.events.{specs.Events.Going, specs.Prefix.placeAt, specs.Prefix.before, proofs.Laws.begins, proofs.Laws.inside, proofs.Laws.goes-on, proofs.Prefix.place-start, proofs.Prefix.place-next}
 use Rattle.fault.specs.Running.{progressBy}
@@ -58,11 +58,11 @@ judged-all-spec =
     (tie.spec
     Inv-loop
     μ-loop
-    (search needs)
+    (omega arith)
     begin
-    (search needs)
+    (omega arith)
     (λ c. let at = c .before .before in omega (arith, c .count-at .ensures, inside _ _ _ _ (at .loop .inv .0) (c .before .loop-test .taken)))
-    (search needs)
+    (omega arith)
     (omega arith)
     (omega arith)
     (omega arith)
@@ -70,5 +70,5 @@ judged-all-spec =
     (λ c κs. let in-loop = c .before .before .before in let call = in-loop .before .before .before in (call .before .before .pre, omega (arith, in-loop .loop-test .taken)))
     (omega arith)
     loop-again
-    (search needs)
+    (omega arith)
     returns)

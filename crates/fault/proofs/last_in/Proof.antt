@@ -1,4 +1,4 @@
-use Rattle.prelude.proofs.Prelude.{needs, ℕ, _+_, _-_, _≤_, _≡_, refl, sym, _∙_, ap, arith, length}
+use Rattle.prelude.proofs.Prelude.{ℕ, _+_, _-_, _≤_, _≡_, sym, _∙_, ap, arith}
 use Rattle.account.specs.{History.judged, declared.Account.Account}
 use Rattle.events.{specs.Events.Going, specs.Prefix.placeAt, specs.Prefix.before, proofs.Laws.begins, proofs.Laws.inside, proofs.Laws.goes-on, proofs.Prefix.place-start, proofs.Prefix.place-next}
 use Rattle.fault.specs.{declared.State.State, Going.noLast, Going.stateBy, Going.lastBy}
@@ -75,7 +75,7 @@ last-in-spec =
     (tie.spec
     Inv-loop
     μ-loop
-    (search needs)
+    (omega arith)
     begin
     (λ c κs. let call = c .before .before .before in omega (arith, c .loop-test .taken, call .before .before .pre .1))
     ends
@@ -83,7 +83,7 @@ last-in-spec =
     (omega arith)
     (omega arith)
     part
-    (search needs)
+    (omega arith)
     (λ c. let counted = c .before .before .before in let in-loop = counted .before in let call = in-loop .before .before .before in
     omega (arith, in-loop .loop-test .taken, call .before .before .fits .k .fits))
     (omega arith)

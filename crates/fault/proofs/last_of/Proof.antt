@@ -1,4 +1,4 @@
-use Rattle.prelude.proofs.Prelude.{needs, refl, sym, _∙_, ne-eqb, eq-eqb}
+use Rattle.prelude.proofs.Prelude.{arith, needs, refl, sym, _∙_, ne-eqb, eq-eqb}
 use Rattle.fault.proofs.last_of.Statement.{statement}
 use Rattle.fault.proofs.last_of.Tie as tie
 
@@ -15,4 +15,4 @@ returns-3 c =
     rw (eq-eqb _ 1 (some .if1 .left), sym (same .same-currency .ensures) ∙ c .before .if2 .left) (c .last-in .ensures)
 
 pub last-of-spec : {M : Type 1} → statement M
-last-of-spec = tie.close (tie.spec (λ c. rw (ne-eqb _ 1 (c .if1 .taken)) refl) (search needs) (search needs) returns-2 (λ c κs. search needs) returns-3)
+last-of-spec = tie.close (tie.spec (λ c. rw (ne-eqb _ 1 (c .if1 .taken)) refl) (omega arith) (omega arith) returns-2 (λ c κs. search needs) returns-3)

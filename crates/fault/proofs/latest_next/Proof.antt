@@ -1,4 +1,4 @@
-use Rattle.prelude.proofs.Prelude.{needs, refl, sym, _∙_}
+use Rattle.prelude.proofs.Prelude.{arith, refl, sym, _∙_}
 use Rattle.fault.proofs.latest_next.Statement.{statement}
 use Rattle.fault.proofs.latest_next.Tie as tie
 
@@ -6,6 +6,6 @@ pub latest-next-spec : {M : Type 1} → statement M
 latest-next-spec =
     tie.close
     (tie.spec
-    (search needs)
+    (omega arith)
     (λ c. rw (sym (c .before .counted-money .ensures) ∙ c .if1 .taken) refl)
     (λ c. rw (sym (c .before .counted-money .ensures) ∙ c .if1 .left) refl))

@@ -1,4 +1,4 @@
-use Rattle.prelude.proofs.Prelude.{needs, refl}
+use Rattle.prelude.proofs.Prelude.{arith, needs, refl}
 use Rattle.fault.specs.Running.{nextOf}
 use Rattle.fault.proofs.next.Statement.{statement}
 use Rattle.fault.proofs.next.Tie as tie
@@ -26,4 +26,4 @@ returns c =
 
 pub next-spec : {M : Type 1} → statement M
 unfolding nextOf
-next-spec = tie.close (tie.spec (search needs) (search needs) (search needs) (λ c κs. search needs) (search needs) (search needs) (search needs) returns)
+next-spec = tie.close (tie.spec (omega arith) (omega arith) (omega arith) (λ c κs. search needs) (omega arith) (omega arith) (omega arith) returns)

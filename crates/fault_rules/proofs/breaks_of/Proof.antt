@@ -1,4 +1,4 @@
-use Rattle.prelude.proofs.Prelude.{needs, refl, sym, _∙_, eq-eqb, ne-eqb}
+use Rattle.prelude.proofs.Prelude.{arith, refl, sym, _∙_, eq-eqb, ne-eqb}
 use Rattle.fault_rules.proofs.breaks_of.Statement.{statement}
 use Rattle.fault_rules.proofs.breaks_of.Tie as tie
 
@@ -34,4 +34,4 @@ returns-5 c =
     rw (sym (placed .before .misplaced .ensures) ∙ placed .if1 .left, risen .if2 .left, sym (charged .charges .ensures) ∙ free .if3 .left, ne-eqb _ 29 (c .if4 .left)) refl
 
 pub breaks-of-spec : {M : Type 1} → statement M
-breaks-of-spec = tie.close (tie.spec (search needs) returns returns-2 (search needs) returns-3 returns-4 returns-5)
+breaks-of-spec = tie.close (tie.spec (omega arith) returns returns-2 (omega arith) returns-3 returns-4 returns-5)

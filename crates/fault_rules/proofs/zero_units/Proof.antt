@@ -1,4 +1,4 @@
-use Rattle.prelude.proofs.Prelude.{needs, ℕ, _+_, _≤_, _-_, _≡_, refl, sym, _∙_, Bool, true, false, arith, not-true, not-false}
+use Rattle.prelude.proofs.Prelude.{ℕ, _≤_, _-_, _≡_, refl, sym, _∙_, Bool, true, arith, not-true, not-false}
 use Rattle.types.specs.{Entries.unitAt, declared.Entries.Entries}
 use Rattle.octets.{specs.Each.each, proofs.Each.each-fails, proofs.Each.each-more}
 use Rattle.fault_rules.specs.Figures.{nothingBy}
@@ -41,13 +41,13 @@ zero-units-spec =
     (tie.spec
     Inv-loop
     μ-loop
-    (search needs)
+    (omega arith)
     (λ c. (omega arith, refl))
     (λ c. omega arith)
     (λ c. omega arith)
     (λ c. omega arith)
     (λ c. omega arith)
-    (search needs)
+    (omega arith)
     returns
     (λ c. omega arith)
     (λ c. omega arith)

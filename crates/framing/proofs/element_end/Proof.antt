@@ -1,4 +1,4 @@
-use Rattle.prelude.proofs.Prelude.{needs, _∙_, _+_, sym, arith, le-leb, lt-leb}
+use Rattle.prelude.proofs.Prelude.{_+_, sym, arith, le-leb, lt-leb}
 use Rattle.framing.proofs.{Laws.past-end, element_end.Statement.statement}
 use Rattle.framing.proofs.element_end.Tie as tie
 
@@ -14,4 +14,4 @@ returns-3 c =
 pub element-end-spec : {M : Type 1} → statement M
 element-end-spec =
     tie.close
-    (tie.spec (search needs) (search needs) (λ c. sym (rw (le-leb _ _ (c .if1 .taken)))) (search needs) (search needs) (search needs) (search needs) (search needs) returns-2 (search needs) returns-3)
+    (tie.spec (omega arith) (omega arith) (λ c. sym (rw (le-leb _ _ (c .if1 .taken)))) (omega arith) (omega arith) (omega arith) (omega arith) (omega arith) returns-2 (omega arith) returns-3)

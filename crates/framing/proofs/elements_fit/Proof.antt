@@ -1,4 +1,4 @@
-use Rattle.prelude.proofs.Prelude.{needs, suc, _≤_, _-_, _≡_, refl, sym, _∙_, arith, length}
+use Rattle.prelude.proofs.Prelude.{suc, _≤_, _-_, _≡_, refl, sym, _∙_, arith, length}
 use Rattle.framing.specs.Framing.{elementsFit}
 use Rattle.framing.proofs.{Laws.end-past, Laws.fit-more, Laws.fit-short, Laws.fit-end, elements_fit.Statement.statement}
 use Rattle.framing.proofs.elements_fit.Tie as tie

@@ -1,4 +1,4 @@
-use Rattle.prelude.proofs.Prelude.{needs, _≤_, _-_, _+_, _/_, _≡_, sym, _∙_, arith, length, not-true, not-false}
+use Rattle.prelude.proofs.Prelude.{_-_, _+_, _/_, _≡_, sym, _∙_, arith, length, not-true, not-false}
 use Rattle.framing.specs.Framing.{Passing, firstUnframed, messagesFrom, messagesOf}
 use Rattle.framing.proofs.{Laws.passing-starts, Laws.passes-on, Laws.inside, Laws.unframed-here, Laws.framed-on, Laws.all-framed, Laws.unframed-start, first_unframed.Statement.statement}
 use Rattle.framing.proofs.first_unframed.Tie as tie
@@ -60,16 +60,16 @@ first-unframed-spec =
     Inv-loop
     μ-loop
     loop-holds
-    (search needs)
-    (search needs)
     (omega arith)
-    (search needs)
+    (omega arith)
+    (omega arith)
+    (omega arith)
     add-end
     (omega arith)
     (omega arith)
     (omega arith)
     part-end
-    (search needs)
+    (omega arith)
     returns
     (omega arith)
     loop-again

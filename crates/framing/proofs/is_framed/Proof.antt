@@ -1,4 +1,4 @@
-use Rattle.prelude.proofs.Prelude.{needs, _∙_, _+_, _≡_, ℕ, suc, sym, ap, arith, length, not-true, not-false}
+use Rattle.prelude.proofs.Prelude.{_∙_, _+_, _≡_, ℕ, suc, sym, ap, arith, length, not-true, not-false}
 use Rattle.framing.specs.Framing.{framed, elementsFit}
 use Rattle.framing.proofs.{Laws.headed-long, is_framed.Statement.statement}
 use Rattle.framing.proofs.is_framed.Tie as tie
@@ -30,4 +30,4 @@ returns-2 c =
     ∙ sym (rw (sym (h .is-headed .ensures) ∙ not-false _ (w .before .before .if1 .left), ← w .wide .ensures .0))
 
 pub is-framed-spec : {M : Type 1} → statement M
-is-framed-spec = tie.close (tie.spec (search needs) returns read-wide (search needs) (search needs) elements-fit-requires returns-2)
+is-framed-spec = tie.close (tie.spec (omega arith) returns read-wide (omega arith) (omega arith) elements-fit-requires returns-2)

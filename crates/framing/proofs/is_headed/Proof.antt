@@ -1,4 +1,4 @@
-use Rattle.prelude.proofs.Prelude.{needs, _∙_, sym, ap, arith, leb, le-leb, lt-leb, eq-eqb, ne-eqb, _+_, _≡_, ℕ, length}
+use Rattle.prelude.proofs.Prelude.{_∙_, sym, ap, arith, leb, le-leb, lt-leb, eq-eqb, ne-eqb, _+_, _≡_, ℕ, length}
 use Rattle.framing.proofs.is_headed.Statement.{statement}
 use Rattle.framing.proofs.is_headed.Tie as tie
 
@@ -20,5 +20,5 @@ returns-4 c =
 pub is-headed-spec : {M : Type 1} → statement M
 is-headed-spec =
     tie.close
-    (tie.spec (λ c. sym (rw (lt-leb _ _ (c .if1 .taken)))) (search needs) (λ c. sym (rw (le-leb _ _ (c .before .before .if1 .left), ne-eqb _ _ (c .if2 .taken)))) (search needs) returns-3
-    (search needs) (search needs) (search needs) returns-4)
+    (tie.spec (λ c. sym (rw (lt-leb _ _ (c .if1 .taken)))) (omega arith) (λ c. sym (rw (le-leb _ _ (c .before .before .if1 .left), ne-eqb _ _ (c .if2 .taken)))) (omega arith) returns-3
+    (omega arith) (omega arith) (omega arith) returns-4)

@@ -1,5 +1,5 @@
-use Rattle.prelude.proofs.Prelude.{needs, _∙_, _≡_, sym, ap, eq-eqb, ne-eqb, not-true, not-false}
-use Rattle.framing.specs.Framing.{verdictOf, framedVerdict}
+use Rattle.prelude.proofs.Prelude.{arith, _∙_, sym, eq-eqb, ne-eqb, not-true, not-false}
+use Rattle.framing.specs.Framing.{verdictOf}
 use Rattle.framing.proofs.judge.Statement.{statement}
 use Rattle.framing.proofs.judge.Tie as tie
 
@@ -20,4 +20,4 @@ returns-3 c =
     sym (rw (sym (f .before .before .adds-up .ensures) ∙ not-false _ (f .before .if1 .left), ← f .first-unframed .ensures, ne-eqb _ _ (c .if2 .left)))
 
 pub judge-spec : {M : Type 1} → statement M
-judge-spec = tie.close (tie.spec (search needs) returns (λ c κs. sym (c .before .adds-up .ensures) ∙ not-false _ (c .if1 .left)) returns-2 returns-3)
+judge-spec = tie.close (tie.spec (omega arith) returns (λ c κs. sym (c .before .adds-up .ensures) ∙ not-false _ (c .if1 .left)) returns-2 returns-3)

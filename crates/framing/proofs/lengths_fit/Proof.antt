@@ -1,4 +1,4 @@
-use Rattle.prelude.proofs.Prelude.{needs, _≤_, _-_, _/_, _≡_, sym, _∙_, arith, length}
+use Rattle.prelude.proofs.Prelude.{_≤_, _-_, _/_, _≡_, sym, _∙_, arith, length}
 use Rattle.framing.specs.Framing.{lengthsFit}
 use Rattle.framing.proofs.{Laws.lengths-short, Laws.lengths-more, Laws.lengths-end, Laws.lengths-start, lengths_fit.Statement.statement}
 use Rattle.framing.proofs.lengths_fit.Tie as tie
@@ -34,10 +34,10 @@ lengths-fit-spec =
     Inv-loop
     μ-loop
     (λ c. (omega arith, lengths-start _ _ _))
-    (search needs)
-    (search needs)
     (omega arith)
-    (search needs)
+    (omega arith)
+    (omega arith)
+    (omega arith)
     returns
     (omega arith)
     (omega arith)

@@ -1,4 +1,4 @@
-use Rattle.prelude.proofs.Prelude.{arith, needs, _≡_, sym, _∙_, true, _||_, length-take, eqb, lt-ltb, le-ltb, not-true, not-false}
+use Rattle.prelude.proofs.Prelude.{arith, _≡_, sym, _∙_, true, _||_, length-take, eqb, lt-ltb, le-ltb, not-true, not-false}
 use Rattle.lines.specs.Machine.{answerText}
 use Rattle.lines.proofs.answer.Statement.{statement}
 use Rattle.lines.proofs.answer.Tie as tie
@@ -15,9 +15,9 @@ whole c = sym (c .before .is-whole .ensures) ∙ not-false _ (c .if1 .left)
 pub answer-spec : {M : Type 1} → statement M
 answer-spec =
     tie.close
-    (tie.spec (λ c κs. search needs) (λ c κs. search needs) returns (λ c κs. search needs)
+    (tie.spec (λ c κs. omega arith) (λ c κs. omega arith) returns (λ c κs. omega arith)
     (λ c. unfold answerText in let m = c .before .before in
     (rw (whole (m .before), lt-ltb _ _ (m .if2 .taken)) (c .put-refused .ensures .0), omega (arith, c .put-refused .ensures .1)))
-    (λ c. simp length-take (omega arith)) (λ c κs. search needs)
+    (λ c. simp length-take (omega arith)) (λ c κs. omega arith)
     (λ c. unfold answerText in let m = c .before .before .before in
     (rw (whole (m .before), le-ltb _ _ (m .if2 .left)) (c .answer-to .ensures .0), c .answer-to .ensures .1)))

@@ -1,5 +1,5 @@
 -- The loop's invariant: the characters passed have left what is at hand. The measure is what is left.
-use Rattle.prelude.proofs.Prelude.{arith, needs, ℕ, _≤_, _-_, _≡_, sym, List, [], true≢false, length}
+use Rattle.prelude.proofs.Prelude.{arith, ℕ, _≤_, _-_, _≡_, sym, List, [], true≢false, length}
 use Rattle.coding.specs.Reader.{part}
 use Rattle.lines.specs.Machine.{state, turns}
 use Rattle.lines.proofs.{Steps.turns-none, Steps.turns-both, Steps.turns-all, chunk.Statement.statement}
@@ -22,5 +22,5 @@ loop-again c =
 pub chunk-spec : {M : Type 1} → statement M
 chunk-spec =
     tie.close
-    (tie.spec Inv-loop μ-loop (λ c. (omega arith, [], turns-none _ _ _)) (λ c κs. search needs) (λ c κs. search needs) (λ c. λ e. absurd (true≢false (sym e)))
-    (λ c. search needs) loop-again (λ c. λ e. (_, turns-all _ _ _ (omega arith) (c .before .loop .inv .2))))
+    (tie.spec Inv-loop μ-loop (λ c. (omega arith, [], turns-none _ _ _)) (λ c κs. omega arith) (λ c κs. omega arith) (λ c. λ e. absurd (true≢false (sym e)))
+    (λ c. omega arith) loop-again (λ c. λ e. (_, turns-all _ _ _ (omega arith) (c .before .loop .inv .2))))

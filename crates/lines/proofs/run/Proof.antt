@@ -52,7 +52,7 @@ pub run-spec : {M : Type 1} → statement M
 run-spec =
     tie.close
     (tie.spec Inv-loop μ-loop (λ c. (omega arith, omega arith, omega arith, omega arith, [], wrote-none _ _, λ t. turns-none _ _ _ ∙ rw append-nil))
-    (λ c κs. search needs) (λ c κs. search needs) (λ c κs. search needs) (λ c. search needs) loop-again (λ c. search needs) loop-again-2
+    (λ c κs. omega arith) (λ c κs. search needs) (λ c κs. omega arith) (λ c. omega arith) loop-again (λ c. omega arith) loop-again-2
     (λ c. let i = c .before .before .loop .inv in
     record { onward = omega (arith, leb-false); inside = omega arith; room = omega arith; text = _; put = i .5; ran = i .6 })
     (λ c. let i = c .before .loop .inv in record { onward = omega arith; inside = omega arith; room = omega arith; text = _; put = i .5; ran = i .6 }))

@@ -1,4 +1,4 @@
-use Rattle.prelude.proofs.Prelude.{needs, _∙_, sym, eq-eqb, ne-eqb, or-true, or-false}
+use Rattle.prelude.proofs.Prelude.{arith, _∙_, sym, eq-eqb, ne-eqb}
 use Rattle.messages.proofs.cleared_by.Statement.{statement}
 use Rattle.messages.proofs.cleared_by.Tie as tie
 
@@ -16,4 +16,4 @@ returns-3 c =
     c .is-clearing .ensures ∙ sym (rw (← i .before .reference-of .ensures, eq-eqb _ _ (i .if1 .left), k .if2 .left, ← t .type-of .ensures))
 
 pub cleared-by-spec : {M : Type 1} → statement M
-cleared-by-spec = tie.close (tie.spec (λ c κs. c .before .pre) returns returns-2 (λ c κs. let far = c .before .before .before in far .before .pre) (search needs) returns-3)
+cleared-by-spec = tie.close (tie.spec (λ c κs. c .before .pre) returns returns-2 (λ c κs. let far = c .before .before .before in far .before .pre) (omega arith) returns-3)

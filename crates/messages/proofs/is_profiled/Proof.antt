@@ -1,4 +1,4 @@
-use Rattle.prelude.proofs.Prelude.{needs, sym, _≡_, ℕ, getD, length, _<_, arith, ne-eqb}
+use Rattle.prelude.proofs.Prelude.{needs, sym, arith}
 use Rattle.framing.proofs.Laws.{past-end}
 use Rattle.messages.proofs.is_profiled.Statement.{statement}
 use Rattle.messages.proofs.is_profiled.Tie as tie

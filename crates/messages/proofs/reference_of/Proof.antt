@@ -1,4 +1,4 @@
-use Rattle.prelude.proofs.Prelude.{needs, arith, _≡_, _<_, _≤_, length, sym, eq-eqb, ne-eqb}
+use Rattle.prelude.proofs.Prelude.{arith, sym, eq-eqb, ne-eqb}
 use Rattle.framing.proofs.Laws.{framed-head}
 use Rattle.messages.proofs.reference_of.Statement.{statement}
 use Rattle.messages.proofs.reference_of.Tie as tie
@@ -34,4 +34,4 @@ returns-3 c =
 pub reference-of-spec : {M : Type 1} → statement M
 reference-of-spec =
     tie.close
-    (tie.spec read-if1 (λ c. sym (rw (eq-eqb _ _ (c .if1 .taken)))) read-wide (search needs) read-if2 returns-2 (search needs) read-wide-2 (search needs) (search needs) returns-3)
+    (tie.spec read-if1 (λ c. sym (rw (eq-eqb _ _ (c .if1 .taken)))) read-wide (omega arith) read-if2 returns-2 (omega arith) read-wide-2 (omega arith) (omega arith) returns-3)

@@ -1,4 +1,4 @@
-use Rattle.prelude.proofs.Prelude.{needs, arith, _≡_, sym, ap, _+_, ℕ, getD}
+use Rattle.prelude.proofs.Prelude.{arith}
 use Rattle.framing.proofs.Laws.{framed-head}
 use Rattle.messages.proofs.type_of.Statement.{statement}
 use Rattle.messages.proofs.type_of.Tie as tie
@@ -16,4 +16,4 @@ returns : tie.Need-returns
 returns c = rw (c .before .wide .ensures .0)
 
 pub type-of-spec : {M : Type 1} → statement M
-type-of-spec = tie.close (tie.spec read-wide (search needs) (search needs) read-result returns)
+type-of-spec = tie.close (tie.spec read-wide (omega arith) (omega arith) read-result returns)

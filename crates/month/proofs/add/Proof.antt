@@ -1,4 +1,4 @@
-use Rattle.prelude.proofs.Prelude.{needs, sym, ap, _∙_, _≡_, _<_, _≤_, true, not-true, not-false, arith}
+use Rattle.prelude.proofs.Prelude.{sym, ap, _∙_, _≡_, _<_, _≤_, true, not-true, not-false, arith}
 use lib.Arith.{lt-of-le-ne}
 use Rattle.closing.specs.Range.{inRange}
 use Rattle.month_rows.proofs.Search.{at-most}
@@ -65,24 +65,24 @@ pub add-spec : {M : Type 1} → statement M
 add-spec =
     tie.close
     (tie.spec
-    (search needs)
-    (search needs)
+    (omega arith)
+    (omega arith)
     returns
-    (search needs)
+    (omega arith)
     returns-2
-    (search needs)
-    (search needs)
-    (search needs)
+    (omega arith)
+    (omega arith)
+    (omega arith)
     returns-3
     with-money-requires
-    (search needs)
-    (search needs)
+    (omega arith)
+    (omega arith)
     returns-4
-    (search needs)
-    (search needs)
-    (search needs)
+    (omega arith)
+    (omega arith)
+    (omega arith)
     returns-5
-    (search needs)
-    (search needs)
-    (search needs)
+    (omega arith)
+    (omega arith)
+    (omega arith)
     returns-6)

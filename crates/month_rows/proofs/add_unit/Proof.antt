@@ -1,4 +1,4 @@
-use Rattle.prelude.proofs.Prelude.{needs, ℕ, refl, sym, ap, _∙_, eq-eqb, ne-eqb, getD, set}
+use Rattle.prelude.proofs.Prelude.{arith, ℕ, refl, sym, ap, _∙_, eq-eqb, ne-eqb, getD, set}
 use Rattle.coding.proofs.Basic.{picked}
 use Rattle.month_rows.specs.Rows.{plus}
 use Rattle.month_rows.proofs.add_unit.Statement.{statement}
@@ -16,12 +16,12 @@ add-unit-spec =
     tie.close
     (tie.spec
     (λ c. rw (ne-eqb _ 1 (c .if1 .taken)) refl)
-    (search needs)
-    (search needs)
-    (search needs)
-    (search needs)
-    (search needs)
-    (search needs)
-    (search needs)
-    (search needs)
+    (omega arith)
+    (omega arith)
+    (omega arith)
+    (omega arith)
+    (omega arith)
+    (omega arith)
+    (omega arith)
+    (omega arith)
     returns-2)

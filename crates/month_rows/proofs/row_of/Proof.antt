@@ -18,14 +18,14 @@ row-of-spec =
     Inv-loop
     μ-loop
     (λ c. (omega arith, search-begins _ _ _))
-    (search needs)
-    (search needs)
-    (search needs)
+    (omega arith)
+    (omega arith)
+    (omega arith)
     (λ c. let r = c .before .before in let at = r .before .before .before in let start = at .before in
     let n : length (start .args .t1) ≡ 16 = search needs in
     let same = sym (c .before .same-currency .ensures) ∙ c .if1 .taken in
     sym (search-finds (start .args .c) (start .args .n) (start .args .t1) (at .loop .i) (omega arith) (omega (arith, n, start .pre)) same) ∙ at .loop .inv .1)
-    (search needs)
+    (omega arith)
     (omega arith)
     (λ c. let r = c .before .before in let at = r .before .before .before in let start = at .before in
     let n : length (start .args .t1) ≡ 16 = search needs in

@@ -1,4 +1,4 @@
-use Rattle.prelude.proofs.Prelude.{needs, _+_, _-_, _≤_, _≡_, _∙_, ap, ap₂, arith, sub-zero, ℕ, List}
+use Rattle.prelude.proofs.Prelude.{_+_, _-_, _≤_, _≡_, _∙_, ap, ap₂, arith, sub-zero, ℕ, List}
 use Rattle.types.specs.declared.Units.{Units}
 use Rattle.month_rows.specs.Sums.{addUnit, addAbsent, sumUnits, countAbsent}
 use Rattle.month_rows.proofs.Entries.{sum-goes, sum-ends, count-goes, count-ends}
@@ -21,9 +21,9 @@ sum-units-spec =
     μ-loop
     (λ c. (omega arith, ap (λ (k : ℕ). sumUnits (c .args .e) 0 k (c .args .units)) (sub-zero (c .args .n)), ap (λ (k : ℕ). countAbsent (c .args .e) 0 k (c .args .absent)) (sub-zero (c .args .n))))
     (λ c κs. omega arith)
-    (search needs)
-    (search needs)
-    (search needs)
+    (omega arith)
+    (omega arith)
+    (omega arith)
     (omega arith)
     (λ c. let a = c .before in let u = a .before in let l = u .before in let at = l .before in let s = at .before in
     let e = s .args .e in let n = s .args .n in let i = at .loop .i in let here = l .loop-test .taken in (

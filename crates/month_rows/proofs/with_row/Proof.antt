@@ -24,4 +24,4 @@ returns-2 c =
 pub with-row-spec : {M : Type 1} → statement M
 with-row-spec =
     tie.close
-    (tie.spec (search needs) (search needs) (search needs) returns (search needs) (search needs) (search needs) (search needs) (search needs) returns-2)
+    (tie.spec (omega arith) (omega arith) (omega arith) returns (omega arith) (omega arith) (omega arith) (omega arith) (omega arith) returns-2)

@@ -1,4 +1,4 @@
-use Rattle.prelude.proofs.Prelude.{_+_, _-_, _≤_, needs, _≡_, arith, take, length-take-le}
+use Rattle.prelude.proofs.Prelude.{_+_, _-_, _≤_, _≡_, arith, take, length-take-le}
 use Rattle.coding.{specs.Written.Wrote, proofs.Writing.wrote-none, proofs.Writing.wrote-octet}
 use Rattle.octets.proofs.put_octets.Statement.{statement}
 use Rattle.octets.proofs.put_octets.Tie as tie
@@ -19,5 +19,5 @@ returns c = let e : c .before .loop .i ≡ c .before .before .args .n = omega ar
 pub put-octets-spec : {M : Type 1} → statement M
 put-octets-spec =
     tie.close
-    (tie.spec Inv-loop μ-loop (λ c. (omega arith, wrote-none _ _)) (search needs) (search needs) slice-write-buf (search needs) (search needs)
-    (λ c. (omega arith, wrote-octet _ _ _ _ _ (omega arith) (c .before .before .loop .inv .1))) (search needs) (λ c. c .before .loop .inv .1 .kept) returns)
+    (tie.spec Inv-loop μ-loop (λ c. (omega arith, wrote-none _ _)) (omega arith) (omega arith) slice-write-buf (omega arith) (omega arith)
+    (λ c. (omega arith, wrote-octet _ _ _ _ _ (omega arith) (c .before .before .loop .inv .1))) (omega arith) (λ c. c .before .loop .inv .1 .kept) returns)

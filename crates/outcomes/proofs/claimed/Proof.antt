@@ -1,4 +1,4 @@
-use Rattle.prelude.proofs.Prelude.{eq-eqb, ne-eqb, needs}
+use Rattle.prelude.proofs.Prelude.{eq-eqb, ne-eqb, arith}
 use Rattle.outcomes.specs.ByNumber.{claimRecord}
 use Rattle.outcomes.proofs.claimed.Statement.{statement}
 use Rattle.outcomes.proofs.claimed.Tie as tie
@@ -7,5 +7,5 @@ pub claimed-spec : {M : Type 1} → statement M
 unfolding claimRecord
 claimed-spec =
     tie.close
-    (tie.spec (search needs) (λ c. simp (eq-eqb _ _ (c .before .if1 .taken), c .service-by .ensures)) (search needs)
+    (tie.spec (omega arith) (λ c. simp (eq-eqb _ _ (c .before .if1 .taken), c .service-by .ensures)) (omega arith)
     (λ c. simp (ne-eqb _ _ (c .before .if1 .left)) (c .frame-outcome .ensures)))

@@ -1,4 +1,4 @@
-use Rattle.prelude.proofs.Prelude.{eq-eqb, ne-eqb, needs}
+use Rattle.prelude.proofs.Prelude.{eq-eqb, ne-eqb, arith}
 use Rattle.outcomes.proofs.frame_outcome.Statement.{statement}
 use Rattle.outcomes.proofs.frame_outcome.Tie as tie
 
@@ -21,4 +21,4 @@ returns-4 c =
 pub frame-outcome-spec : {M : Type 1} → statement M
 frame-outcome-spec =
     tie.close
-    (tie.spec (search needs) (λ c. simp (eq-eqb _ _ (c .before .if1 .taken)) (c .invoke-outcome .ensures)) (search needs) (search needs) returns-2 returns-3 (search needs) returns-4)
+    (tie.spec (omega arith) (λ c. simp (eq-eqb _ _ (c .before .if1 .taken)) (c .invoke-outcome .ensures)) (omega arith) (omega arith) returns-2 returns-3 (omega arith) returns-4)

@@ -1,4 +1,4 @@
-use Rattle.prelude.proofs.Prelude.{_∙_, sym, eq-eqb, ne-eqb, needs}
+use Rattle.prelude.proofs.Prelude.{_∙_, sym, eq-eqb, ne-eqb, arith}
 use Rattle.outcomes.proofs.invoke_outcome.Statement.{statement}
 use Rattle.outcomes.proofs.invoke_outcome.Tie as tie
 
@@ -24,4 +24,4 @@ returns-4 c =
     ) (c .figure-outcome .ensures)
 
 pub invoke-outcome-spec : {M : Type 1} → statement M
-invoke-outcome-spec = tie.close (tie.spec (λ c. simp (eq-eqb _ _ (c .if1 .taken))) (search needs) (search needs) returns-2 returns-3 (search needs) returns-4)
+invoke-outcome-spec = tie.close (tie.spec (λ c. simp (eq-eqb _ _ (c .if1 .taken))) (omega arith) (omega arith) returns-2 returns-3 (omega arith) returns-4)

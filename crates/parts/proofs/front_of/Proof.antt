@@ -1,9 +1,9 @@
-use Rattle.prelude.proofs.Prelude.{needs}
+use Rattle.prelude.proofs.Prelude.{arith, needs}
 use Rattle.parts.proofs.front_of.Statement.{statement}
 use Rattle.parts.proofs.front_of.Tie as tie
 
 pub front-of-spec : {M : Type 1} → statement M
 front-of-spec =
     tie.close
-    (tie.spec (search needs) (search needs) (search needs) (search needs) (λ c κs. search needs) (search needs) (search needs) (search needs) (search needs)
+    (tie.spec (omega arith) (omega arith) (omega arith) (omega arith) (λ c κs. search needs) (omega arith) (omega arith) (omega arith) (omega arith)
     (λ c. cc))

@@ -1,5 +1,5 @@
 -- What is left of the starts gives what all of them give.
-use Rattle.prelude.proofs.Prelude.{_-_, _≤_, _≡_, sym, _∙_, arith, needs, length, take}
+use Rattle.prelude.proofs.Prelude.{_-_, _≤_, _≡_, sym, _∙_, arith, length, take}
 use Rattle.coding.specs.Reader.{part}
 use Rattle.pass.specs.Places.{afterIn}
 use Rattle.pass.proofs.{Order.after-all, Order.after-next, Order.after-last, Order.after-other, Order.after-none, after_of.Statement.statement}
@@ -35,6 +35,6 @@ loop-again c =
 pub after-of-spec : {M : Type 1} → statement M
 after-of-spec =
     tie.close
-    (tie.spec Inv-loop μ-loop (λ c. (omega arith, omega arith, after-all _ _ _ _ (omega arith))) (λ c. omega arith) (search needs) (λ c. omega arith)
-    (λ c. omega arith) (λ c. omega arith) (search needs) returns returns-2 (λ c. omega arith) (λ c. omega arith) loop-again
+    (tie.spec Inv-loop μ-loop (λ c. (omega arith, omega arith, after-all _ _ _ _ (omega arith))) (λ c. omega arith) (omega arith) (λ c. omega arith)
+    (λ c. omega arith) (λ c. omega arith) (omega arith) returns returns-2 (λ c. omega arith) (λ c. omega arith) loop-again
     (λ c. let l = c .before .loop in sym (after-none _ _ _ _ (l .inv .1) (l .i) (omega arith)) ∙ l .inv .2))

@@ -1,4 +1,4 @@
-use Rattle.prelude.proofs.Prelude.{refl, sym, ap, _∙_, needs}
+use Rattle.prelude.proofs.Prelude.{refl, sym, ap, _∙_, arith}
 use Rattle.facility.specs.declared.Starts.{Starts}
 use Rattle.pass.proofs.{Order.element-long, Order.find-malformed, Order.find-end, Order.find-none, Order.find-some, find.Statement.statement}
 use Rattle.pass.proofs.find.Tie as tie
@@ -25,9 +25,9 @@ returns-4 c =
 pub find-spec : {M : Type 1} → statement M
 find-spec =
     tie.close
-    (tie.spec (search needs)
+    (tie.spec (omega arith)
     (λ c. let t = c .before .before .element .ensures .0 in
     (sym (find-malformed _ _ (λ e. c .if1 .taken (ap (λ (x : Starts). x .number) t ∙ e))), λ n. absurd (n refl)))
     (λ c. let t = c .before .before .before .element .ensures .0 in
     (sym (find-end _ _ (sym (ap (λ (x : Starts). x .number) t) ∙ c .before .if1 .left) (c .if2 .taken)), λ n. absurd (n refl)))
-    (search needs) (search needs) returns-3 returns-4)
+    (omega arith) (omega arith) returns-3 returns-4)

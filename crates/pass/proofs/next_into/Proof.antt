@@ -1,5 +1,5 @@
 -- Where a component was found, its answer is that of its octets by themselves, or 17.
-use Rattle.prelude.proofs.Prelude.{arith, sym, _∙_, needs, eq-eqb, ne-eqb}
+use Rattle.prelude.proofs.Prelude.{arith, sym, _∙_, eq-eqb, ne-eqb}
 use Rattle.coding.{specs.Reader.part, proofs.Basic.picked, proofs.Basic.unpicked}
 use Rattle.pass.specs.Pass.{lines}
 use Rattle.pass.proofs.{Order.pass-none, Order.pass-some, next_into.Statement.statement}
@@ -32,6 +32,6 @@ returns-3 c =
 pub next-into-spec : {M : Type 1} → statement M
 next-into-spec =
     tie.close
-    (tie.spec (search needs) (search needs) returns (λ c. let i = c .before in omega (arith, i .before .find .ensures .1 (i .if1 .left) .2)) (search needs) returns-2
+    (tie.spec (omega arith) (omega arith) returns (λ c. let i = c .before in omega (arith, i .before .find .ensures .1 (i .if1 .left) .2)) (omega arith) returns-2
     (λ c. let i = c .before .before in omega (arith, i .before .find .ensures .1 (i .if1 .left) .0)) (λ c. let i = c .before .before in omega (arith, i .before .find .ensures .1 (i .if1 .left) .0))
-    (λ c. let i = c .before .before in omega (arith, i .before .find .ensures .1 (i .if1 .left) .1)) (search needs) returns-3)
+    (λ c. let i = c .before .before in omega (arith, i .before .find .ensures .1 (i .if1 .left) .1)) (omega arith) returns-3)

@@ -1,4 +1,4 @@
-use Rattle.prelude.proofs.Prelude.{_∙_, sym, needs}
+use Rattle.prelude.proofs.Prelude.{_∙_, sym, arith}
 use Rattle.phases.proofs.clashes.Statement.{statement}
 use Rattle.phases.proofs.clashes.Tie as tie
 
@@ -10,6 +10,6 @@ returns-3 c =
 pub clashes-spec : {M : Type 1} → statement M
 clashes-spec =
     tie.close (tie.spec
-    (search needs) (λ c. simp (sym (c .before .clash .ensures) ∙ c .if1 .taken)) (search needs)
+    (omega arith) (λ c. simp (sym (c .before .clash .ensures) ∙ c .if1 .taken)) (omega arith)
     (λ c. simp (sym (c .before .before .before .clash .ensures) ∙ c .before .before .if1 .left, sym (c .before .clash2 .ensures) ∙ c .if2 .taken))
-    (search needs) returns-3)
+    (omega arith) returns-3)

@@ -1,4 +1,4 @@
-use Rattle.prelude.proofs.Prelude.{ne-eqb, needs}
+use Rattle.prelude.proofs.Prelude.{ne-eqb, arith}
 use Rattle.phases.proofs.moved.Statement.{statement}
 use Rattle.phases.proofs.moved.Tie as tie
 
@@ -20,4 +20,4 @@ returns-2 c =
 pub moved-spec : {M : Type 1} → statement M
 moved-spec =
     tie.close
-    (tie.spec (λ c. rw (ne-eqb _ _ (c .if1 .taken))) (search needs) (search needs) (search needs) (search needs) (search needs) (search needs) returns-2)
+    (tie.spec (λ c. rw (ne-eqb _ _ (c .if1 .taken))) (omega arith) (omega arith) (omega arith) (omega arith) (omega arith) (omega arith) returns-2)

@@ -1,4 +1,4 @@
-use Rattle.prelude.proofs.Prelude.{sym, _∙_, needs}
+use Rattle.prelude.proofs.Prelude.{sym, _∙_, arith}
 use Rattle.phases.proofs.{Phases.moving-none, Phases.moving-clash, Phases.moving-went, phase_step.Statement.statement}
 use Rattle.phases.proofs.phase_step.Tie as tie
 
@@ -25,4 +25,4 @@ returns-3 c =
     (m .moved .result) (m .moved .ensures)
 
 pub phase-step-spec : {M : Type 1} → statement M
-phase-step-spec = tie.close (tie.spec (search needs) (search needs) returns (search needs) (search needs) returns-2 (search needs) (search needs) returns-3)
+phase-step-spec = tie.close (tie.spec (omega arith) (omega arith) returns (omega arith) (omega arith) returns-2 (omega arith) (omega arith) returns-3)

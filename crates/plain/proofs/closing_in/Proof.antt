@@ -1,4 +1,4 @@
-use Rattle.prelude.proofs.Prelude.{needs, reverse}
+use Rattle.prelude.proofs.Prelude.{arith, reverse}
 use Rattle.events.specs.Events.{eventsOf}
 use Rattle.plain.proofs.{Figures.closing-open, Figures.closing-e, Figures.closing-d, Figures.closing-none, closing_in.Statement.statement}
 use Rattle.plain.proofs.closing_in.Tie as tie
@@ -37,5 +37,5 @@ returns-4 c =
     (d .last-kept2 .result) (d .last-kept2 .ensures) (c .before .if3 .left) (c .no-charge2 .result) (c .no-charge2 .ensures)
 
 pub closing-in-spec : {M : Type 1} → statement M
-closing-in-spec = tie.close (tie.spec (λ c κs. c .before .before .pre) (search needs) returns (λ c κs. let far = c .before .before .before in far .before .pre) returns-2
-    (λ c κs. let far = c .before .before .before in let far2 = far .before .before .before in far2 .before .pre) returns-3 (search needs) returns-4)
+closing-in-spec = tie.close (tie.spec (λ c κs. c .before .before .pre) (omega arith) returns (λ c κs. let far = c .before .before .before in far .before .pre) returns-2
+    (λ c κs. let far = c .before .before .before in let far2 = far .before .before .before in far2 .before .pre) returns-3 (omega arith) returns-4)

@@ -1,4 +1,4 @@
-use Rattle.prelude.proofs.Prelude.{needs, ℕ, _≤_, _/_, _-_, length, reverse, _≡_, sym, _∙_, arith, eqb, eq-eqb, ne-eqb}
+use Rattle.prelude.proofs.Prelude.{_≤_, _/_, _-_, length, reverse, _≡_, sym, _∙_, arith, eqb, eq-eqb, ne-eqb}
 use Rattle.outcomes.specs.Status.{placeOf}
 use Rattle.account.specs.History.{last, judged}
 use Rattle.events.specs.Events.{eventsOf}
@@ -50,6 +50,6 @@ last-kept-spec =
     tie.close
     (tie.spec Inv-loop μ-loop loop-holds (omega arith)
     (λ c κs. let far = c .before .before .before in (far .before .pre, omega (arith, c .before .loop .inv .0)))
-    (search needs)
+    (omega arith)
     (λ c κs. let far = c .before .before .before in let l = far .before in (l .before .before .before .pre, omega (arith, l .loop .inv .0)))
-    returns (omega arith) loop-again (search needs) returns-2)
+    returns (omega arith) loop-again (omega arith) returns-2)

@@ -1,4 +1,3 @@
-use Rattle.prelude.proofs.Prelude.{needs}
 use Rattle.plain.proofs.marks_in.Statement.{statement}
 use Rattle.plain.proofs.marks_in.Tie as tie
 

@@ -1,4 +1,4 @@
-use Rattle.prelude.proofs.Prelude.{needs, sym, _∙_, ap, arith, ℕ, _-_, [], _/_, length}
+use Rattle.prelude.proofs.Prelude.{sym, _∙_, ap, arith, _-_, []}
 use Rattle.events.specs.Events.{eventsOf}
 use Rattle.plain.specs.Answers.{outcomeAt}
 use Rattle.plain.proofs.{Numbered.none-at, Numbered.outcome-numbered, Numbered.outcome-past, outcome_in.Statement.statement}

@@ -1,4 +1,4 @@
-use Rattle.prelude.proofs.Prelude.{needs, _∙_, ap, arith}
+use Rattle.prelude.proofs.Prelude.{_∙_, ap, arith}
 use Rattle.account.specs.History.{requests, pendingOf}
 use Rattle.plain.proofs.{Figures.whole, pending_in.Statement.statement}
 use Rattle.plain.proofs.pending_in.Tie as tie

@@ -1,4 +1,4 @@
-use Rattle.prelude.proofs.Prelude.{needs, sym, _∙_, refl, arith, not-true, not-false}
+use Rattle.prelude.proofs.Prelude.{sym, _∙_, refl, arith, not-true, not-false}
 use Rattle.plain.specs.Answers.{plainPhase}
 use Rattle.plain.proofs.phase.Statement.{statement}
 use Rattle.plain.proofs.phase.Tie as tie
@@ -12,4 +12,4 @@ unfolding plainPhase
 returns-2 c = let i = c .before in sym (rw (sym (i .before .is-list .ensures) ∙ not-false _ (i .if1 .left), ← c .phase-in .ensures) refl)
 
 pub phase-spec : {M : Type 1} → statement M
-phase-spec = tie.close (tie.spec (search needs) returns (λ c κs. sym (c .before .is-list .ensures) ∙ not-false _ (c .if1 .left)) (omega arith) returns-2)
+phase-spec = tie.close (tie.spec (omega arith) returns (λ c κs. sym (c .before .is-list .ensures) ∙ not-false _ (c .if1 .left)) (omega arith) returns-2)

@@ -1,4 +1,4 @@
-use Rattle.prelude.proofs.Prelude.{needs, _∙_, arith}
+use Rattle.prelude.proofs.Prelude.{_∙_, arith}
 use Rattle.account.specs.History.{phase}
 use Rattle.plain.proofs.{Figures.whole, phase_in.Statement.statement}
 use Rattle.plain.proofs.phase_in.Tie as tie

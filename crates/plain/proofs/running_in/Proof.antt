@@ -1,4 +1,4 @@
-use Rattle.prelude.proofs.Prelude.{needs, _∙_, reverse}
+use Rattle.prelude.proofs.Prelude.{_∙_, reverse}
 use Rattle.account.specs.History.{judged}
 use Rattle.events.specs.Events.{eventsOf}
 use Rattle.plain.proofs.{Figures.running-kept, running_in.Statement.statement}

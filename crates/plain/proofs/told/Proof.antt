@@ -1,4 +1,4 @@
-use Rattle.prelude.proofs.Prelude.{needs, ℕ, _≤_, _/_, _-_, length, reverse, _≡_, sym, _∙_, arith}
+use Rattle.prelude.proofs.Prelude.{_≤_, _/_, _-_, length, reverse, _≡_, sym, _∙_, arith}
 use Rattle.outcomes.specs.Outcome.{its}
 use Rattle.account.specs.History.{any, judged}
 use Rattle.events.specs.Events.{eventsOf}
@@ -49,4 +49,4 @@ told-spec =
     tie.close
     (tie.spec Inv-loop μ-loop loop-holds (omega arith)
     (λ c κs. let far = c .before .before .before in (far .before .pre, omega (arith, c .before .loop .inv .0)))
-    (search needs) returns (omega arith) loop-again returns-2)
+    (omega arith) returns (omega arith) loop-again returns-2)

@@ -1,4 +1,4 @@
-use Rattle.prelude.proofs.Prelude.{needs, _∙_, ap}
+use Rattle.prelude.proofs.Prelude.{arith}
 use Rattle.types.specs.Charges.{flag}
 use Rattle.plain.proofs.told_set.Statement.{statement}
 use Rattle.plain.proofs.told_set.Tie as tie
@@ -13,5 +13,5 @@ returns c =
     rw (c .flag3 .ensures, f .flag2 .ensures, g .flag .ensures, e .told3 .ensures, d .told2 .ensures, s .told .ensures)
 
 pub told-set-spec : {M : Type 1} → statement M
-told-set-spec = tie.close (tie.spec (λ c κs. c .before .before .pre) (search needs) (λ c κs. let far = c .before .before .before in far .before .pre) (search needs)
-    (λ c κs. let far = c .before .before .before in far .before .before .before .pre) (search needs) returns)
+told-set-spec = tie.close (tie.spec (λ c κs. c .before .before .pre) (omega arith) (λ c κs. let far = c .before .before .before in far .before .pre) (omega arith)
+    (λ c κs. let far = c .before .before .before in far .before .before .before .pre) (omega arith) returns)

@@ -1,4 +1,4 @@
-use Rattle.prelude.proofs.Prelude.{sym, _∙_, needs, not-false}
+use Rattle.prelude.proofs.Prelude.{sym, _∙_, arith, not-false}
 use Rattle.prelude.proofs.Ways.{ways}
 use Rattle.closing.proofs.Small.{small}
 use Rattle.price.specs.Price.{priceOf}
@@ -15,14 +15,14 @@ unfolding priceOf
 price-spec =
     tie.close
     (tie.spec
-    (search needs)
+    (omega arith)
     (λ c. search ways)
-    (search needs)
-    (search needs)
+    (omega arith)
+    (omega arith)
     (λ c. search ways)
-    (search needs)
+    (omega arith)
     (λ c. search ways)
-    (search needs)
+    (omega arith)
     (λ c. search ways)
     priced-money-requires
     (λ c. search ways))

@@ -1,4 +1,4 @@
-use Rattle.prelude.proofs.Prelude.{refl, _≤_, needs}
+use Rattle.prelude.proofs.Prelude.{refl, _≤_, arith}
 use Rattle.price.specs.Price.{asDouble}
 use Rattle.price.proofs.{Exact.in-range, Exact.one-division, priced_money.Statement.statement}
 use Rattle.price.proofs.priced_money.Tie as tie
@@ -12,4 +12,4 @@ unfolding asDouble
 returns c = rw (one-division (c .before .thousandths .result) (bounded c), c .before .thousandths .ensures .0) refl
 
 pub priced-money-spec : {M : Type 1} → statement M
-priced-money-spec = tie.close (tie.spec (search needs) (λ c. in-range _ (bounded c)) returns)
+priced-money-spec = tie.close (tie.spec (omega arith) (λ c. in-range _ (bounded c)) returns)

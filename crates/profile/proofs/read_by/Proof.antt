@@ -1,4 +1,4 @@
-use Rattle.prelude.proofs.Prelude.{needs, sym, _∙_}
+use Rattle.prelude.proofs.Prelude.{arith, sym, _∙_}
 use Rattle.profile.proofs.{Reading.by-line, Reading.no-parts, Reading.beside, read_by.Statement.statement}
 use Rattle.profile.proofs.read_by.Tie as tie
 
@@ -25,4 +25,4 @@ returns-2 c =
     (beside (l .no-line .ensures ∙ sym no-parts) (c .trunk-by .ensures .0), c .trunk-by .ensures .1)
 
 pub read-by-spec : {M : Type 1} → statement M
-read-by-spec = tie.close (tie.spec (search needs) (search needs) returns (search needs) trunk-by-requires returns-2)
+read-by-spec = tie.close (tie.spec (omega arith) (omega arith) returns (omega arith) trunk-by-requires returns-2)

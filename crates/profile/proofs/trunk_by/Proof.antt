@@ -1,4 +1,4 @@
-use Rattle.prelude.proofs.Prelude.{needs}
+use Rattle.prelude.proofs.Prelude.{arith}
 use Rattle.profile.proofs.{Reading.no-parts, Reading.by-trunk, Reading.by-neither, trunk_by.Statement.statement}
 use Rattle.profile.proofs.trunk_by.Tie as tie
 
@@ -15,4 +15,4 @@ returns-2 c =
     (by-neither _ _ (i .before .before .pre) (i .if1 .left) no-parts (c .no-trunk .ensures .0), c .no-trunk .ensures .1)
 
 pub trunk-by-spec : {M : Type 1} → statement M
-trunk-by-spec = tie.close (tie.spec (search needs) returns (search needs) returns-2)
+trunk-by-spec = tie.close (tie.spec (omega arith) returns (omega arith) returns-2)

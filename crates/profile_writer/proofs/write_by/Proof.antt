@@ -1,4 +1,4 @@
-use Rattle.prelude.proofs.Prelude.{needs, refl, eq-eqb, ne-eqb}
+use Rattle.prelude.proofs.Prelude.{arith, refl, eq-eqb, ne-eqb}
 use Rattle.profile_writer.specs.Writes.{writeProfile, writeProfileLeft}
 use Rattle.profile_writer.proofs.write_by.Statement.{statement}
 use Rattle.profile_writer.proofs.write_by.Tie as tie
@@ -22,4 +22,4 @@ unfolding writeProfile writeProfileLeft
 returns-3 c = rw (ne-eqb _ 0x91 (c .before .if1 .left), ne-eqb _ 0x9f (c .if2 .left)) (refl, refl)
 
 pub write-by-spec : {M : Type 1} → statement M
-write-by-spec = tie.close (tie.spec (search needs) (search needs) returns (search needs) (search needs) returns-2 returns-3)
+write-by-spec = tie.close (tie.spec (omega arith) (omega arith) returns (omega arith) (omega arith) returns-2 returns-3)

@@ -1,5 +1,5 @@
 -- The record is handed over as it lies in the parts.
-use Rattle.prelude.proofs.Prelude.{needs}
+use Rattle.prelude.proofs.Prelude.{arith}
 use Rattle.profile_writer.proofs.{Handing.taken-out, write_line.Statement.statement}
 use Rattle.profile_writer.proofs.write_line.Tie as tie
 
@@ -15,4 +15,4 @@ returns c =
     (w .write-from .ensures .0, w .write-from .ensures .1)
 
 pub write-line-spec : {M : Type 1} → statement M
-write-line-spec = tie.close (tie.spec (search needs) (search needs) (search needs) (search needs) returns)
+write-line-spec = tie.close (tie.spec (omega arith) (omega arith) (omega arith) (omega arith) returns)

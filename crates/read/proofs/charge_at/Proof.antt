@@ -1,5 +1,5 @@
 -- By the next tag.
-use Rattle.prelude.proofs.Prelude.{needs}
+use Rattle.prelude.proofs.Prelude.{arith, needs}
 use Rattle.coding.{specs.Codec.canonical, specs.Codec.over, specs.Codec.sort, proofs.Reading.picks, proofs.Reading.skips}
 use Rattle.types.specs.Arguments.{sign, chargeOf}
 use Rattle.read.proofs.{Tails.nulled, charge_at.Statement.statement, charge_at.Tie.close, charge_at.Tie.spec}
@@ -7,7 +7,7 @@ use Rattle.read.proofs.{Tails.nulled, charge_at.Statement.statement, ch
 pub charge-at-spec : {M : Type 1} → statement M
 unfolding chargeOf sort sign canonical over
 charge-at-spec =
-    close (spec (search needs) (search needs)
+    close (spec (omega arith) (omega arith)
     (λ c. let tag = c .before .before in
     picks _ _ _ _ _ _ _ (tag .is-tag .ensures) (c .before .if1 .taken) (nulled _ (tag .before .before .pre .1) _ (c .null-at .ensures)))
     (λ c κs. search needs)

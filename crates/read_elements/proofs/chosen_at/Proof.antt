@@ -1,4 +1,4 @@
-use Rattle.prelude.proofs.Prelude.{needs, arith}
+use Rattle.prelude.proofs.Prelude.{arith}
 use Rattle.coding.{specs.Codec.maybe, specs.Codec.over, specs.Reader.optional, specs.Leaves.given, proofs.Reading.reading}
 use Rattle.read_elements.proofs.chosen_at.Statement.{statement}
 use Rattle.read_elements.proofs.chosen_at.Tie as tie
@@ -7,4 +7,4 @@ pub chosen-at-spec : {M : Type 1} → statement M
 unfolding given maybe over optional
 chosen-at-spec =
     tie.close
-    (tie.spec (search needs) (search needs) (λ c. (search reading, omega arith)) (λ c. (search reading, omega arith)) (λ c. (search reading, omega arith)))
+    (tie.spec (omega arith) (omega arith) (λ c. (search reading, omega arith)) (λ c. (search reading, omega arith)) (λ c. (search reading, omega arith)))

@@ -7,8 +7,8 @@ pub identifier-at-spec : {M : Type 1} → statement M
 unfolding identifier
 identifier-at-spec =
     tie.close
-    (tie.spec (search needs) (search needs) (search needs) (λ c. let t = c .before in omega (arith, t .before .tiny .ensures .1 .1 (t .if1 .taken) .inside))
+    (tie.spec (omega arith) (omega arith) (omega arith) (λ c. let t = c .before in omega (arith, t .before .tiny .ensures .1 .1 (t .if1 .taken) .inside))
     (λ c.
     let t = c .before in
     (tiny-shown _ _ _ _ _ identifier (omega arith) (t .before .tiny .ensures .1 .1 (t .if1 .taken)) (c .pattern .ensures .0), omega (arith, c .pattern .ensures .1)))
-    (search needs) (λ c. search needs))
+    (omega arith) (λ c. search needs))

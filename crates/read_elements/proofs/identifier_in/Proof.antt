@@ -1,4 +1,4 @@
-use Rattle.prelude.proofs.Prelude.{needs, arith}
+use Rattle.prelude.proofs.Prelude.{arith}
 use Rattle.coding.proofs.Laws.{Octets}
 use Rattle.read_elements.proofs.{Patterns.id-one, Patterns.id-two, Patterns.id-many, Patterns.id-padded, identifier_in.Statement.statement}
 use Rattle.read_elements.proofs.identifier_in.Tie as tie
@@ -6,8 +6,8 @@ use Rattle.read_elements.proofs.identifier_in.Tie as tie
 pub identifier-in-spec : {M : Type 1} → statement M
 identifier-in-spec =
     tie.close
-    (tie.spec (search needs) (λ c. (search id-padded, omega arith)) (search needs) (search needs) (search needs) (λ c. (search id-one, omega arith))
-    (search needs) (search needs)
+    (tie.spec (omega arith) (λ c. (search id-padded, omega arith)) (omega arith) (omega arith) (omega arith) (λ c. (search id-one, omega arith))
+    (omega arith) (omega arith)
     (λ c.
     let e = c .before .before .before in
     let d = e .before .before in

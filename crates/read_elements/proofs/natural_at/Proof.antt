@@ -5,6 +5,6 @@ use Rattle.read_elements.proofs.natural_at.Tie as tie
 pub natural-at-spec : {M : Type 1} → statement M
 natural-at-spec =
     tie.close
-    (tie.spec (search needs) (search needs) (λ c. omega (arith, c .before .before .before .tiny .ensures .1 .1 (omega arith) .inside))
+    (tie.spec (omega arith) (omega arith) (λ c. omega (arith, c .before .before .before .tiny .ensures .1 .1 (omega arith) .inside))
     (λ c. (tiny-natural _ _ _ _ _ _ (omega arith) (c .before .before .before .tiny .ensures .1 .1 (omega arith)) (omega arith) (omega arith) (omega arith), omega arith))
-    (search needs) (λ c. search needs))
+    (omega arith) (λ c. search needs))

@@ -1,4 +1,4 @@
-use Rattle.prelude.proofs.Prelude.{needs, arith}
+use Rattle.prelude.proofs.Prelude.{arith}
 use Rattle.coding.{specs.Codec.prim, specs.Leaves.number, specs.Reader.primitive, proofs.Reading.reading}
 use Rattle.read_elements.proofs.natural_long.Statement.{statement}
 use Rattle.read_elements.proofs.natural_long.Tie as tie
@@ -7,4 +7,4 @@ pub natural-long-spec : {M : Type 1} → statement M
 unfolding prim number primitive
 natural-long-spec =
     tie.close
-    (tie.spec (search needs) (λ c. (search reading, omega arith)) (search needs) (λ c. (search reading, omega arith)) (λ c. (search reading, omega arith)))
+    (tie.spec (omega arith) (λ c. (search reading, omega arith)) (omega arith) (λ c. (search reading, omega arith)) (λ c. (search reading, omega arith)))

@@ -5,5 +5,5 @@ use Rattle.read_elements.proofs.null_at.Tie as tie
 pub null-at-spec : {M : Type 1} → statement M
 null-at-spec =
     tie.close
-    (tie.spec (search needs) (λ c. omega (arith, c .before .short-length .ensures .1 .1 (omega arith) .inside))
-    (λ c. bare-null _ _ _ _ _ (c .before .short-length .ensures .1 .1 (omega arith)) (c .if1 .taken)) (search needs) (λ c. search needs))
+    (tie.spec (omega arith) (λ c. omega (arith, c .before .short-length .ensures .1 .1 (omega arith) .inside))
+    (λ c. bare-null _ _ _ _ _ (c .before .short-length .ensures .1 .1 (omega arith)) (c .if1 .taken)) (omega arith) (λ c. search needs))

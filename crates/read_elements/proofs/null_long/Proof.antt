@@ -1,4 +1,4 @@
-use Rattle.prelude.proofs.Prelude.{needs, arith}
+use Rattle.prelude.proofs.Prelude.{arith}
 use Rattle.coding.{specs.Codec.prim, specs.Leaves.nullLeaf, specs.Reader.primitive, proofs.Reading.reading, proofs.Reading.step, proofs.Reading.fails, proofs.Parts.null-none}
 use Rattle.coding.{proofs.Parts.null-some}
 use Rattle.read_elements.proofs.null_long.Statement.{statement}
@@ -8,7 +8,7 @@ pub null-long-spec : {M : Type 1} → statement M
 unfolding prim nullLeaf primitive
 null-long-spec =
     tie.close
-    (tie.spec (search needs) (λ c. search reading)
+    (tie.spec (omega arith) (λ c. search reading)
     (λ c.
     let c3 = c .before .before .before in let c6 = c3 .before .before .before in
     let a = c6 .args in

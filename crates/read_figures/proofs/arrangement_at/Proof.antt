@@ -1,5 +1,5 @@
 -- Each return by the answers that led to it.
-use Rattle.prelude.proofs.Prelude.{needs}
+use Rattle.prelude.proofs.Prelude.{arith}
 use Rattle.coding.{specs.Reader.part, specs.Codec.canonical, specs.Codec.over, proofs.Reading.reading}
 use Rattle.types.specs.{Arguments.arrangement, Stored.figureIn}
 use Rattle.read_figures.proofs.{Answers.storing, arrangement_at.Statement.statement}
@@ -9,7 +9,7 @@ pub arrangement-at-spec : {M : Type 1} → statement M
 unfolding arrangement canonical over figureIn part
 arrangement-at-spec =
     tie.close
-    (tie.spec (search needs) (search needs) (λ c. search (storing, reading)) (search needs) (search needs) (search needs) (search needs)
+    (tie.spec (omega arith) (omega arith) (λ c. search (storing, reading)) (omega arith) (omega arith) (omega arith) (omega arith)
     (λ c.
     let a = c .before .before .before in
     rw (a .before .before .before .pre .1) (search (storing, reading))))

@@ -1,5 +1,5 @@
 -- Each return by the answers that led to it.
-use Rattle.prelude.proofs.Prelude.{needs}
+use Rattle.prelude.proofs.Prelude.{arith, needs}
 use Rattle.coding.{specs.Reader.primitive, specs.Codec.prim, proofs.Reading.reading}
 use Rattle.types.specs.Charges.{currency}
 use Rattle.read_figures.proofs.{Answers.storing, Kept.blank-currency, currency_at.Statement.statement}
@@ -9,5 +9,5 @@ pub currency-at-spec : {M : Type 1} → statement M
 unfolding currency prim primitive
 currency-at-spec =
     tie.close
-    (tie.spec (search needs) (search needs) (λ c. (search (storing, reading), search blank-currency)) (λ c κs. search needs) (search needs)
-    (λ c. (search (storing, reading), search)) (search needs) (λ c. (search (storing, reading), search)))
+    (tie.spec (omega arith) (omega arith) (λ c. (search (storing, reading), search blank-currency)) (λ c κs. search needs) (omega arith)
+    (λ c. (search (storing, reading), search)) (omega arith) (λ c. (search (storing, reading), search)))

@@ -1,5 +1,5 @@
 -- Each return by the answers that led to it.
-use Rattle.prelude.proofs.Prelude.{needs, refl}
+use Rattle.prelude.proofs.Prelude.{arith, needs, refl}
 use Rattle.coding.{specs.Reader.primitive, proofs.Reading.reading}
 use Rattle.read_figures.proofs.{Answers.storing, digits_at.Statement.statement}
 use Rattle.read_figures.proofs.digits_at.Tie as tie
@@ -8,5 +8,5 @@ pub digits-at-spec : {M : Type 1} → statement M
 unfolding primitive
 digits-at-spec =
     tie.close
-    (tie.spec (search needs) (search needs) (λ c. (search (storing, reading), (refl, refl))) (λ c κs. search needs) (search needs)
-    (λ c. (search (storing, reading), search)) (search needs) (λ c. (search (storing, reading), search)))
+    (tie.spec (omega arith) (omega arith) (λ c. (search (storing, reading), (refl, refl))) (λ c κs. search needs) (omega arith)
+    (λ c. (search (storing, reading), search)) (omega arith) (λ c. (search (storing, reading), search)))

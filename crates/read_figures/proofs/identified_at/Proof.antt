@@ -1,5 +1,5 @@
 -- Each return by the answers that led to it.
-use Rattle.prelude.proofs.Prelude.{needs, refl}
+use Rattle.prelude.proofs.Prelude.{arith, refl}
 use Rattle.coding.{specs.Codec.canonical, specs.Codec.over, proofs.Reading.reading}
 use Rattle.types.specs.Charges.{identified}
 use Rattle.read_figures.proofs.{Answers.storing, Kept.identified-kept, identified_at.Statement.statement}
@@ -9,8 +9,8 @@ pub identified-at-spec : {M : Type 1} → statement M
 unfolding identified canonical over
 identified-at-spec =
     tie.close
-    (tie.spec (search needs) (search needs) (λ c. (search (storing, reading), (refl, refl))) (search needs) (search needs) (search needs) (search needs)
-    (search needs) (search needs)
+    (tie.spec (omega arith) (omega arith) (λ c. (search (storing, reading), (refl, refl))) (omega arith) (omega arith) (omega arith) (omega arith)
+    (omega arith) (omega arith)
     (λ c.
     let c3 = c .before .before .before in
     let c5 = c3 .before .before in

@@ -1,9 +1,9 @@
-use Rattle.prelude.proofs.Prelude.{needs}
+use Rattle.prelude.proofs.Prelude.{arith}
 use Rattle.read_figures.proofs.{Kept.amount-kept, keep_amount.Statement.statement}
 use Rattle.read_figures.proofs.keep_amount.Tie as tie
 
 pub keep-amount-spec : {M : Type 1} → statement M
 keep-amount-spec =
     tie.close
-    (tie.spec (search needs) (search needs) (search needs) (search needs) (search needs) (search needs) (search needs) (search needs) (search needs)
+    (tie.spec (omega arith) (omega arith) (omega arith) (omega arith) (omega arith) (omega arith) (omega arith) (omega arith) (omega arith)
     (λ c. amount-kept (c .args .a) (c .args .figure .now) (c .pre)))

@@ -1,5 +1,5 @@
 -- Each return by the answers that led to it.
-use Rattle.prelude.proofs.Prelude.{needs}
+use Rattle.prelude.proofs.Prelude.{arith, needs}
 use Rattle.coding.{specs.Codec.shape, specs.Codec.over, specs.Codec.pair, proofs.Reading.flat, proofs.Reading.reading}
 use Rattle.types.specs.Charges.{money}
 use Rattle.read_figures.proofs.{Answers.storing, Kept.blank-amount, money_at.Statement.statement}
@@ -9,6 +9,6 @@ pub money-at-spec : {M : Type 1} → statement M
 unfolding money shape over pair
 money-at-spec =
     tie.close
-    (tie.spec (λ c κs. search needs) (search needs) (λ c. (simp flat (search (storing, reading)), search blank-amount)) (search needs) (search needs)
-    (λ c. (simp flat (search (storing, reading) depth 8), search blank-amount)) (λ c κs. search needs) (search needs)
+    (tie.spec (λ c κs. search needs) (omega arith) (λ c. (simp flat (search (storing, reading)), search blank-amount)) (omega arith) (omega arith)
+    (λ c. (simp flat (search (storing, reading) depth 8), search blank-amount)) (λ c κs. search needs) (omega arith)
     (λ c. (rw (c .before .keep-amount .ensures .0) (simp flat (search (storing, reading) depth 8)), search)))

@@ -1,5 +1,5 @@
 -- Each return by the answers that led to it.
-use Rattle.prelude.proofs.Prelude.{needs}
+use Rattle.prelude.proofs.Prelude.{arith, needs}
 use Rattle.coding.{specs.Codec.sort, proofs.Reading.picks, proofs.Reading.skips, proofs.Reading.picks-run, proofs.Reading.skips-run}
 use Rattle.types.specs.Charges.{partyNumber}
 use Rattle.read_figures.proofs.{Steps.plain-steps, number_at.Statement.statement}
@@ -9,6 +9,6 @@ pub number-at-spec : {M : Type 1} → statement M
 unfolding partyNumber sort
 number-at-spec =
     tie.close
-    (tie.spec (search needs) (λ c κs. search needs) (λ c. (search (picks, skips), search)) (λ c κs. search needs)
+    (tie.spec (omega arith) (λ c κs. search needs) (λ c. (search (picks, skips), search)) (λ c κs. search needs)
     (λ c. (search (picks, skips, picks-run, skips-run), search)) (λ c κs. search needs)
     (λ c. (search (picks, skips, picks-run, skips-run, plain-steps), search)))

@@ -1,5 +1,5 @@
 -- Each return by the answers that led to it.
-use Rattle.prelude.proofs.Prelude.{needs, refl}
+use Rattle.prelude.proofs.Prelude.{arith, needs, refl}
 use Rattle.coding.{specs.Reader.constructed, specs.Codec.cons, proofs.Reading.reading}
 use Rattle.types.specs.Charges.{party}
 use Rattle.read_figures.proofs.{Answers.storing, party_at.Statement.statement}
@@ -9,6 +9,6 @@ pub party-at-spec : {M : Type 1} → statement M
 unfolding party cons constructed
 party-at-spec =
     tie.close
-    (tie.spec (search needs) (search needs) (λ c. (search (storing, reading), (refl, refl))) (λ c κs. search needs) (search needs)
-    (λ c. (search (storing, reading) depth 8, search)) (search needs) (λ c. (search (storing, reading) depth 8, search)) (search needs)
+    (tie.spec (omega arith) (omega arith) (λ c. (search (storing, reading), (refl, refl))) (λ c κs. search needs) (omega arith)
+    (λ c. (search (storing, reading) depth 8, search)) (omega arith) (λ c. (search (storing, reading) depth 8, search)) (omega arith)
     (λ c. (search (storing, reading) depth 8, search)))

@@ -1,4 +1,4 @@
-use Rattle.prelude.proofs.Prelude.{needs, refl}
+use Rattle.prelude.proofs.Prelude.{arith, refl}
 use Rattle.coding.{specs.Codec.alt, proofs.Reading.reading}
 use Rattle.types.specs.Frames.{caller}
 use Rattle.read_heads.proofs.caller_at.Statement.{statement}
@@ -8,5 +8,5 @@ pub caller-at-spec : {M : Type 1} → statement M
 unfolding caller alt
 caller-at-spec =
     tie.close
-    (tie.spec (search needs) (search needs) (λ c. (search reading, λ tag detail. refl)) (λ c. (search reading, λ tag detail. refl)) (search needs)
-    (λ c. (search reading, λ tag detail. refl)) (search needs) (λ c. (search reading, λ tag detail. refl)))
+    (tie.spec (omega arith) (omega arith) (λ c. (search reading, λ tag detail. refl)) (λ c. (search reading, λ tag detail. refl)) (omega arith)
+    (λ c. (search reading, λ tag detail. refl)) (omega arith) (λ c. (search reading, λ tag detail. refl)))

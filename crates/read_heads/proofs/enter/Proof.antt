@@ -1,4 +1,4 @@
-use Rattle.prelude.proofs.Prelude.{needs, arith}
+use Rattle.prelude.proofs.Prelude.{arith}
 use Rattle.coding.proofs.{Reading.gives, Frames.any-told, Frames.any-lacks, Frames.any-strange, Frames.any-over, Frames.any-enters}
 use Rattle.read_heads.specs.Heads.{outsideCode}
 use Rattle.read_heads.proofs.{Codes.outside-code, Entered.by-lengths, Entered.alone, Entered.refused, Entered.tag-below, Entered.tag-above, Entered.tag-among}
@@ -8,13 +8,13 @@ use Rattle.read_heads.proofs.enter.Tie as tie
 pub enter-spec : {M : Type 1} → statement M
 enter-spec =
     tie.close (tie.spec
-    (search needs) (λ c. refused _ _ (c .shut-out .ensures) (λ h. absurd (omega arith)) (any-lacks _ _ _ _ _ _ _ _ (omega arith))) (search needs) (search needs)
-    (λ c. refused _ _ (c .shut-out2 .ensures) (λ h. omega arith) (any-strange _ _ _ _ _ _ _ _ (omega arith) (tag-below _ (c .before .if2 .taken)))) (search needs)
+    (omega arith) (λ c. refused _ _ (c .shut-out .ensures) (λ h. absurd (omega arith)) (any-lacks _ _ _ _ _ _ _ _ (omega arith))) (omega arith) (omega arith)
+    (λ c. refused _ _ (c .shut-out2 .ensures) (λ h. omega arith) (any-strange _ _ _ _ _ _ _ _ (omega arith) (tag-below _ (c .before .if2 .taken)))) (omega arith)
     (λ c. refused _ _ (c .shut-out3 .ensures) (λ h. omega arith) (any-strange _ _ _ _ _ _ _ _ (omega arith) (tag-above _ (c .before .if3 .taken))))
-    (search needs) (search needs) (search needs) (λ c. let f = c .before .before in refused _ _ (c .shut-out4 .ensures) (λ h. omega arith) (rw (c .before .outer .ensures)
+    (omega arith) (omega arith) (omega arith) (λ c. let f = c .before .before in refused _ _ (c .shut-out4 .ensures) (λ h. omega arith) (rw (c .before .outer .ensures)
     (any-told _ _ _ _ _ _ _ _ outsideCode outside-code _ (omega arith) (tag-among _ (omega arith) (omega arith)) (by-lengths _ _ (f .before .before .open-at .ensures .0) (omega arith))
     (f .if4 .taken))))
-    (search needs) (λ c. let f = c .before .before .before in refused _ _ (c .shut-out5 .ensures) (λ h. omega arith)
+    (omega arith) (λ c. let f = c .before .before .before in refused _ _ (c .shut-out5 .ensures) (λ h. omega arith)
     (any-over _ _ _ _ _ _ _ _ _ (omega arith) (tag-among _ (omega arith) (omega arith)) (by-lengths _ _ (f .before .before .open-at .ensures .0) (omega arith)) (f .if4 .left)
     (c .before .if5 .taken)))
     (λ c. let f = c .before .before .before in (

@@ -1,5 +1,5 @@
 -- Each return by what was read so far.
-use Rattle.prelude.proofs.Prelude.{needs, arith}
+use Rattle.prelude.proofs.Prelude.{arith}
 use Rattle.coding.{specs.Codec.leads, specs.Codec.canonical, specs.Codec.over, proofs.Reading.flat}
 use Rattle.types.specs.Frames.{returnError, failed}
 use Rattle.read_heads.specs.Heads.{contentsOf, restOf}
@@ -10,7 +10,7 @@ pub error-head-spec : {M : Type 1} → statement M
 unfolding restOf contentsOf returnError failed leads canonical over
 error-head-spec =
     tie.close (tie.spec
-    (search needs) (search needs) (λ c. (rw (c .no-head .ensures) (simp flat (search heading)), rw (c .no-head .ensures) (omega arith))) (search needs) (search needs)
+    (omega arith) (omega arith) (λ c. (rw (c .no-head .ensures) (simp flat (search heading)), rw (c .no-head .ensures) (omega arith))) (omega arith) (omega arith)
     (λ c. (rw (c .no-head2 .ensures) (simp flat (search heading)), rw (c .no-head2 .ensures) (omega arith)))
-    (search needs) (λ c. (rw (c .no-head3 .ensures) (simp flat (search heading)), rw (c .no-head3 .ensures) (omega arith))) (search needs) (search needs)
+    (omega arith) (λ c. (rw (c .no-head3 .ensures) (simp flat (search heading)), rw (c .no-head3 .ensures) (omega arith))) (omega arith) (omega arith)
     (λ c. (simp flat (search heading), omega arith)))

@@ -1,4 +1,4 @@
-use Rattle.prelude.proofs.Prelude.{needs, arith, sym, _∙_}
+use Rattle.prelude.proofs.Prelude.{arith, sym, _∙_}
 use Rattle.types.proofs.Theorems.{read-long}
 use Rattle.types.specs.Frames.{frame}
 use Rattle.read_heads.specs.Heads.{restOf}
@@ -9,9 +9,9 @@ pub head-of-spec : {M : Type 1} → statement M
 unfolding restOf frame
 head-of-spec =
     tie.close (tie.spec
-    (search needs) (λ c. (rw (c .no-head .ensures) (sym (read-long _ (c .before .if1 .taken))), rw (c .no-head .ensures) (omega arith))) (search needs) (search needs)
+    (omega arith) (λ c. (rw (c .no-head .ensures) (sym (read-long _ (c .before .if1 .taken))), rw (c .no-head .ensures) (omega arith))) (omega arith) (omega arith)
     (λ c. (rw (c .no-head2 .ensures) (search framing), rw (c .no-head2 .ensures) (omega arith))) (λ c. omega (arith, c .before .before .before .enter .ensures .1 .0 (c .before .if2 .left)))
-    (search needs) (λ c. (c .invoke-head .ensures .0 ∙ search framing, c .invoke-head .ensures .1)) (search needs)
-    (λ c. (c .result-head .ensures .0 ∙ search framing, c .result-head .ensures .1)) (search needs)
-    (λ c. (c .error-head .ensures .0 ∙ search framing, c .error-head .ensures .1)) (search needs)
+    (omega arith) (λ c. (c .invoke-head .ensures .0 ∙ search framing, c .invoke-head .ensures .1)) (omega arith)
+    (λ c. (c .result-head .ensures .0 ∙ search framing, c .result-head .ensures .1)) (omega arith)
+    (λ c. (c .error-head .ensures .0 ∙ search framing, c .error-head .ensures .1)) (omega arith)
     (λ c. (c .reject-head .ensures .0 ∙ search framing, c .reject-head .ensures .1)))

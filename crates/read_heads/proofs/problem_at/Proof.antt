@@ -1,4 +1,4 @@
-use Rattle.prelude.proofs.Prelude.{needs}
+use Rattle.prelude.proofs.Prelude.{arith}
 use Rattle.coding.proofs.Reading.{reading}
 use Rattle.read_heads.specs.Heads.{problemIn}
 use Rattle.read_heads.proofs.problem_at.Statement.{statement}
@@ -6,4 +6,4 @@ use Rattle.read_heads.proofs.problem_at.Tie as tie
 
 pub problem-at-spec : {M : Type 1} → statement M
 unfolding problemIn
-problem-at-spec = tie.close (tie.spec (search needs) (λ c. search reading) (search needs) (λ c. search reading))
+problem-at-spec = tie.close (tie.spec (omega arith) (λ c. search reading) (omega arith) (λ c. search reading))

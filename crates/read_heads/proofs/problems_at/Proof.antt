@@ -1,4 +1,4 @@
-use Rattle.prelude.proofs.Prelude.{needs}
+use Rattle.prelude.proofs.Prelude.{arith}
 use Rattle.coding.proofs.Reading.{reading}
 use Rattle.read_heads.specs.Heads.{problemsIn}
 use Rattle.read_heads.proofs.problems_at.Statement.{statement}
@@ -8,5 +8,5 @@ pub problems-at-spec : {M : Type 1} → statement M
 unfolding problemsIn
 problems-at-spec =
     tie.close
-    (tie.spec (search needs) (search needs) (λ c. search reading) (search needs) (search needs) (λ c. search reading) (search needs) (search needs) (λ c. search reading)
-    (search needs) (λ c. search reading))
+    (tie.spec (omega arith) (omega arith) (λ c. search reading) (omega arith) (omega arith) (λ c. search reading) (omega arith) (omega arith) (λ c. search reading)
+    (omega arith) (λ c. search reading))

@@ -1,5 +1,5 @@
 -- A reject's contents: who is answered, then the problem. Each return by what was read so far.
-use Rattle.prelude.proofs.Prelude.{needs, arith, ℕ, _≡_, List, length}
+use Rattle.prelude.proofs.Prelude.{arith, ℕ, _≡_, List, length}
 use Rattle.coding.{specs.Reader.after, specs.Reader.closed, specs.Codec.sort, specs.Codec.canonical, specs.Codec.over, specs.Codec.leads, proofs.Reading.flat}
 use Rattle.types.specs.Frames.{rejects, problem, problems, caller, reject}
 use Rattle.read_heads.specs.Heads.{problemIn, problemsIn, contentsOf, restOf}
@@ -15,8 +15,8 @@ pub reject-head-spec : {M : Type 1} → statement M
 unfolding restOf
 reject-head-spec =
     tie.close (tie.spec
-    (search needs) (search needs) (λ c. (rw (c .no-head .ensures, reject-by _ _ _) (search heading), rw (c .no-head .ensures) (omega arith))) (search needs) (search needs)
-    (λ c. (rw (c .no-head2 .ensures, reject-by _ _ _) (search heading), rw (c .no-head2 .ensures) (omega arith))) (search needs)
+    (omega arith) (omega arith) (λ c. (rw (c .no-head .ensures, reject-by _ _ _) (search heading), rw (c .no-head .ensures) (omega arith))) (omega arith) (omega arith)
+    (λ c. (rw (c .no-head2 .ensures, reject-by _ _ _) (search heading), rw (c .no-head2 .ensures) (omega arith))) (omega arith)
     (λ c. (rw (c .no-head3 .ensures, reject-by _ _ _) (search heading), rw (c .no-head3 .ensures) (omega arith)))
     (λ c. let problem = c .before .before .before in
     let answered = problem .before .before .before in (rw (reject-by _ _ _) (search (heading, ends-with, answered .before .caller-at .ensures .1)), omega arith)))

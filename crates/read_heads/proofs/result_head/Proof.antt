@@ -1,5 +1,5 @@
 -- Each return by what was read so far.
-use Rattle.prelude.proofs.Prelude.{needs, arith}
+use Rattle.prelude.proofs.Prelude.{arith}
 use Rattle.coding.{specs.Reader.constructed, specs.Codec.leads, specs.Codec.cons, proofs.Reading.flat}
 use Rattle.types.specs.Frames.{returnResult}
 use Rattle.read_heads.specs.Heads.{contentsOf, tailOf, restOf}
@@ -10,6 +10,6 @@ pub result-head-spec : {M : Type 1} → statement M
 unfolding restOf tailOf contentsOf returnResult leads cons constructed
 result-head-spec =
     tie.close (tie.spec
-    (search needs) (search needs) (λ c. (rw (c .no-head .ensures) (simp flat (search heading)), rw (c .no-head .ensures) (omega arith))) (search needs) (search needs)
-    (λ c. (rw (c .no-head2 .ensures) (simp flat (search heading)), rw (c .no-head2 .ensures) (omega arith))) (search needs) (search needs)
-    (λ c. (rw (c .no-head3 .ensures) (simp flat (search heading)), rw (c .no-head3 .ensures) (omega arith))) (search needs) (search needs) (λ c. (simp flat (search heading), omega arith)))
+    (omega arith) (omega arith) (λ c. (rw (c .no-head .ensures) (simp flat (search heading)), rw (c .no-head .ensures) (omega arith))) (omega arith) (omega arith)
+    (λ c. (rw (c .no-head2 .ensures) (simp flat (search heading)), rw (c .no-head2 .ensures) (omega arith))) (omega arith) (omega arith)
+    (λ c. (rw (c .no-head3 .ensures) (simp flat (search heading)), rw (c .no-head3 .ensures) (omega arith))) (omega arith) (omega arith) (λ c. (simp flat (search heading), omega arith)))

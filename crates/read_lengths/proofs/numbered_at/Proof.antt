@@ -7,12 +7,12 @@ pub numbered-at-spec : {M : Type 1} → statement M
 unfolding numberedAt shown
 numbered-at-spec =
     tie.close
-    (tie.spec (search needs) (λ c. rw (c .halted .ensures) (simp (le-leb _ _ (c .before .if1 .taken)), omega arith)) (search needs) (search needs) (search needs)
-    (search needs)
+    (tie.spec (omega arith) (λ c. rw (c .halted .ensures) (simp (le-leb _ _ (c .before .if1 .taken)), omega arith)) (omega arith) (omega arith) (omega arith)
+    (omega arith)
     (λ c.
     let w = c .before .before in
     (rw (← w .wide .ensures .0) (simp (lt-leb _ _ (w .before .before .if1 .left), lt-ltb _ _ (c .before .if2 .taken)) (c .within .ensures .0)), c .within .ensures .1))
-    (search needs) (λ c. search needs) (search needs) (λ c. search needs) (search needs)
+    (omega arith) (λ c. search needs) (omega arith) (λ c. search needs) (omega arith)
     (λ c.
     let f = c .before .before in
     let w = f .before .before in

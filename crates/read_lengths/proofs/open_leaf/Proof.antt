@@ -8,11 +8,11 @@ pub open-leaf-spec : {M : Type 1} → statement M
 unfolding opened lengthAt
 open-leaf-spec =
     tie.close
-    (tie.spec (search needs) (λ c. search needs) (search needs)
-    (λ c. omega (arith, tagged-is _ _ _ _ (sym (c .before .is-tag .ensures) ∙ c .if2 .taken) .0)) (search needs)
+    (tie.spec (omega arith) (λ c. search needs) (omega arith)
+    (λ c. omega (arith, tagged-is _ _ _ _ (sym (c .before .is-tag .ensures) ∙ c .if2 .taken) .0)) (omega arith)
     (λ c.
     let t = c .before in
     let h = tagged-is _ _ _ _ (sym (t .before .is-tag .ensures) ∙ t .if2 .taken) .1 in
     let simple = endless-simple _ _ _ _ (ap composite h ∙ ne-eqb _ _ (t .before .before .if1 .left)) in
     (picks _ _ _ _ _ _ _ (t .before .is-tag .ensures) (t .if2 .taken) (when-no _ _ _ _ simple (c .numbered-at .ensures .0)), c .numbered-at .ensures .1))
-    (search needs) (λ c. (search (skips, c .not-there .ensures .0), c .not-there .ensures .1)))
+    (omega arith) (λ c. (search (skips, c .not-there .ensures .0), c .not-there .ensures .1)))

@@ -1,4 +1,4 @@
-use Rattle.prelude.proofs.Prelude.{needs, _+_, arith, le-leb, lt-leb}
+use Rattle.prelude.proofs.Prelude.{_+_, arith, le-leb, lt-leb}
 use Rattle.coding.specs.{Reader.extent, Shown.shown}
 use Rattle.read_lengths.proofs.within.Statement.{statement}
 use Rattle.read_lengths.proofs.within.Tie as tie
@@ -7,6 +7,6 @@ pub within-spec : {M : Type 1} → statement M
 unfolding extent shown
 within-spec =
     tie.close
-    (tie.spec (search needs) (search needs) (search needs) (search needs)
+    (tie.spec (omega arith) (omega arith) (omega arith) (omega arith)
     (λ c. let a = c .before .args in (simp (le-leb (a .start + a .n) (a .end) (omega arith)), omega arith))
     (λ c. let a = c .before .before .args in rw (c .halted .ensures) (simp (lt-leb (a .start + a .n) (a .end) (omega arith)), omega arith)))

@@ -1,5 +1,5 @@
 -- Each return by the operation.
-use Rattle.prelude.proofs.Prelude.{needs, sym, _∙_, not-true, not-false}
+use Rattle.prelude.proofs.Prelude.{arith, needs, sym, _∙_, not-true, not-false}
 use Rattle.read_lengths.proofs.Answers.{when}
 use Rattle.read_lists.proofs.{Stores.plain-stored, Steps.figure-of, Steps.tariff-read, charge_into.Statement.statement}
 use Rattle.read_lists.proofs.charge_into.Tie as tie
@@ -7,11 +7,11 @@ use Rattle.read_lists.proofs.charge_into.Tie as tie
 pub charge-into-spec : {M : Type 1} → statement M
 charge-into-spec =
     tie.close
-    (tie.spec (search needs) (λ c κs. search needs)
+    (tie.spec (omega arith) (λ c κs. search needs)
     (λ c.
     let a = c .before .before .before in
     rw (figure-of _ (sym (a .before .before .is-tariff .ensures) ∙ not-true _ (a .before .if1 .taken))) (c .figure-at .ensures))
-    (search needs) (λ c κs. search needs)
+    (omega arith) (λ c κs. search needs)
     (λ c.
     let a = c .before .before .before in
     rw (tariff-read _ _ _ _ (sym (a .before .before .is-tariff .ensures) ∙ not-false _ (a .before .if1 .left))) (search (plain-stored, when)))

@@ -17,9 +17,9 @@ settled : (c : tie.Else3) →
     let g = e .before .before .args in
     let w = p .settled-at .last .1 .1 .1 .1 in
     let o = e .frame-at .result in
-    (shown noCharge (parties (storedCharge (w .1 .1 .0) (w .0) (w .1 .0)) (g .s .now) (p .settled-at .result .next) (o .value .stop) (o .next))
+    (shown noCharge (parties (storedCharge (w .0) (w .1 .0) (w .1 .1 .0)) (g .s .now) (p .settled-at .result .next) (o .value .stop) (o .next))
     ≡ shown noCharge ((figureOf (g .operation)) .read (g .s .now) (g .at) (g .end)))
-    × Unassociated (w .1 .1 .0) × (o .value .stop ≤ length (g .s .now))
+    × Unassociated (w .0) × (o .value .stop ≤ length (g .s .now))
 settled c = (rw figure-read (search (passed, goes, step, refl) depth 8), search, omega arith)
 
 pub figure-at-spec : {M : Type 1} → statement M

@@ -1,5 +1,5 @@
 -- Each return by the answers that led to it.
-use Rattle.prelude.proofs.Prelude.{needs, _∙_}
+use Rattle.prelude.proofs.Prelude.{arith, _∙_}
 use Rattle.coding.{specs.Codec.canonical, specs.Codec.over, proofs.Reading.reading}
 use Rattle.types.specs.Rates.{coded}
 use Rattle.read_rates.proofs.coded_at.Statement.{statement}
@@ -9,5 +9,5 @@ pub coded-at-spec : {M : Type 1} → statement M
 unfolding coded canonical over
 coded-at-spec =
     tie.close
-    (tie.spec (search needs) (search needs) (λ c. c .no-rate .ensures ∙ (search reading)) (search needs) (search needs)
+    (tie.spec (omega arith) (omega arith) (λ c. c .no-rate .ensures ∙ (search reading)) (omega arith) (omega arith)
     (λ c. c .rate-read .ensures ∙ (search reading)))

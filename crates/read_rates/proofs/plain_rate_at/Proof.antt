@@ -1,5 +1,5 @@
 -- Each return by the answers that led to it.
-use Rattle.prelude.proofs.Prelude.{needs, _∙_}
+use Rattle.prelude.proofs.Prelude.{arith, _∙_}
 use Rattle.coding.{specs.Codec.canonical, specs.Codec.over, proofs.Reading.reading}
 use Rattle.types.specs.Rates.{plainRate}
 use Rattle.read_rates.proofs.plain_rate_at.Statement.{statement}
@@ -9,4 +9,4 @@ pub plain-rate-at-spec : {M : Type 1} → statement M
 unfolding plainRate canonical over
 plain-rate-at-spec =
     tie.close
-    (tie.spec (search needs) (search needs) (λ c. c .no-rate .ensures ∙ (search reading)) (search needs) (λ c. c .rate-read .ensures ∙ (search reading)))
+    (tie.spec (omega arith) (omega arith) (λ c. c .no-rate .ensures ∙ (search reading)) (omega arith) (λ c. c .rate-read .ensures ∙ (search reading)))

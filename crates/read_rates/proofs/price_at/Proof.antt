@@ -1,5 +1,5 @@
 -- Each return by the answers that led to it.
-use Rattle.prelude.proofs.Prelude.{needs}
+use Rattle.prelude.proofs.Prelude.{arith}
 use Rattle.coding.{specs.Codec.sort, proofs.Reading.picks, proofs.Reading.skips, proofs.Reading.picks-run, proofs.Reading.skips-run}
 use Rattle.types.specs.Rates.{price}
 use Rattle.read_rates.proofs.price_at.Statement.{statement}
@@ -9,6 +9,6 @@ pub price-at-spec : {M : Type 1} → statement M
 unfolding price sort
 price-at-spec =
     tie.close
-    (tie.spec (search needs) (search needs) (λ c. search (picks, skips) depth 8) (search needs) (search needs) (λ c. search (picks, skips) depth 8)
-    (search needs) (search needs) (λ c. search (picks, skips) depth 8) (search needs) (search needs) (λ c. search (picks, skips) depth 8) (search needs)
-    (search needs) (λ c. search (picks, skips) depth 8) (search needs) (λ c. search (picks, skips, picks-run, skips-run) depth 8) (search needs) (λ c. search (picks, skips, picks-run, skips-run) depth 8))
+    (tie.spec (omega arith) (omega arith) (λ c. search (picks, skips) depth 8) (omega arith) (omega arith) (λ c. search (picks, skips) depth 8)
+    (omega arith) (omega arith) (λ c. search (picks, skips) depth 8) (omega arith) (omega arith) (λ c. search (picks, skips) depth 8) (omega arith)
+    (omega arith) (λ c. search (picks, skips) depth 8) (omega arith) (λ c. search (picks, skips, picks-run, skips-run) depth 8) (omega arith) (λ c. search (picks, skips, picks-run, skips-run) depth 8))

@@ -1,5 +1,5 @@
 -- Each return by the answers that led to it.
-use Rattle.prelude.proofs.Prelude.{needs}
+use Rattle.prelude.proofs.Prelude.{arith}
 use Rattle.coding.proofs.Reading.{gives, picks, skips, stay, step}
 use Rattle.read_rates.specs.Readers.{stepTime}
 use Rattle.read_rates.proofs.step_at.Statement.{statement}
@@ -7,4 +7,4 @@ use Rattle.read_rates.proofs.step_at.Tie as tie
 
 pub step-at-spec : {M : Type 1} → statement M
 unfolding stepTime
-step-at-spec = tie.close (tie.spec (search needs) (search needs) (λ c. search (picks, stay)) (λ c. search (picks, step, gives)) (λ c. search (skips, gives)))
+step-at-spec = tie.close (tie.spec (omega arith) (omega arith) (λ c. search (picks, stay)) (λ c. search (picks, step, gives)) (λ c. search (skips, gives)))

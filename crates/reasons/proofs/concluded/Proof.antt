@@ -1,4 +1,4 @@
-use Rattle.prelude.proofs.Prelude.{eq-eqb, needs}
+use Rattle.prelude.proofs.Prelude.{eq-eqb, arith}
 use Rattle.phases.proofs.Choice.{tests}
 use Rattle.reasons.proofs.concluded.Statement.{statement}
 use Rattle.reasons.proofs.concluded.Tie as tie
@@ -22,4 +22,4 @@ returns-2 c =
 pub concluded-spec : {M : Type 1} → statement M
 concluded-spec =
     tie.close
-    (tie.spec (search needs) (λ c. search tests) (search needs) (search needs) (search needs) (search needs) (search needs) (search needs) (search needs) returns-2)
+    (tie.spec (omega arith) (λ c. search tests) (omega arith) (omega arith) (omega arith) (omega arith) (omega arith) (omega arith) (omega arith) returns-2)

@@ -1,6 +1,6 @@
-use Rattle.prelude.proofs.Prelude.{needs}
+use Rattle.prelude.proofs.Prelude.{arith}
 use Rattle.reasons.proofs.is_unread.Statement.{statement}
 use Rattle.reasons.proofs.is_unread.Tie as tie
 
 pub is-unread-spec : {M : Type 1} → statement M
-is-unread-spec = tie.close (tie.spec (search needs) (λ c. cc) (search needs) (λ c. cc))
+is-unread-spec = tie.close (tie.spec (omega arith) (λ c. cc) (omega arith) (λ c. cc))

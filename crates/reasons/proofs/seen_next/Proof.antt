@@ -1,8 +1,8 @@
-use Rattle.prelude.proofs.Prelude.{needs}
+use Rattle.prelude.proofs.Prelude.{arith}
 use Rattle.reasons.proofs.seen_next.Statement.{statement}
 use Rattle.reasons.proofs.seen_next.Tie as tie
 
 pub seen-next-spec : {M : Type 1} → statement M
 seen-next-spec =
     tie.close
-    (tie.spec (search needs) (search needs) (search needs) (search needs) (search needs) (search needs) (search needs) (search needs) (search needs) (search needs) (λ c. cc))
+    (tie.spec (omega arith) (omega arith) (omega arith) (omega arith) (omega arith) (omega arith) (omega arith) (omega arith) (omega arith) (omega arith) (λ c. cc))

@@ -1,4 +1,4 @@
-use Rattle.prelude.proofs.Prelude.{needs, ap}
+use Rattle.prelude.proofs.Prelude.{arith, ap}
 use Rattle.types.specs.declared.Answer.{Answer}
 use Rattle.reply.specs.Reply.{replyOf, replyLeft}
 use Rattle.reply.proofs.reply.Statement.{statement}
@@ -12,4 +12,4 @@ returns c =
     rw (← number) (r .reply-to .ensures .0, r .reply-to .ensures .1)
 
 pub reply-spec : {M : Type 1} → statement M
-reply-spec = tie.close (tie.spec (search needs) (search needs) (search needs) returns)
+reply-spec = tie.close (tie.spec (omega arith) (omega arith) (omega arith) returns)

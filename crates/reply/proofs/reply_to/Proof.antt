@@ -1,6 +1,6 @@
 -- Silent, or the reject by the number, the first octet and the identifier.
-use Rattle.prelude.proofs.Prelude.{needs, sym, _∙_}
-use Rattle.reply.specs.Reply.{replyBy}
+use Rattle.prelude.proofs.Prelude.{arith, sym, _∙_}
+use Rattle.rejections.specs.Rejects.{replyBy}
 use Rattle.reply.proofs.{Silence.silent-accepted, Silence.silent-reject, Silence.spoken, Silence.replied, reply_to.Statement.statement}
 use Rattle.reply.proofs.reply_to.Tie as tie
 
@@ -20,6 +20,6 @@ returns-3 c =
 pub reply-to-spec : {M : Type 1} → statement M
 reply-to-spec =
     tie.close
-    (tie.spec (search needs) (λ c. rw (c .nothing .ensures) (silent-accepted _ _ _ (c .before .if1 .taken)))
-    (search needs) (search needs) (λ c. rw (c .nothing2 .ensures) (silent-reject _ _ _ (sym (c .before .before .first-of .ensures) ∙ c .before .if2 .taken)))
-    (search needs) (search needs) (search needs) (search needs) returns-3)
+    (tie.spec (omega arith) (λ c. rw (c .nothing .ensures) (silent-accepted _ _ _ (c .before .if1 .taken)))
+    (omega arith) (omega arith) (λ c. rw (c .nothing2 .ensures) (silent-reject _ _ _ (sym (c .before .before .first-of .ensures) ∙ c .before .if2 .taken)))
+    (omega arith) (omega arith) (omega arith) (omega arith) returns-3)

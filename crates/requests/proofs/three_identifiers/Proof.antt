@@ -1,4 +1,4 @@
-use Rattle.prelude.proofs.Prelude.{arith, needs}
+use Rattle.prelude.proofs.Prelude.{arith}
 use Rattle.requests.proofs.three_identifiers.Statement.{statement}
 use Rattle.requests.proofs.three_identifiers.Tie as tie
 
@@ -10,4 +10,4 @@ returns c =
     (rw (e, d, s), (λ h. omega (arith, s, d), λ h. omega (arith, s, d, e), λ h. omega (arith, d, e)))
 
 pub three-identifiers-spec : {M : Type 1} → statement M
-three-identifiers-spec = tie.close (tie.spec (search needs) (search needs) (search needs) returns)
+three-identifiers-spec = tie.close (tie.spec (omega arith) (omega arith) (omega arith) returns)

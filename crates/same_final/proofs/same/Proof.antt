@@ -1,4 +1,4 @@
-use Rattle.prelude.proofs.Prelude.{needs}
+use Rattle.prelude.proofs.Prelude.{arith}
 use Rattle.same_final.specs.Same.{sameOf}
 use Rattle.prelude.proofs.Ways.{ways}
 use Rattle.same_final.proofs.same.Statement.{statement}
@@ -8,4 +8,4 @@ pub same-spec : {M : Type 1} → statement M
 unfolding sameOf
 same-spec =
     tie.close
-    (tie.spec (λ c. search ways) (λ c. search ways) (search needs) (λ c. search ways) (λ c. search ways) (search needs) (λ c. search ways) (λ c. search ways))
+    (tie.spec (λ c. search ways) (λ c. search ways) (omega arith) (λ c. search ways) (λ c. search ways) (omega arith) (λ c. search ways) (λ c. search ways))

@@ -1,4 +1,4 @@
-use Rattle.prelude.proofs.Prelude.{ℕ, _+_, _≤_, _-_, _≡_, refl, sym, Bool, true, false, arith, needs}
+use Rattle.prelude.proofs.Prelude.{ℕ, _+_, _≤_, _-_, _≡_, refl, sym, Bool, true, false, arith}
 use Rattle.types.specs.{Entries.unitAt, Entries.sameUnits, declared.Entries.Entries}
 use Rattle.octets.specs.Each.{each}
 use Rattle.same_final.specs.Same.{upTo, equalUnits}
@@ -43,7 +43,7 @@ same-entries-spec =
     (tie.spec
     Inv-loop
     μ-loop
-    (search needs)
+    (omega arith)
     (λ c. (omega arith, refl))
     (λ c. omega arith)
     (λ c. omega arith)

@@ -1,5 +1,4 @@
-use Rattle.prelude.proofs.Prelude.{needs, refl, ap, eq-eqb, ne-eqb}
-use Rattle.phases.specs.declared.Status.{Status}
+use Rattle.prelude.proofs.Prelude.{arith, refl, ne-eqb}
 use Rattle.scans.proofs.alone.Statement.{statement}
 use Rattle.scans.proofs.alone.Tie as tie
 
@@ -24,4 +23,4 @@ returns-4 c =
     rw (o .before .bare .ensures, ne-eqb _ _ (o .if1 .left), ne-eqb _ _ (c .before .if2 .left), ne-eqb _ _ (c .if3 .left)) (refl, refl)
 
 pub alone-spec : {M : Type 1} → statement M
-alone-spec = tie.close (tie.spec (search needs) returns returns-2 returns-3 returns-4)
+alone-spec = tie.close (tie.spec (omega arith) returns returns-2 returns-3 returns-4)

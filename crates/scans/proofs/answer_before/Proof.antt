@@ -1,8 +1,7 @@
-use Rattle.prelude.proofs.Prelude.{needs, ℕ, List, _≤_, _<_, _-_, _+_, _/_, length, _≡_, false, refl, sym, _∙_, ap, arith}
+use Rattle.prelude.proofs.Prelude.{_-_, _≡_, false, refl, sym, _∙_, arith}
 use Rattle.outcomes.specs.Outcome.{settles}
-use Rattle.events.specs.Events.{countAt}
 use Rattle.account.specs.History.{any, judged}
-use Rattle.events.specs.Prefix.{before, placeAt}
+use Rattle.events.specs.Prefix.{before}
 use Rattle.scans.specs.Scan.{Here}
 use Rattle.scans.specs.Claim.{requestOf}
 use Rattle.events.proofs.Prefix.{ends-inside}
@@ -85,14 +84,14 @@ answer-before-spec =
     (λ c κs. let far = c .before .before .before in omega (arith, far .before .pre .0 .some))
     add-end
     (λ c κs. let far = c .before .before .before in omega (arith, far .before .before .pre .0 .some))
-    (search needs)
+    (omega arith)
     (omega arith)
     (omega arith)
     part-claim-end
-    (search needs)
-    (search needs)
+    (omega arith)
+    (omega arith)
     returns
-    (search needs)
+    (omega arith)
     (omega arith)
     (omega arith)
     loop-again

@@ -1,8 +1,6 @@
-use Rattle.prelude.proofs.Prelude.{needs, ℕ, List, _≤_, _-_, _+_, _≡_, refl, sym, _∙_, ap, arith, take, drop, length}
+use Rattle.prelude.proofs.Prelude.{_-_, _∙_, ap, arith}
 use Rattle.types.specs.declared.Answer.{Answer}
 use Rattle.types.specs.Frames.{readOf}
-use Rattle.events.specs.Events.{countAt}
-use Rattle.events.specs.Prefix.{placeAt}
 use Rattle.events.proofs.Prefix.{ends-inside, part-at}
 use Rattle.scans.proofs.charge_at.Statement.{statement}
 use Rattle.scans.proofs.charge_at.Tie as tie
@@ -31,4 +29,4 @@ returns c =
 pub charge-at-spec : {M : Type 1} → statement M
 charge-at-spec =
     tie.close (tie.spec (λ c κs. (c .before .before .pre .0, omega (arith, c .before .before .pre .1))) (λ c κs. c .before .before .before .pre .1) add-end
-    (omega arith) (omega arith) part-read-end (search needs) returns)
+    (omega arith) (omega arith) part-read-end (omega arith) returns)

@@ -1,6 +1,5 @@
-use Rattle.prelude.proofs.Prelude.{ℕ, _≤_, _≡_, ap, sym, _∙_, arith, needs, eq-eqb, ne-eqb}
+use Rattle.prelude.proofs.Prelude.{_≤_, ap, arith}
 use Rattle.types.specs.declared.Answer.{Answer}
-use Rattle.types.specs.Frames.{readOf}
 use Rattle.outcomes.proofs.Refusals.{number-fits}
 use Rattle.scans.proofs.{Heard.unheard, Heard.refused, Heard.heard, Heard.no-component, claim.Statement.statement}
 use Rattle.scans.proofs.claim.Tie as tie
@@ -39,4 +38,4 @@ returns-4 c =
     (c .claimed .result) (c .claimed .ensures)
 
 pub claim-spec : {M : Type 1} → statement M
-claim-spec = tie.close (tie.spec returns (search needs) returns-2 (search needs) cast-t8 returns-3 (search needs) returns-4)
+claim-spec = tie.close (tie.spec returns (omega arith) returns-2 (omega arith) cast-t8 returns-3 (omega arith) returns-4)

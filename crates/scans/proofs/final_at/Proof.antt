@@ -1,4 +1,4 @@
-use Rattle.prelude.proofs.Prelude.{needs, _≡_, sym, _∙_, ap, arith}
+use Rattle.prelude.proofs.Prelude.{arith}
 use Rattle.scans.proofs.{Scans.final-first, Scans.final-same, Scans.final-other, final_at.Statement.statement}
 use Rattle.scans.proofs.final_at.Tie as tie
 
@@ -32,4 +32,4 @@ returns-3 c =
 pub final-at-spec : {M : Type 1} → statement M
 final-at-spec =
     tie.close (tie.spec (λ c κs. c .before .before .pre) returns (λ c κs. let far = c .before .before .before in let s = far .before in (s .pre .0 .list, omega (arith, s .pre .0 .some, c .if1 .left)))
-    (search needs) returns-2 returns-3)
+    (omega arith) returns-2 returns-3)

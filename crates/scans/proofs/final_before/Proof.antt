@@ -1,4 +1,4 @@
-use Rattle.prelude.proofs.Prelude.{needs, ℕ, List, _≤_, _<_, _-_, _+_, _≡_, false, refl, sym, _∙_, ap, arith}
+use Rattle.prelude.proofs.Prelude.{_-_, _≡_, false, refl, sym, _∙_, ap, arith}
 use Rattle.outcomes.specs.Outcome.{its}
 use Rattle.account.specs.History.{any, judged}
 use Rattle.events.specs.Prefix.{before}
@@ -109,21 +109,21 @@ final-before-spec =
     Inv-loop
     μ-loop
     (λ c κs. c .before .before .pre .0 .some)
-    (search needs)
+    (omega arith)
     answer-before-requires
     loop-holds
     (λ c κs. let far = c .before .before .before in let far2 = far .before .before .before in omega (arith, far2 .before .pre .0 .some))
     add-end
     (λ c κs. let far = c .before .before .before in let far2 = far .before .before .before in omega (arith, far2 .before .before .pre .0 .some))
-    (search needs)
-    (search needs)
+    (omega arith)
+    (omega arith)
     (omega arith)
     (omega arith)
     part-claim-end
-    (search needs)
-    (search needs)
+    (omega arith)
+    (omega arith)
     returns
-    (search needs)
+    (omega arith)
     (λ c. let far = c .before .before .before in let far2 = far .before .before .before in let t = far2 .before .before .before in let up = t .before .before .before in
     let up2 = up .before .before .before in omega (arith, t .loop-test .taken, up2 .before .pre .0 .some))
     (omega arith)

@@ -1,5 +1,4 @@
-use Rattle.prelude.proofs.Prelude.{needs, ℕ, _≤_, _-_, _+_, _≡_, refl, sym, _∙_, ap, arith, eq-eqb, ne-eqb}
-use Rattle.phases.specs.{declared.Moving.Moving, declared.Status.Status, declared.Event.Event, ByNumber.movingOf}
+use Rattle.prelude.proofs.Prelude.{_-_, arith}
 use Rattle.scans.specs.Claim.{bare}
 use Rattle.events.proofs.Prefix.{ends-inside}
 use Rattle.scans.proofs.{Outcomes.phase-at, Outcomes.claim-final-service, Outcomes.unclaimed-at, Outcomes.compared-at, outcome_at.Statement.statement}
@@ -73,8 +72,8 @@ outcome-at-spec =
     (tie.spec
     (λ c κs. c .before .before .pre .1)
     (λ c κs. let far = c .before .before .before in omega (arith, far .before .before .pre .1))
-    (search needs)
-    (search needs)
+    (omega arith)
+    (omega arith)
     returns
     (λ c κs. let far = c .before .before .before in let s = far .before .before in (s .pre .0, omega (arith, s .pre .1)))
     (λ c κs. let far = c .before .before .before in far .before .before .before .pre .1)
@@ -83,7 +82,7 @@ outcome-at-spec =
     (omega arith)
     (omega arith)
     part-claim-end
-    (search needs)
+    (omega arith)
     returns-2
     (λ c κs. let far = c .before .before .before in let far2 = far .before .before .before in let far3 = far2 .before .before .before in let s = far3 .before .before .before in s .pre)
     final-at-requires

@@ -1,5 +1,5 @@
-use Rattle.prelude.proofs.Prelude.{_∙_, ap, needs, cond}
-use Rattle.phases.specs.{declared.Moving.Moving, ByNumber.movingOf}
+use Rattle.prelude.proofs.Prelude.{_∙_, ap, arith}
+use Rattle.phases.specs.{declared.Moving.Moving}
 use Rattle.scans.proofs.Histories.{moving-phase}
 use Rattle.scans.proofs.passed.Statement.{statement}
 use Rattle.scans.proofs.passed.Tie as tie
@@ -11,4 +11,4 @@ returns c =
     ap (λ (m : Moving). m .status .phase) (step .phase-step .ensures) ∙ rw (step .before .bare .ensures) (moving-phase (x .phase) (x .e))
 
 pub passed-spec : {M : Type 1} → statement M
-passed-spec = tie.close (tie.spec (search needs) (search needs) returns)
+passed-spec = tie.close (tie.spec (omega arith) (omega arith) returns)

@@ -1,4 +1,4 @@
-use Rattle.prelude.proofs.Prelude.{needs, _≡_, sym, _∙_, ap, arith}
+use Rattle.prelude.proofs.Prelude.{sym, _∙_, ap, arith}
 use Rattle.scans.specs.Claim.{askOf, requestOf}
 use Rattle.scans.proofs.{Scans.names, Scans.pending-last, pending_before.Statement.statement}
 use Rattle.scans.proofs.pending_before.Tie as tie
@@ -24,4 +24,4 @@ returns c =
     (found .answer-before .result) (found .answer-before .ensures)))
 
 pub pending-before-spec : {M : Type 1} → statement M
-pending-before-spec = tie.close (tie.spec (λ c κs. c .before .before .pre .0 .some) (search needs) answer-before-requires (search needs) returns)
+pending-before-spec = tie.close (tie.spec (λ c κs. c .before .before .pre .0 .some) (omega arith) answer-before-requires (omega arith) returns)

@@ -1,7 +1,6 @@
-use Rattle.prelude.proofs.Prelude.{needs, ℕ, List, _≤_, _-_, _≡_, refl, sym, _∙_, ap, arith}
+use Rattle.prelude.proofs.Prelude.{ℕ, List, _≤_, _-_, _≡_, refl, _∙_, ap, arith}
 use Rattle.account.specs.History.{phase, judged}
-use Rattle.events.specs.Prefix.{before, givenAt}
-use Rattle.scans.specs.Claim.{nextBy}
+use Rattle.events.specs.Prefix.{before}
 use Rattle.scans.proofs.{Histories.phase-more, phase_before.Statement.statement}
 use Rattle.scans.proofs.phase_before.Tie as tie
 
@@ -29,4 +28,4 @@ returns c =
     λ o. at .loop .inv .1 o ∙ ap (λ (n : ℕ). phase (judged (before (x .rows .now) o n))) e
 
 pub phase-before-spec : {M : Type 1} → statement M
-phase-before-spec = tie.close (tie.spec Inv-loop μ-loop loop-holds (omega arith) (search needs) (omega arith) (omega arith) loop-again returns)
+phase-before-spec = tie.close (tie.spec Inv-loop μ-loop loop-holds (omega arith) (omega arith) (omega arith) (omega arith) loop-again returns)

@@ -1,4 +1,4 @@
-use Rattle.prelude.proofs.Prelude.{needs, ℕ, List, _≤_, _-_, _≡_, refl, sym, _∙_, ap, arith}
+use Rattle.prelude.proofs.Prelude.{_≤_, _-_, _≡_, refl, sym, _∙_, ap, arith}
 use Rattle.events.specs.Prefix.{placeAt}
 use Rattle.events.proofs.Prefix.{place-next, place-fits}
 use Rattle.scans.proofs.place_of.Statement.{statement}

@@ -1,4 +1,4 @@
-use Rattle.prelude.proofs.Prelude.{needs, ℕ, List, _≤_, _-_, _≡_, refl, sym, _∙_, ap, arith}
+use Rattle.prelude.proofs.Prelude.{ℕ, List, _≤_, _-_, _≡_, refl, sym, _∙_, ap, arith}
 use Rattle.account.specs.History.{phase, judged}
 use Rattle.events.specs.Prefix.{before}
 use Rattle.scans.proofs.{Scans.idle-more, Scans.setup-found, Scans.setup-none, setup_before.Statement.statement}
@@ -36,4 +36,4 @@ returns-2 c =
     λ o. setup-none (x .rows .now) o (x .k) (ap (λ (n : ℕ). phase (judged (before (x .rows .now) o n))) (sym e) ∙ at .loop .inv .1 o) _ (c .empty .ensures .0)
 
 pub setup-before-spec : {M : Type 1} → statement M
-setup-before-spec = tie.close (tie.spec Inv-loop μ-loop loop-holds (omega arith) (search needs) returns (omega arith) (omega arith) loop-again (search needs) returns-2)
+setup-before-spec = tie.close (tie.spec Inv-loop μ-loop loop-holds (omega arith) (omega arith) returns (omega arith) (omega arith) loop-again (omega arith) returns-2)

@@ -1,4 +1,4 @@
-use Rattle.prelude.proofs.Prelude.{needs, _≡_, refl, sym, _∙_, ap, arith}
+use Rattle.prelude.proofs.Prelude.{refl, arith}
 use Rattle.scans.proofs.status_before.Statement.{statement}
 use Rattle.scans.proofs.status_before.Tie as tie
 
@@ -15,4 +15,4 @@ pub status-before-spec : {M : Type 1} → statement M
 status-before-spec =
     tie.close (tie.spec (λ c κs. c .before .before .pre .some) (λ c κs. (c .before .before .before .pre, omega arith, omega arith))
     (λ c κs. let far = c .before .before .before in (far .before .pre, omega arith, omega arith))
-    (λ c κs. let far = c .before .before .before in (far .before .before .pre, omega arith, omega arith)) (search needs) returns)
+    (λ c κs. let far = c .before .before .before in (far .before .before .pre, omega arith, omega arith)) (omega arith) returns)

@@ -1,4 +1,4 @@
-use Rattle.prelude.proofs.Prelude.{needs, refl, arith}
+use Rattle.prelude.proofs.Prelude.{refl, arith}
 use Rattle.sizes.proofs.{Laws.one-small, around.Statement.statement}
 use Rattle.sizes.proofs.around.Tie as tie
 
@@ -36,4 +36,4 @@ returns c =
     )
 
 pub around-spec : {M : Type 1} → statement M
-around-spec = tie.close (tie.spec (search needs) (search needs) (search needs) (search needs) add-result add-result-2 add-result-3 returns)
+around-spec = tie.close (tie.spec (omega arith) (omega arith) (omega arith) (omega arith) add-result add-result-2 add-result-3 returns)

@@ -1,4 +1,4 @@
-use Rattle.prelude.proofs.Prelude.{needs, sym, ap, arith}
+use Rattle.prelude.proofs.Prelude.{sym, arith}
 use Rattle.coding.specs.Reader.{part}
 use Rattle.messages.proofs.Walk.{none-under, none-other, one-facility}
 use Rattle.sizes.proofs.{Laws.sizes-none, Laws.sizes-as, of_element.Statement.statement}
@@ -23,4 +23,4 @@ returns-3 c =
 
 pub of-element-spec : {M : Type 1} → statement M
 of-element-spec =
-    tie.close (tie.spec returns (λ c. let s = c .before .before .before in omega (arith, s .pre .0, s .pre .1)) returns-2 (omega arith) (omega arith) (omega arith) (search needs) returns-3)
+    tie.close (tie.spec returns (λ c. let s = c .before .before .before in omega (arith, s .pre .0, s .pre .1)) returns-2 (omega arith) (omega arith) (omega arith) (omega arith) returns-3)

@@ -1,4 +1,4 @@
-use Rattle.prelude.proofs.Prelude.{needs, ℕ, suc, _≤_, _<_, _-_, _+_, _≡_, true, refl, sym, _∙_, arith, length}
+use Rattle.prelude.proofs.Prelude.{suc, _≤_, _-_, _≡_, true, refl, sym, _∙_, arith, length}
 use Rattle.framing.{specs.Framing.elementsFit, proofs.Laws.end-past, proofs.Laws.fit-more}
 use Rattle.messages.{specs.Trace.componentsFrom, specs.Trace.componentEvents, proofs.Walk.next-inside, proofs.Walk.events-more, proofs.Walk.events-over}
 use Rattle.sizes.specs.Sizes.{Left}
@@ -77,4 +77,4 @@ pub of-elements-spec : {M : Type 1} → statement M
 of-elements-spec =
     tie.close
     (tie.spec Inv-loop μ-loop (λ c. let s = c .before in (s .pre .0, s .pre .1, left-starts _)) (λ c κs. c .loop-test .taken) of-element-requires
-    (λ c. c .before .before .before .loop-test .taken) (search needs) add-events add-octets loop-less loop-again returns)
+    (λ c. c .before .before .before .loop-test .taken) (omega arith) add-events add-octets loop-less loop-again returns)

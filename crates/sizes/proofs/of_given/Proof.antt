@@ -1,4 +1,4 @@
-use Rattle.prelude.proofs.Prelude.{needs, not-true, not-false}
+use Rattle.prelude.proofs.Prelude.{not-true, not-false}
 use Rattle.sizes.proofs.{Laws.sizes-none, of_given.Statement.statement}
 use Rattle.sizes.proofs.of_given.Tie as tie
 

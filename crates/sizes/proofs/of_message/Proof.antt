@@ -1,4 +1,4 @@
-use Rattle.prelude.proofs.Prelude.{needs, arith, _≡_, _+_, sym, ap, ℕ, suc, length, getD, true}
+use Rattle.prelude.proofs.Prelude.{arith, _≡_, _+_, ap, suc, length, getD}
 use Rattle.framing.proofs.Laws.{framed-head}
 use Rattle.framing.specs.Framing.{message}
 use Rattle.messages.{specs.Trace.componentsFrom, proofs.Walk.message-is, proofs.Walk.message-fits, proofs.Theorems.message-count}
@@ -43,6 +43,6 @@ returns c =
 pub of-message-spec : {M : Type 1} → statement M
 of-message-spec =
     tie.close
-    (tie.spec (λ c κs. c .before .pre) (search needs) (λ c. let t = c .before .before in let s = t .before .before in omega (arith, framed-head (s .args .s .now) (s .pre) .0))
-    (search needs) (search needs) of-given-requires (search needs)
+    (tie.spec (λ c κs. c .before .pre) (omega arith) (λ c. let t = c .before .before in let s = t .before .before in omega (arith, framed-head (s .args .s .now) (s .pre) .0))
+    (omega arith) (omega arith) of-given-requires (omega arith)
     add-events returns)

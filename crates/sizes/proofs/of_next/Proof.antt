@@ -1,4 +1,4 @@
-use Rattle.prelude.proofs.Prelude.{needs, sym, eq-eqb, ne-eqb}
+use Rattle.prelude.proofs.Prelude.{eq-eqb, ne-eqb}
 use Rattle.sizes.proofs.{Laws.sizes-none, of_next.Statement.statement}
 use Rattle.sizes.proofs.of_next.Tie as tie
 

@@ -1,4 +1,4 @@
-use Rattle.prelude.proofs.Prelude.{needs, sym, ap, refl, arith, []}
+use Rattle.prelude.proofs.Prelude.{sym, ap, refl, arith}
 use Rattle.messages.{specs.Trace.componentEvents, proofs.Walk.parts-none}
 use Rattle.sizes.proofs.{Laws.sizes-none, Laws.sizes-as, Laws.tiles-long, Laws.tiles-size, of_tiles.Statement.statement}
 use Rattle.sizes.proofs.of_tiles.Tie as tie
@@ -24,4 +24,4 @@ returns-2 c =
     tiles-size (s .args .s .now) (e .tiles-of .result) (e .tiles-of .ensures .0) (i .if1 .left) (c .wide .result) _ (c .wide .ensures .0) refl
 
 pub of-tiles-spec : {M : Type 1} → statement M
-of-tiles-spec = tie.close (tie.spec (search needs) returns (search needs) sub-octets returns-2)
+of-tiles-spec = tie.close (tie.spec (omega arith) returns (omega arith) sub-octets returns-2)

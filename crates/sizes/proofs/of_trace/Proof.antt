@@ -1,4 +1,4 @@
-use Rattle.prelude.proofs.Prelude.{needs, arith, _≡_, _≤_, _<_, _-_, _+_, _/_, length, true, false, refl, sym, _∙_, ap}
+use Rattle.prelude.proofs.Prelude.{arith, _≡_, _≤_, _-_, _+_, _/_, length, true, false}
 use Rattle.framing.{specs.Framing.Passing, specs.Framing.messagesFrom, specs.Framing.messagesOf}
 use Rattle.framing.proofs.Laws.{passing-starts, passes-on, inside, from-start, next-message, nothing-left}
 use Rattle.messages.{specs.Trace.allFramed, specs.Trace.traceFrom, proofs.Walk.trace-more, proofs.Walk.framed-more, proofs.Walk.trace-over}
@@ -102,6 +102,6 @@ returns c =
 pub of-trace-spec : {M : Type 1} → statement M
 of-trace-spec =
     tie.close
-    (tie.spec Inv-loop μ-loop loop-holds (search needs) (search needs) (omega arith) (search needs) (λ c. omega (arith, lies-inside c)) (search needs) (search needs) (search needs)
+    (tie.spec Inv-loop μ-loop loop-holds (omega arith) (omega arith) (omega arith) (omega arith) (λ c. omega (arith, lies-inside c)) (omega arith) (omega arith) (omega arith)
     (omega arith) (omega arith) (omega arith) (λ c. omega (arith, lies-inside (c .before))) of-next-requires (omega arith) (omega arith) (λ c. omega (arith, lies-inside (c .before .before .before)))
     cleared-by-requires add-events add-count (omega arith) (omega arith) loop-again returns)

@@ -1,4 +1,4 @@
-use Rattle.prelude.proofs.Prelude.{needs, refl, ap, sym, _∙_, eq-eqb, ne-eqb}
+use Rattle.prelude.proofs.Prelude.{arith, refl, ap, sym, _∙_, eq-eqb, ne-eqb}
 use Rattle.slots.specs.ByValue.{freed, freeOf}
 use Rattle.account.specs.{declared.Closing.Closing, Step.closingOf}
 use Rattle.slots.proofs.ByValue.{freed-now}
@@ -10,12 +10,12 @@ unfolding freeOf
 free-spec =
     tie.close
     (tie.spec
-    (search needs)
+    (omega arith)
     (λ c. rw (eq-eqb _ 64 (c .before .if1 .taken), c .uncollected .ensures) refl)
-    (search needs)
+    (omega arith)
     (λ c. rw (ne-eqb _ 64 (c .before .before .before .if1 .left), ne-eqb _ 4 (c .before .if2 .taken), c .uncollected2 .ensures) refl)
-    (search needs)
-    (search needs)
+    (omega arith)
+    (omega arith)
     (λ c. let f = c .before in let k = f .before .before .before in
     ap (λ (x : Closing). freed (record { number = 0; closing = x }) 0 (c .fresh .result)) (f .closing-of .ensures .0)
     ∙ ap (freed (record { number = 0; closing = closingOf (k .before .args .a) }) 0) (c .fresh .ensures)

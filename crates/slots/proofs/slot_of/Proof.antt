@@ -38,10 +38,10 @@ slot-of-spec =
     Inv-loop
     μ-loop
     (λ c. (omega arith, search-begins _ _))
-    (search needs)
-    (search needs)
+    (omega arith)
+    (omega arith)
     returns
-    (search needs)
+    (omega arith)
     (omega arith)
     loop-again
     returns-2)

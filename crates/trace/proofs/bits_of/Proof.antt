@@ -1,4 +1,4 @@
-use Rattle.prelude.proofs.Prelude.{needs, ℕ, _≤_, _≡_, Bool, true, false, cond, eqb, arith}
+use Rattle.prelude.proofs.Prelude.{ℕ, _≤_, Bool, true, false, cond, eqb, arith}
 use Rattle.trace.proofs.bits_of.Statement.{statement}
 use Rattle.trace.proofs.bits_of.Tie as tie
 
@@ -17,4 +17,4 @@ add-result-2 c =
     omega (arith, c .before .before .bit .ensures, c .before .bit2 .ensures, c .bit3 .ensures, small (eqb (x .s) 0) 1, small (eqb (x .d) 0) 2, small (eqb (x .e) 0) 4)
 
 pub bits-of-spec : {M : Type 1} → statement M
-bits-of-spec = tie.close (tie.spec (search needs) (search needs) (search needs) add-result add-result-2 (search needs))
+bits-of-spec = tie.close (tie.spec (omega arith) (omega arith) (omega arith) add-result add-result-2 (omega arith))

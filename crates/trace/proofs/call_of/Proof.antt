@@ -1,4 +1,4 @@
-use Rattle.prelude.proofs.Prelude.{needs, arith, _≡_, _≤_}
+use Rattle.prelude.proofs.Prelude.{arith}
 use Rattle.trace.proofs.{Whole.no-call, Whole.first-inside, Whole.first-framed, Whole.first-call, call_of.Statement.statement}
 use Rattle.trace.proofs.call_of.Tie as tie
 
@@ -26,4 +26,4 @@ returns-2 c =
     first-call (s .args .pairs .now) (s .args .octets .now) (s .pre .0) (s .pre .1) (i .if1 .left) (z .size .result) (z .size .ensures) (c .reference-of .result) (c .reference-of .ensures)
 
 pub call-of-spec : {M : Type 1} → statement M
-call-of-spec = tie.close (tie.spec returns (search needs) (search needs) (search needs) (search needs) part-end reference-of-requires returns-2)
+call-of-spec = tie.close (tie.spec returns (omega arith) (omega arith) (omega arith) (omega arith) part-end reference-of-requires returns-2)

@@ -1,4 +1,4 @@
-use Rattle.prelude.proofs.Prelude.{needs, refl, sym, ap, _∙_}
+use Rattle.prelude.proofs.Prelude.{arith, refl, sym, ap, _∙_}
 use Rattle.framing.specs.declared.Verdict.{Verdict}
 use Rattle.messages.proofs.Theorems.{not-refused}
 use Rattle.trace.proofs.{Whole.refused, Whole.accepted, events_into.Statement.statement}
@@ -32,4 +32,4 @@ returns-2 c =
     (a .result, (a .in-rows, a .in-out))
 
 pub events-into-spec : {M : Type 1} → statement M
-events-into-spec = tie.close (tie.spec (search needs) returns lay-requires (search needs) (search needs) returns-2)
+events-into-spec = tie.close (tie.spec (omega arith) returns lay-requires (omega arith) (omega arith) returns-2)

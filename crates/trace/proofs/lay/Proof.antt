@@ -1,4 +1,4 @@
-use Rattle.prelude.proofs.Prelude.{needs, sym}
+use Rattle.prelude.proofs.Prelude.{arith, sym}
 use Rattle.sizes.proofs.Laws.{sizes-as}
 use Rattle.trace.specs.Into.{eventsIn}
 use Rattle.trace.proofs.{Laying.rooms-as, Laying.puts-as, Whole.too-many, Whole.too-long, Whole.room-for, Whole.lays, Whole.lays-none, lay.Statement.statement}
@@ -58,4 +58,4 @@ pub lay-spec : {M : Type 1} → statement M
 lay-spec =
     tie.close
     (tie.spec (λ c κs. let b = c .before .before .before in b .before .pre) (λ c κs. let b = c .before .before .before in b .before .before .pre) returns returns-2 put-trace-requires
-    (search needs) (search needs) returns-3)
+    (omega arith) (omega arith) returns-3)

@@ -1,6 +1,6 @@
-use Rattle.prelude.proofs.Prelude.{needs, List, ℕ, suc, [], _∷_, _++_, length, _≡_}
+use Rattle.prelude.proofs.Prelude.{arith, suc, [], _∷_, _++_, length}
 use Rattle.phases.specs.Phases.{Clear, Connect, Released}
-use Rattle.messages.specs.Trace.{when, phaseEvent, setupBy, componentEvents, componentsFrom}
+use Rattle.messages.specs.Trace.{when, phaseEvent, componentEvents, componentsFrom}
 use Rattle.trace.proofs.{Laying.rooms-head, Laying.rooms-tail, Laying.rows-head, Laying.rows-whole, Laying.puts-both, put_all.Statement.statement}
 use Rattle.trace.proofs.put_all.Tie as tie
 
@@ -118,4 +118,4 @@ returns c =
 
 pub put-all-spec : {M : Type 1} → statement M
 put-all-spec =
-    tie.close (tie.spec put-setup-requires put-when-requires put-given-requires put-when-requires-2 put-when-requires-3 (search needs) (search needs) returns)
+    tie.close (tie.spec put-setup-requires put-when-requires put-given-requires put-when-requires-2 put-when-requires-3 (omega arith) (omega arith) returns)

@@ -1,4 +1,4 @@
-use Rattle.prelude.proofs.Prelude.{needs, _∙_, sym, arith, _≤_, _-_, length}
+use Rattle.prelude.proofs.Prelude.{sym, arith, _-_}
 use Rattle.coding.{specs.Reader.part, proofs.Parts.part-length}
 use Rattle.trace.proofs.{Laying.puts-none, Laying.puts-as, Laying.rooms-as, put_at.Statement.statement}
 use Rattle.messages.proofs.Walk.{none-under, none-other, one-facility}
@@ -37,4 +37,4 @@ returns-3 c =
 pub put-at-spec : {M : Type 1} → statement M
 put-at-spec =
     tie.close (tie.spec returns (λ c. let far = c .before .before .before in let s = far .before .before in omega (arith, s .pre .0, s .pre .1)) returns-2 (omega arith) (omega arith)
-    (omega arith) put-tiles-requires (search needs) (search needs) returns-3)
+    (omega arith) put-tiles-requires (omega arith) (omega arith) returns-3)

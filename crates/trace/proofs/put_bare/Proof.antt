@@ -1,4 +1,4 @@
-use Rattle.prelude.proofs.Prelude.{needs, refl}
+use Rattle.prelude.proofs.Prelude.{arith, refl}
 use Rattle.trace.proofs.{Laying.bare-put, put_bare.Statement.statement}
 use Rattle.trace.proofs.put_bare.Tie as tie
 
@@ -9,4 +9,4 @@ returns c =
     λ out. bare-put (x .e) _ _ (x .p) _ (r .put-row .ensures) refl out
 
 pub put-bare-spec : {M : Type 1} → statement M
-put-bare-spec = tie.close (tie.spec (search needs) (search needs) returns)
+put-bare-spec = tie.close (tie.spec (omega arith) (omega arith) returns)

@@ -1,6 +1,4 @@
-use Rattle.prelude.proofs.Prelude.{needs, arith, refl, _≡_, ap, List, []}
-use Rattle.phases.specs.{declared.Event.Event, Phases.event}
-use Rattle.requests.specs.declared.Services.{Services}
+use Rattle.prelude.proofs.Prelude.{arith}
 use Rattle.trace.proofs.put_component.Statement.{statement}
 use Rattle.trace.proofs.put_component.Tie as tie
 
@@ -17,4 +15,4 @@ returns c =
     rw (p .before .before .before .empty .ensures .0) at (p .put-event .ensures)
 
 pub put-component-spec : {M : Type 1} → statement M
-put-component-spec = tie.close (tie.spec (search needs) put-event-requires (search needs) (search needs) returns)
+put-component-spec = tie.close (tie.spec (omega arith) put-event-requires (omega arith) (omega arith) returns)

@@ -1,5 +1,5 @@
-use Rattle.prelude.proofs.Prelude.{needs, ℕ, List, suc, _≤_, _<_, _-_, _+_, _≡_, true, refl, sym, _∙_, ap, arith, length, getD}
-use Rattle.framing.specs.Framing.{elementsFit, elementEnd}
+use Rattle.prelude.proofs.Prelude.{suc, _≤_, _<_, _-_, _+_, _≡_, true, refl, sym, _∙_, arith, length, getD}
+use Rattle.framing.specs.Framing.{elementsFit}
 use Rattle.messages.specs.Trace.{componentsFrom, componentEvents}
 use Rattle.trace.specs.Putting.{Progress}
 use Rattle.framing.proofs.Laws.{end-past, end-near, fit-more}
@@ -85,7 +85,7 @@ put-elements-spec =
     (λ c κs. c .loop-test .taken)
     put-at-requires
     (λ c. let far = c .before .before .before in let far2 = far .before .before .before in far2 .before .before .before .loop-test .taken)
-    (search needs)
+    (omega arith)
     loop-less
     loop-again
     (λ c. c .before .loop .inv .2 .laid .in-rows .kept)

@@ -1,4 +1,4 @@
-use Rattle.prelude.proofs.Prelude.{needs, arith, refl, _≡_}
+use Rattle.prelude.proofs.Prelude.{arith, refl}
 use Rattle.trace.proofs.{Laying.row-room, Laying.run-room, Laying.event-put, put_event.Statement.statement}
 use Rattle.trace.proofs.put_event.Tie as tie
 
@@ -23,4 +23,4 @@ put-event-spec =
     tie.close
     (tie.spec (λ c. let far = c .before .before .before in let s = far .before in omega (arith, s .pre .0))
     (λ c κs. let far = c .before .before .before in let s = far .before in row-room (s .args .e) (s .args .octets .now) _ refl (s .pre .1))
-    put-octets-requires (search needs) (search needs) returns)
+    put-octets-requires (omega arith) (omega arith) returns)

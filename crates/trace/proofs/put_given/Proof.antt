@@ -1,4 +1,4 @@
-use Rattle.prelude.proofs.Prelude.{needs, _≡_, sym, not-true, not-false, ap}
+use Rattle.prelude.proofs.Prelude.{arith, not-true, not-false}
 use Rattle.trace.proofs.{Laying.puts-none, put_given.Statement.statement}
 use Rattle.trace.proofs.put_given.Tie as tie
 
@@ -21,4 +21,4 @@ returns-2 c =
     rw (not-false (x .given) (i .if1 .left)) (p .put-elements .ensures)
 
 pub put-given-spec : {M : Type 1} → statement M
-put-given-spec = tie.close (tie.spec returns put-elements-requires (search needs) (search needs) returns-2)
+put-given-spec = tie.close (tie.spec returns put-elements-requires (omega arith) (omega arith) returns-2)

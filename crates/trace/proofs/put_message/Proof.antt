@@ -1,4 +1,4 @@
-use Rattle.prelude.proofs.Prelude.{needs, arith, _≡_, _+_, sym, getD}
+use Rattle.prelude.proofs.Prelude.{arith, _≡_, _+_, sym, getD}
 use Rattle.framing.proofs.Laws.{framed-head}
 use Rattle.trace.proofs.{Laying.rooms-as, Laying.puts-as, put_message.Statement.statement}
 use Rattle.messages.proofs.Walk.{message-is, message-fits}
@@ -36,4 +36,4 @@ returns c =
 
 pub put-message-spec : {M : Type 1} → statement M
 put-message-spec =
-    tie.close (tie.spec (λ c κs. c .before .before .before .pre .0) (search needs) read-wide (search needs) (search needs) put-all-requires (search needs) (search needs) returns)
+    tie.close (tie.spec (λ c κs. c .before .before .before .pre .0) (omega arith) read-wide (omega arith) (omega arith) put-all-requires (omega arith) (omega arith) returns)

@@ -1,4 +1,4 @@
-use Rattle.prelude.proofs.Prelude.{needs, _∙_, sym, eq-eqb, ne-eqb}
+use Rattle.prelude.proofs.Prelude.{arith, eq-eqb, ne-eqb}
 use Rattle.trace.proofs.{Laying.puts-none, put_next.Statement.statement}
 use Rattle.trace.proofs.put_next.Tie as tie
 
@@ -20,4 +20,4 @@ returns-2 c =
     rw (← i .before .reference-of .ensures, eq-eqb _ _ (i .if1 .left)) (p .put-message .ensures)
 
 pub put-next-spec : {M : Type 1} → statement M
-put-next-spec = tie.close (tie.spec (λ c κs. c .before .before .before .pre .0) returns put-message-requires (search needs) (search needs) returns-2)
+put-next-spec = tie.close (tie.spec (λ c κs. c .before .before .before .pre .0) returns put-message-requires (omega arith) (omega arith) returns-2)

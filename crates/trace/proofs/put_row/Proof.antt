@@ -1,6 +1,4 @@
-use Rattle.prelude.proofs.Prelude.{needs, arith, length-set, ap, _≡_, ℕ, List, sym}
-use Rattle.coding.specs.Written.{Wrote}
-use Rattle.events.specs.Laid.{laidRow}
+use Rattle.prelude.proofs.Prelude.{needs, arith, length-set}
 use Rattle.trace.proofs.{Laying.wrote-6, put_row.Statement.statement}
 use Rattle.trace.proofs.put_row.Tie as tie
 
@@ -13,10 +11,10 @@ returns c =
 pub put-row-spec : {M : Type 1} → statement M
 put-row-spec =
     tie.close
-    (tie.spec (search needs) (search needs) (search needs) (search needs)
-    (search needs) (search needs) (λ c. simp length-set (omega arith))
-    (search needs) (search needs) (λ c. simp length-set (omega arith))
-    (search needs) (search needs) (λ c. simp length-set (omega arith))
-    (search needs) (search needs) (λ c. simp length-set (omega arith))
-    (search needs) (search needs) (λ c. simp length-set (omega arith))
-    (search needs) (search needs) returns)
+    (tie.spec (omega arith) (omega arith) (omega arith) (omega arith)
+    (omega arith) (omega arith) (λ c. simp length-set (omega arith))
+    (omega arith) (omega arith) (λ c. simp length-set (omega arith))
+    (omega arith) (omega arith) (λ c. simp length-set (omega arith))
+    (omega arith) (omega arith) (λ c. simp length-set (omega arith))
+    (omega arith) (omega arith) (λ c. simp length-set (omega arith))
+    (omega arith) (search needs) returns)

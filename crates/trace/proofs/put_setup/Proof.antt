@@ -1,4 +1,4 @@
-use Rattle.prelude.proofs.Prelude.{needs, _≡_, sym, not-true, not-false, ap}
+use Rattle.prelude.proofs.Prelude.{arith, not-true, not-false}
 use Rattle.trace.proofs.{Laying.puts-none, Laying.bare-room, put_setup.Statement.statement}
 use Rattle.trace.proofs.put_setup.Tie as tie
 
@@ -20,4 +20,4 @@ returns-2 c =
     λ out. rw (not-false (x .given) (e .before .if1 .left)) (rw (e .setup-of .ensures) at (p .put-bare .ensures out))
 
 pub put-setup-spec : {M : Type 1} → statement M
-put-setup-spec = tie.close (tie.spec returns (λ c κs. let s = c .before .before .before in (s .pre .0, s .pre .1)) put-bare-requires (search needs) returns-2)
+put-setup-spec = tie.close (tie.spec returns (λ c κs. let s = c .before .before .before in (s .pre .0, s .pre .1)) put-bare-requires (omega arith) returns-2)

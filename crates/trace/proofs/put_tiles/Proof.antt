@@ -1,8 +1,8 @@
-use Rattle.prelude.proofs.Prelude.{needs, ℕ, List, [], _∷_, _++_, _≤_, _<_, _-_, _+_, _≡_, refl, sym, _∙_, ap, arith, length, getD}
+use Rattle.prelude.proofs.Prelude.{_≤_, _-_, sym, ap, arith, length}
 use Rattle.coding.{specs.Reader.part, proofs.Parts.part-length}
-use Rattle.facility.specs.{declared.Starts.Starts, Cut.partsOf, Element.elementOf}
+use Rattle.facility.specs.{Cut.partsOf}
 use Rattle.pass.proofs.Order.{Rises}
-use Rattle.messages.specs.Trace.{componentsIn, componentEvent, componentEvents}
+use Rattle.messages.specs.Trace.{componentsIn, componentEvents}
 use Rattle.trace.specs.Putting.{Progress}
 use Rattle.trace.proofs.Laying.{puts-none, puts-as, rooms-head, rooms-as, progress-starts, progress-as, progress-more, progress-ends}
 use Rattle.messages.proofs.Walk.{parts-none, parts-all, tile-rises, tile-more, rises-on, tile-over, starts-long}
@@ -119,12 +119,12 @@ put-tiles-spec =
     (tie.spec
     Inv-loop
     μ-loop
-    (search needs)
+    (omega arith)
     returns
-    (search needs)
+    (omega arith)
     loop-holds
     (λ c. omega (arith, c .before .loop .inv .1, c .loop-test .taken))
-    (search needs)
+    (omega arith)
     (λ c κs. (c .before .loop-test .taken, c .before .before .loop .inv .1))
     sub-put-component
     part-start

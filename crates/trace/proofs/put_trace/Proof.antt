@@ -1,4 +1,4 @@
-use Rattle.prelude.proofs.Prelude.{needs, arith, _≡_, _≤_, _<_, _-_, _+_, _/_, length, true, false, refl, sym, _∙_, ap}
+use Rattle.prelude.proofs.Prelude.{arith, _≡_, _-_, _/_, length, true, false, refl}
 use Rattle.framing.specs.Framing.{Passing, messagesFrom, messagesOf}
 use Rattle.messages.specs.Trace.{allFramed, traceFrom}
 use Rattle.trace.specs.Putting.{Progress}
@@ -126,6 +126,6 @@ returns c =
 pub put-trace-spec : {M : Type 1} → statement M
 put-trace-spec =
     tie.close
-    (tie.spec Inv-loop μ-loop loop-holds (search needs) (search needs) (omega arith) (search needs) add-end (search needs) (search needs) (search needs) (omega arith)
+    (tie.spec Inv-loop μ-loop loop-holds (omega arith) (omega arith) (omega arith) (omega arith) add-end (omega arith) (omega arith) (omega arith) (omega arith)
     (omega arith) (omega arith) part-end put-next-requires (omega arith) (omega arith) part-end-2 cleared-by-requires (omega arith) (omega arith) loop-again
     (λ c. c .before .loop .inv .2 .laid .in-rows .kept) (λ c. c .before .loop .inv .2 .laid .in-out .kept) returns)

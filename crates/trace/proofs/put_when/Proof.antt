@@ -1,6 +1,5 @@
-use Rattle.prelude.proofs.Prelude.{needs, _≡_, sym, not-true, not-false, ap}
-use Rattle.messages.specs.Trace.{when, phaseEvent}
-use Rattle.trace.proofs.{Laying.puts-none, Laying.puts-as, Laying.bare-room, put_when.Statement.statement}
+use Rattle.prelude.proofs.Prelude.{arith, not-true, not-false}
+use Rattle.trace.proofs.{Laying.puts-none, Laying.bare-room, put_when.Statement.statement}
 use Rattle.trace.proofs.put_when.Tie as tie
 
 returns : tie.Need-returns
@@ -20,4 +19,4 @@ returns-2 c =
     λ out. rw (not-false (x .given) (e .before .if1 .left)) (rw (e .empty .ensures .0) at (p .put-bare .ensures out))
 
 pub put-when-spec : {M : Type 1} → statement M
-put-when-spec = tie.close (tie.spec returns (search needs) put-bare-requires (search needs) returns-2)
+put-when-spec = tie.close (tie.spec returns (omega arith) put-bare-requires (omega arith) returns-2)

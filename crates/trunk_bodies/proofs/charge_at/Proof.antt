@@ -1,5 +1,5 @@
 -- By the form, and by the next tag.
-use Rattle.prelude.proofs.Prelude.{needs, eq-eqb, ne-eqb}
+use Rattle.prelude.proofs.Prelude.{arith, needs, eq-eqb, ne-eqb}
 use Rattle.coding.{specs.Codec.sort, proofs.Reading.picks, proofs.Reading.skips}
 use Rattle.read_lists.proofs.Stores.{plain-stored}
 use Rattle.trunk_bodies.specs.Bodied.{chargeFor}
@@ -17,7 +17,7 @@ charge-at-spec =
     (λ c.
     let t = c .before .before in
     let one = t .before in
-    rw (ne-eqb _ _ (one .if1 .left), eq-eqb _ _ (t .if2 .taken)) (plain-stored _ _ _ (one .before .before .pre .1) (c .interim-at .ensures))) (search needs) (λ c κs. search needs)
+    rw (ne-eqb _ _ (one .if1 .left), eq-eqb _ _ (t .if2 .taken)) (plain-stored _ _ _ (one .before .before .pre .1) (c .interim-at .ensures))) (omega arith) (λ c κs. search needs)
     (λ c.
     let t = c .before .before in
     let g = t .before in

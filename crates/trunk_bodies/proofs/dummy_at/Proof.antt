@@ -1,5 +1,5 @@
 -- By the next tag.
-use Rattle.prelude.proofs.Prelude.{needs}
+use Rattle.prelude.proofs.Prelude.{arith, needs}
 use Rattle.coding.{specs.Codec.sort, specs.Codec.canonical, specs.Codec.over, proofs.Reading.picks, proofs.Reading.skips}
 use Rattle.trunks.specs.{Extensions.noExtension, Bodies.noBody, Bodies.extending, Bodies.dummy}
 use Rattle.trunk_bodies.proofs.{Stores.nothing-there, Stores.inner-on, dummy_at.Statement.statement}
@@ -9,7 +9,7 @@ pub dummy-at-spec : {M : Type 1} → statement M
 unfolding dummy sort canonical over
 dummy-at-spec =
     tie.close
-    (tie.spec (search needs) (search needs)
+    (tie.spec (omega arith) (omega arith)
     (λ c.
     let t = c .before in
     let g = t .before in

@@ -11,4 +11,4 @@ returns c =
 
 pub priced-size-spec : {M : Type 1} → statement M
 priced-size-spec =
-    tie.close (tie.spec (λ c κs. search needs) (search needs) (search needs) (search needs) (search needs) returns)
+    tie.close (tie.spec (λ c κs. search needs) (omega arith) (omega arith) (omega arith) (omega arith) returns)

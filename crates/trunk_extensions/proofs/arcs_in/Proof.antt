@@ -1,5 +1,5 @@
 -- The loop's invariant: what is left decides, by whether a number is to begin.
-use Rattle.prelude.proofs.Prelude.{_-_, _≤_, _≡_, refl, sym, _∙_, arith, needs, true}
+use Rattle.prelude.proofs.Prelude.{_-_, _≤_, _≡_, refl, sym, _∙_, arith, true}
 use Rattle.coding.specs.Reader.{part}
 use Rattle.trunks.specs.Extensions.{arcs}
 use Rattle.trunk_extensions.proofs.{Arcs.arcs-stop, Arcs.arcs-step, Arcs.arcs-end, arcs_in.Statement.statement}
@@ -14,13 +14,13 @@ abbrev μ-loop : tie.MeasureT-loop
 pub arcs-in-spec : {M : Type 1} → statement M
 arcs-in-spec =
     tie.close
-    (tie.spec Inv-loop μ-loop (λ c. (omega arith, omega arith, refl)) (search needs) (search needs)
+    (tie.spec Inv-loop μ-loop (λ c. (omega arith, omega arith, refl)) (omega arith) (omega arith)
     (λ c.
     let e = c .before .before in
     let w = e .before .before in
     let l = w .loop in
     let a = w .before .before .args in
-    sym (l .inv .2 ∙ arcs-stop (a .s .now) (l .fresh) (l .i) (a .stop) (omega arith) (omega arith) (c .before .begins-badly .ensures) (c .if1 .taken))) (search needs) (search needs)
+    sym (l .inv .2 ∙ arcs-stop (a .s .now) (l .fresh) (l .i) (a .stop) (omega arith) (omega arith) (c .before .begins-badly .ensures) (c .if1 .taken))) (omega arith) (omega arith)
     (λ c.
     let e = c .before .before in
     let w = e .before .before in

@@ -9,9 +9,9 @@ pub extension-at-spec : {M : Type 1} → statement M
 unfolding part
 extension-at-spec =
     tie.close
-    (tie.spec (search needs) (search needs)
+    (tie.spec (omega arith) (omega arith)
     (λ c. let o = c .before .before .before in rw extension-read (refused _ _ (c .halted .ensures) (c .before .if1 .taken) (stay _ _ _ _ (o .open-at .ensures .0) (c .before .if1 .taken))))
-    (search needs) (search needs) (search needs) (λ c κs. search needs) (search needs) (search needs)
+    (omega arith) (omega arith) (omega arith) (λ c κs. search needs) (omega arith) (omega arith)
     (λ c.
     let t = c .before .before in
     let j = t .before .before in
@@ -26,7 +26,7 @@ extension-at-spec =
     let i = o .open-at .ensures .1 in
     let a = o .before .before in
     let l = part-length (a .args .s .now) (o .open-at .result .value .start) (o .open-at .result .value .stop) (omega (arith, i .1, a .pre .0)) in
-    ((i .0, omega (arith, i .1, a .pre .0), omega (arith, l, j .judged .ensures .1 .1 (c .before .if2 .left))), a .pre .1)) (search needs)
+    ((i .0, omega (arith, i .1, a .pre .0), omega (arith, l, j .judged .ensures .1 .1 (c .before .if2 .left))), a .pre .1)) (omega arith)
     (λ c.
     let l = c .before .before .before in
     let j = l .before .before in

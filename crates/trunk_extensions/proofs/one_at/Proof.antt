@@ -1,5 +1,5 @@
 -- Each return by the answers that led to it.
-use Rattle.prelude.proofs.Prelude.{needs}
+use Rattle.prelude.proofs.Prelude.{arith}
 use Rattle.coding.proofs.Reading.{reading}
 use Rattle.trunks.specs.Extensions.{inOne}
 use Rattle.trunk_extensions.proofs.one_at.Statement.{statement}
@@ -7,4 +7,4 @@ use Rattle.trunk_extensions.proofs.one_at.Tie as tie
 
 pub one-at-spec : {M : Type 1} → statement M
 unfolding inOne
-one-at-spec = tie.close (tie.spec (search needs) (search needs) (λ c. rw (c .halted .ensures) (search reading)) (search needs) (λ c. search reading))
+one-at-spec = tie.close (tie.spec (omega arith) (omega arith) (λ c. rw (c .halted .ensures) (search reading)) (omega arith) (λ c. search reading))

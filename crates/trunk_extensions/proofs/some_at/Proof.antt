@@ -1,5 +1,5 @@
 -- By the next tag.
-use Rattle.prelude.proofs.Prelude.{needs}
+use Rattle.prelude.proofs.Prelude.{arith, needs}
 use Rattle.coding.{specs.Codec.sort, proofs.Reading.picks, proofs.Reading.skips}
 use Rattle.trunks.specs.Extensions.{someExtension}
 use Rattle.trunk_extensions.proofs.some_at.Statement.{statement}
@@ -9,4 +9,4 @@ pub some-at-spec : {M : Type 1} → statement M
 unfolding someExtension sort
 some-at-spec =
     tie.close
-    (tie.spec (search needs) (λ c κs. search needs) (λ c. search (picks, skips)) (λ c κs. search needs) (λ c. search (picks, skips)))
+    (tie.spec (omega arith) (λ c κs. search needs) (λ c. search (picks, skips)) (λ c κs. search needs) (λ c. search (picks, skips)))

@@ -1,5 +1,5 @@
 -- By the next tag.
-use Rattle.prelude.proofs.Prelude.{needs, refl}
+use Rattle.prelude.proofs.Prelude.{arith, needs, refl}
 use Rattle.coding.{specs.Reader.after, specs.Codec.sort, specs.Codec.canonical, specs.Codec.over, specs.Codec.nothing, proofs.Reading.picks, proofs.Reading.skips, proofs.Reading.gives}
 use Rattle.types.specs.Charges.{unassociated}
 use Rattle.trunks.specs.Bodies.{address}
@@ -11,7 +11,7 @@ pub address-at-spec : {M : Type 1} → statement M
 unfolding address sort unassociated canonical over nothing after
 address-at-spec =
     tie.close
-    (tie.spec (search needs) (λ c κs. search needs) (λ c. (search (picks, skips), search)) (search needs)
+    (tie.spec (omega arith) (λ c κs. search needs) (λ c. (search (picks, skips), search)) (omega arith)
     (λ c.
     let g = c .before .before in
     let a = g .before .before in

@@ -1,5 +1,5 @@
 -- Each return by the answers that led to it.
-use Rattle.prelude.proofs.Prelude.{needs}
+use Rattle.prelude.proofs.Prelude.{arith}
 use Rattle.coding.{specs.Codec.canonical, specs.Codec.over, proofs.Reading.reading, proofs.Reading.step, proofs.Reading.gives}
 use Rattle.trunks.specs.Bodies.{detail}
 use Rattle.read_figures.proofs.Answers.{storing, arrived}
@@ -10,8 +10,8 @@ pub detail-at-spec : {M : Type 1} → statement M
 unfolding detail canonical over
 detail-at-spec =
     tie.close
-    (tie.spec (search needs) (search needs)
-    (λ c. let n = c .before .before .before in (search (storing, reading), zero-spare (n .before .before .pre .1))) (search needs) (search needs) (search needs)
+    (tie.spec (omega arith) (omega arith)
+    (λ c. let n = c .before .before .before in (search (storing, reading), zero-spare (n .before .before .pre .1))) (omega arith) (omega arith) (omega arith)
     (λ c.
     let e = c .before .before in
     let n = e .before .before in

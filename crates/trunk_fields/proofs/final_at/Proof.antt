@@ -1,5 +1,5 @@
 -- Each return by the answers that led to it.
-use Rattle.prelude.proofs.Prelude.{needs, true, _≡_, refl, _∙_, replicate}
+use Rattle.prelude.proofs.Prelude.{arith, needs, true, _≡_, refl, _∙_, replicate}
 use Rattle.coding.{specs.Reader.after, specs.Reader.Ans.got, specs.Shown.shown, proofs.Reading.reading, proofs.Reading.gives}
 use Rattle.types.specs.{Charges.association, Arguments.plain, Arguments.noCharge, Arguments.associated, Arguments.withAssociation, Stored.figureIn}
 use Rattle.read_figures.proofs.Answers.{storing, goes}
@@ -20,11 +20,11 @@ followed c = rw final-read (search (goes, refl) depth 8)
 pub final-at-spec : {M : Type 1} → statement M
 final-at-spec =
     tie.close
-    (tie.spec (λ c κs. search needs) (search needs) (λ c. rw final-read (search (storing, reading)))
+    (tie.spec (λ c κs. search needs) (omega arith) (λ c. rw final-read (search (storing, reading)))
     (λ c κs.
     let f = c .before .before .before in
-    (f .before .before .before .pre .0, f .figure-at .ensures .1)) (search needs)
-    (λ c. let a = c .before .before .before in search (storing, reading) ∙ followed (a .before .before)) (search needs)
+    (f .before .before .before .pre .0, f .figure-at .ensures .1)) (omega arith)
+    (λ c. let a = c .before .before .before in search (storing, reading) ∙ followed (a .before .before)) (omega arith)
     (λ c.
     let a = c .before .before .before in
     association-stored _ (replicate 32 0) (replicate 192 0) (c .reached .ensures) _ (a .association-at .ensures .1)

@@ -1,5 +1,5 @@
 -- The front holds the modes read so far, and there are at most 7.
-use Rattle.prelude.proofs.Prelude.{_-_, needs}
+use Rattle.prelude.proofs.Prelude.{_-_, arith}
 use Rattle.trunk_fields.proofs.{Asked.Asked, Asked.asked-none, Asked.asked-start, Asked.asked-more, Asked.asked-spare, Asked.done-spare, Asked.asked-done, Asked.asked-fault, Asked.asked-limit}
 use Rattle.trunk_fields.proofs.{Asked.asked-strange, Stores.zero-spare, modes_in.Statement.statement}
 use Rattle.trunk_fields.proofs.modes_in.Tie as tie
@@ -13,21 +13,21 @@ abbrev μ-loop : tie.MeasureT-loop
 pub modes-in-spec : {M : Type 1} → statement M
 modes-in-spec =
     tie.close
-    (tie.spec Inv-loop μ-loop (search needs)
+    (tie.spec Inv-loop μ-loop (omega arith)
     (λ c. let t = c .before in let z = t .before .before .pre .1 in (asked-none _ _ _ z (c .reached .ensures) (t .if1 .taken), zero-spare z))
-    (λ c. asked-start _ _ _ (c .before .before .pre .1) (c .if1 .left)) (search needs)
-    (search needs)
+    (λ c. asked-start _ _ _ (c .before .before .pre .1) (c .if1 .left)) (omega arith)
+    (omega arith)
     (λ c.
     let t = c .before .before .before in
     let l = t .before .before .loop in
-    (search asked-limit, asked-spare _ _ _ (l .inv))) (search needs)
+    (search asked-limit, asked-spare _ _ _ (l .inv))) (omega arith)
     (λ c.
     let t = c .before .before .before in
     let l = t .before .before .loop in
-    (search asked-strange, asked-spare _ _ _ (l .inv))) (search needs) (search needs)
+    (search asked-strange, asked-spare _ _ _ (l .inv))) (omega arith) (omega arith)
     (λ c.
     let n = c .before .before .before in
     let l = n .before .before .before .loop in
-    (search asked-fault, asked-spare _ _ _ (l .inv))) (search needs) (search needs) (search needs) (search needs) (search needs)
-    (λ c. search asked-more) (search needs) (search needs) (search needs)
+    (search asked-fault, asked-spare _ _ _ (l .inv))) (omega arith) (omega arith) (omega arith) (omega arith) (omega arith)
+    (λ c. search asked-more) (omega arith) (omega arith) (omega arith)
     (λ c. (search asked-done, search done-spare)))

@@ -1,5 +1,5 @@
 -- Each return by the answers that led to it.
-use Rattle.prelude.proofs.Prelude.{needs}
+use Rattle.prelude.proofs.Prelude.{arith}
 use Rattle.coding.proofs.Reading.{stay, step, gives}
 use Rattle.read_figures.proofs.Answers.{refused, goes}
 use Rattle.trunk_fields.proofs.{Stores.zero-clear, Stores.zero-spare, Stores.user-spare, Stores.entities-spare, Stores.network-read, Stores.network-arrived, network_at.Statement.statement}
@@ -8,17 +8,17 @@ use Rattle.trunk_fields.proofs.network_at.Tie as tie
 pub network-at-spec : {M : Type 1} → statement M
 network-at-spec =
     tie.close
-    (tie.spec (search needs) (search needs)
+    (tie.spec (omega arith) (omega arith)
     (λ c.
     let n = c .before .before .before in (
       rw network-read (refused _ _ (c .halted .ensures) (c .before .if1 .taken) (stay _ _ _ _ (n .natural-at .ensures .0) (c .before .if1 .taken))),
       zero-spare (n .before .before .pre .1 .0),
-    )) (search needs)
+    )) (omega arith)
     (λ c κs.
     let e = c .before .before in
     let n = e .before .before in
     let p = n .before .before .pre in
-    (p .0, zero-clear _ (p .1 .0))) (search needs)
+    (p .0, zero-clear _ (p .1 .0))) (omega arith)
     (λ c.
     let u = c .before .before .before in
     let e = u .before .before .before in
@@ -26,7 +26,7 @@ network-at-spec =
       rw network-read (refused _ _ (c .halted2 .ensures) (c .before .if2 .taken)
           (step _ _ _ _ (n .natural-at .ensures .0) (e .if1 .left) (stay _ _ _ _ (u .address-at .ensures .0) (c .before .if2 .taken)))),
       user-spare _ (u .address-at .last .1 .1 .1 .1 .0) (n .before .before .pre .1 .0) (u .address-at .ensures .1),
-    )) (search needs) (search needs)
+    )) (omega arith) (omega arith)
     (λ c.
     let m = c .before .before .before in
     let f = m .before in
@@ -37,7 +37,7 @@ network-at-spec =
           (step _ _ _ _ (n .natural-at .ensures .0) (e .if1 .left) (goes _ _ _ _ _ (u .address-at .ensures .0) (f .if2 .left)
           (stay _ _ _ _ (m .natural-at2 .ensures .0) (c .before .if3 .taken))))),
       user-spare _ (u .address-at .last .1 .1 .1 .1 .0) (n .before .before .pre .1 .0) (u .address-at .ensures .1),
-    )) (search needs)
+    )) (omega arith)
     (λ c κs.
     let h = c .before .before in
     let m = h .before .before in
@@ -45,7 +45,7 @@ network-at-spec =
     let e = u .before .before .before in
     let n = e .before .before in
     let p = n .before .before .pre in
-    (p .0, zero-clear _ (p .1 .1))) (search needs)
+    (p .0, zero-clear _ (p .1 .1))) (omega arith)
     (λ c.
     let a = c .before .before .before in
     let h = a .before .before .before in
@@ -58,7 +58,7 @@ network-at-spec =
           (step _ _ _ _ (n .natural-at .ensures .0) (e .if1 .left) (goes _ _ _ _ _ (u .address-at .ensures .0) (f .if2 .left)
           (step _ _ _ _ (m .natural-at2 .ensures .0) (h .if3 .left) (stay _ _ _ _ (a .address-at2 .ensures .0) (c .before .if4 .taken)))))),
       user-spare _ (u .address-at .last .1 .1 .1 .1 .0) (n .before .before .pre .1 .0) (u .address-at .ensures .1),
-    )) (search needs) (search needs) (search needs)
+    )) (omega arith) (omega arith) (omega arith)
     (λ c.
     let l = c .before in
     let a = l .before .before in

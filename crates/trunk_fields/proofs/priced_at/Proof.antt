@@ -28,27 +28,27 @@ amount c = (rw priced-read (search (goes, step, refl) depth 8), search, omega ar
 pub priced-at-spec : {M : Type 1} → statement M
 priced-at-spec =
     tie.close
-    (tie.spec (search needs) (search needs) (λ c. (rw priced-read (search (storing, reading)), search zero-clear)) (search needs) (search needs)
-    (λ c. (rw priced-read (search (storing, reading)), search zero-clear)) (λ c κs. search needs) (search needs)
-    (λ c. (rw priced-read (search (storing, reading) depth 8), search money-unassociated)) (search needs)
+    (tie.spec (omega arith) (omega arith) (λ c. (rw priced-read (search (storing, reading)), search zero-clear)) (omega arith) (omega arith)
+    (λ c. (rw priced-read (search (storing, reading)), search zero-clear)) (λ c κs. search needs) (omega arith)
+    (λ c. (rw priced-read (search (storing, reading) depth 8), search money-unassociated)) (omega arith)
     (λ c.
     let k = c .before .before .before in
     let m = amount (k .before) in
     (search (storing, inner) ∙ m .0, money-unassociated _ (m .1)))
-    (λ c κs. let k = c .before .before .before in let m = amount k in (m .2, m .3)) (search needs)
+    (λ c κs. let k = c .before .before .before in let m = amount k in (m .2, m .3)) (omega arith)
     (λ c.
     let b = c .before .before .before in
     let k = b .before .before .before in
     let m = amount (k .before) in
     (search (storing, inner, reading) ∙ m .0, money-unassociated _ (m .1)))
-    (search needs)
+    (omega arith)
     (λ c.
     let l = c .before .before .before in
     let b = l .before .before .before in
     let k = b .before .before .before in
     let m = amount (k .before) in
     (search (surplus, shut-in, step, remains) depth 8 fits 4000 ∙ m .0, money-unassociated _ (m .1)))
-    (search needs) (search needs) (search needs) (search needs) (search needs) (search needs)
+    (omega arith) (omega arith) (omega arith) (omega arith) (omega arith) (omega arith)
     (λ c.
     let f = c .before .before .before in
     let l = f .before .before .before in

@@ -9,12 +9,12 @@ use Rattle.trunk_frames.proofs.error_at.Tie as tie
 pub error-at-spec : {M : Type 1} → statement M
 error-at-spec =
     tie.close
-    (tie.spec (search needs) (search needs)
+    (tie.spec (omega arith) (omega arith)
     (λ c.
     let i = c .before .before .before in (
       rw error-read (refused _ _ (c .halted .ensures) (c .before .if1 .taken) (stay _ _ _ _ (i .identifier-at .ensures .0) (c .before .if1 .taken))),
       zero-spare (i .before .before .pre .1 .0),
-    )) (search needs) (search needs)
+    )) (omega arith) (omega arith)
     (λ c.
     let v = c .before .before .before in
     let e = v .before in
@@ -24,7 +24,7 @@ error-at-spec =
       zero-spare (i .before .before .pre .1 .0),
     ))
     (λ c. let f = c .before in let b = f .before .before .value-at .ensures .1 .0 in omega (arith, b))
-    (λ c κs. search needs) (search needs)
+    (λ c κs. search needs) (omega arith)
     (λ c.
     let x = c .before .before .before in
     let m = x .before .before in
@@ -35,7 +35,7 @@ error-at-spec =
       rw error-read (refused _ _ (c .halted3 .ensures) (c .before .if3 .taken)
           (step _ _ _ _ (i .identifier-at .ensures .0) (e .if1 .left) (step _ _ _ _ (v .value-at .ensures .0) (f .if2 .left) (stay _ _ _ _ (x .failing-at .ensures) (c .before .if3 .taken))))),
       zero-spare (i .before .before .pre .1 .0),
-    )) (search needs)
+    )) (omega arith)
     (λ c κs.
     let g = c .before .before in
     let x = g .before .before in
@@ -44,7 +44,7 @@ error-at-spec =
     let v = f .before .before in
     let e = v .before in
     let i = e .before .before in
-    zero-spare (i .before .before .pre .1 .0)) (search needs)
+    zero-spare (i .before .before .pre .1 .0)) (omega arith)
     (λ c.
     let k = c .before in
     let g = k .before .before .before in

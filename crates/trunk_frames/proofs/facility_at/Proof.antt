@@ -1,5 +1,5 @@
 -- Each return by the answers that led to it.
-use Rattle.prelude.proofs.Prelude.{needs, refl}
+use Rattle.prelude.proofs.Prelude.{arith, needs, refl}
 use Rattle.coding.proofs.Reading.{gives}
 use Rattle.read_figures.proofs.Answers.{surplus, arrived}
 use Rattle.trunks.specs.Components.{inNetwork}
@@ -9,12 +9,12 @@ use Rattle.trunk_frames.proofs.facility_at.Tie as tie
 pub facility-at-spec : {M : Type 1} → statement M
 facility-at-spec =
     tie.close
-    (tie.spec (λ c κs. search needs) (search needs)
+    (tie.spec (λ c κs. search needs) (omega arith)
     (λ c.
     let t = c .before in
     let b = t .before .before in
     (rw facility-read (surplus _ _ (c .halted .ensures) refl (stay-network _ _ _ _ (b .network-at .ensures .0) (t .if1 .taken))), b .network-at .ensures .1))
-    (λ c κs. let g = c .before in g .before .before .network-at .ensures .1) (search needs)
+    (λ c κs. let g = c .before in g .before .before .network-at .ensures .1) (omega arith)
     (λ c.
     let k = c .before in
     let g = k .before .before in

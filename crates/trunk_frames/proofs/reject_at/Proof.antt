@@ -1,5 +1,5 @@
 -- Each return by the answers that led to it.
-use Rattle.prelude.proofs.Prelude.{needs}
+use Rattle.prelude.proofs.Prelude.{arith}
 use Rattle.coding.proofs.Reading.{stay, step, gives}
 use Rattle.read_figures.proofs.Answers.{refused, arrived}
 use Rattle.trunk_fields.proofs.Stores.{zero-spare}
@@ -9,12 +9,12 @@ use Rattle.trunk_frames.proofs.reject_at.Tie as tie
 pub reject-at-spec : {M : Type 1} → statement M
 reject-at-spec =
     tie.close
-    (tie.spec (search needs) (search needs)
+    (tie.spec (omega arith) (omega arith)
     (λ c.
     let i = c .before .before .before in (
       rw rejected-read (refused _ _ (c .halted .ensures) (c .before .if1 .taken) (stay _ _ _ _ (i .caller-at .ensures .0) (c .before .if1 .taken))),
       zero-spare (i .before .before .pre .1),
-    )) (search needs) (search needs)
+    )) (omega arith) (omega arith)
     (λ c.
     let p = c .before .before .before in
     let e = p .before in
@@ -22,13 +22,13 @@ reject-at-spec =
       rw rejected-read (refused _ _ (c .halted2 .ensures) (c .before .if2 .taken)
           (step _ _ _ _ (i .caller-at .ensures .0) (e .if1 .left) (stay _ _ _ _ (p .problems-at .ensures) (c .before .if2 .taken)))),
       zero-spare (i .before .before .pre .1),
-    )) (search needs)
+    )) (omega arith)
     (λ c κs.
     let g = c .before in
     let p = g .before .before in
     let e = p .before in
     let i = e .before .before in
-    rw (i .before .before .pre .1)) (search needs)
+    rw (i .before .before .pre .1)) (omega arith)
     (λ c.
     let k = c .before in
     let g = k .before .before in

@@ -1,60 +1,36 @@
-use Rattle.prelude.proofs.Prelude.{sym, ap, arith, needs, length}
-use Rattle.coding.proofs.Writing.{room-as, wrote-as}
-use Rattle.trunk_octets.proofs.{Bodies.body-extended, Bodies.body-valid, Bodies.asked-plain, Bodies.asked-valid, Bodies.asked-extension, put_body.Statement.statement}
+use Rattle.prelude.proofs.Prelude.{ap, arith, length}
+use Rattle.coding.proofs.Writing.{room-as}
+use Rattle.write_figures.proofs.Sizes.{wrote-is}
+use Rattle.trunk_octets.proofs.{Given.Parts, Bodies.body-extended, Bodies.body-valid, Bodies.asked-plain, Bodies.asked-valid, Bodies.asked-extension, put_body.Statement.statement}
 use Rattle.trunk_octets.proofs.put_body.Tie as tie
 
-put-null-requires : tie.Need-put-null-requires
-put-null-requires c κs =
-    let c3 = c .before .before .before in
-    let s = c3 .before .before in
-    let a = s .args in
-    room-as (s .pre .1 .1) (asked-plain (a .form) (a .front .now) (a .lent .now) (a .figure .now) (a .numbers .now) (a .rows .now) (c3 .if1 .taken) (c .before .if2 .taken))
-
-returns : tie.Need-returns
-returns c =
-    let c3 = c .before .before .before in
-    let c6 = c3 .before .before .before in
-    let s = c6 .before .before in
-    let a = s .args in
-    wrote-as (sym (asked-plain (a .form) (a .front .now) (a .lent .now) (a .figure .now) (a .numbers .now) (a .rows .now) (c6 .if1 .taken) (c3 .before .if2 .taken)))
-    (c .before .before .put-null .ensures)
+abbrev parts : tie.Start → Parts
+parts s = record { front = s .args .front .now; lent = s .args .lent .now; figure = s .args .figure .now; numbers = s .args .numbers .now; rows = s .args .rows .now }
 
 put-extension-requires : tie.Need-put-extension-requires
 put-extension-requires c κs =
-    let c3 = c .before .before .before in
-    let s = c3 .before .before in
-    let a = s .args in (
-      asked-valid (a .form) (a .front .now) (a .lent .now) (a .figure .now) (a .numbers .now) (a .rows .now) (c3 .if1 .taken) (c .before .if2 .left) (s .pre .0),
-      room-as (s .pre .1 .1)
-          (asked-extension (a .form) (a .front .now) (a .lent .now) (a .figure .now) (a .numbers .now) (a .rows .now) (c3 .if1 .taken) (c .before .if2 .left) (s .pre .0)),
-    )
-
-returns-2 : tie.Need-returns-2
-returns-2 c =
-    let c3 = c .before .before .before in
-    let c6 = c3 .before .before .before in
-    let s = c6 .before .before in
-    let a = s .args in
-    wrote-as (sym (asked-extension (a .form) (a .front .now) (a .lent .now) (a .figure .now) (a .numbers .now) (a .rows .now) (c6 .if1 .taken) (c3 .before .if2 .left) (s .pre .0)))
-    (c .before .before .put-extension .ensures)
-
-put-extended-requires : tie.Need-put-extended-requires
-put-extended-requires c κs =
-    let c3 = c .before .before .before in
-    let a = c3 .args in
-    let e = body-extended (a .form) (a .front .now) (a .lent .now) (a .figure .now) (a .numbers .now) (a .rows .now) (c .before .if1 .left) in (
-      body-valid (a .form) (a .front .now) (a .lent .now) (a .figure .now) (a .numbers .now) (a .rows .now) (c .before .if1 .left) (c3 .pre .0),
-      (omega (arith, ap length e, c3 .pre .1 .0), room-as (c3 .pre .1 .1) e),
-    )
-
-returns-3 : tie.Need-returns-3
-returns-3 c =
-    let c3 = c .before .before .before in
-    let c6 = c3 .before .before .before in
-    let a = c6 .args in
-    wrote-as (sym (body-extended (a .form) (a .front .now) (a .lent .now) (a .figure .now) (a .numbers .now) (a .rows .now) (c3 .before .if1 .left))) (c .before .before .put-extended .ensures)
+    let c3 = c .before .before .before in let s = c3 .before .before in
+    let t = c3 .if1 .taken in
+    let n = c .before .if2 .left in
+    (asked-valid (s .args .form) (parts s) t n (s .pre .0), room-as (s .pre .1 .1) (asked-extension (s .args .form) (parts s) t n (s .pre .0)))
 
 pub put-body-spec : {M : Type 1} → statement M
 put-body-spec =
     tie.close
-    (tie.spec (λ c. search needs) put-null-requires (λ c. search needs) returns put-extension-requires (λ c. search needs) returns-2 put-extended-requires (λ c. search needs) returns-3)
+    (tie.spec (λ c. omega arith) (λ c κs.
+    let c3 = c .before .before .before in let s = c3 .before .before in
+    room-as (s .pre .1 .1) (asked-plain (s .args .form) (parts s) (c3 .if1 .taken) (c .before .if2 .taken))) (λ c. omega arith)
+    (λ c.
+    let c3 = c .before .before .before in let c6 = c3 .before .before .before in let s = c6 .before .before in
+    wrote-is (asked-plain (s .args .form) (parts s) (c6 .if1 .taken) (c3 .before .if2 .taken)) (c .before .before .put-null .ensures))
+    put-extension-requires (λ c. omega arith)
+    (λ c.
+    let c3 = c .before .before .before in let c6 = c3 .before .before .before in let s = c6 .before .before in
+    wrote-is (asked-extension (s .args .form) (parts s) (c6 .if1 .taken) (c3 .before .if2 .left) (s .pre .0)) (c .before .before .put-extension .ensures))
+    (λ c κs.
+    let s = c .before .before .before in
+    let e = body-extended (s .args .form) (parts s) (c .before .if1 .left) in
+    (body-valid (s .args .form) (parts s) (c .before .if1 .left) (s .pre .0), (omega (arith, ap length e, s .pre .1 .0), room-as (s .pre .1 .1) e))) (λ c. omega arith)
+    (λ c.
+    let c3 = c .before .before .before in let s = c3 .before .before .before in
+    wrote-is (body-extended (s .args .form) (parts s) (c3 .before .if1 .left)) (c .before .before .put-extended .ensures)))

@@ -1,91 +1,44 @@
-use Rattle.prelude.proofs.Prelude.{arith, needs}
-use Rattle.trunks.specs.Stored.{extensionIn}
+use Rattle.prelude.proofs.Prelude.{arith}
 use Rattle.coding.proofs.Writing.{room-as, room-head}
 use Rattle.write_figures.proofs.Sizes.{room-2, room-3, wrote-three}
-use Rattle.trunk_octets.proofs.{Extensions.extension-counted, Extensions.extension-length, Bodies.extended-valid, Bodies.extended-length, Bodies.extended-octets}
-use Rattle.trunk_octets.proofs.{put_extended.Statement.statement}
+use Rattle.trunk_octets.proofs.{Given.Parts, Bodies.extended-valid, Bodies.extended-counted, Bodies.extended-length, Bodies.extended-octets, put_extended.Statement.statement}
 use Rattle.trunk_octets.proofs.put_extended.Tie as tie
 
-inner-size-requires : tie.Need-inner-size-requires
-inner-size-requires c κs =
-    let s = c .before in
-    let a = s .args in
-    let v = extended-valid (a .form) (a .front .now) (a .lent .now) (a .figure .now) (a .numbers .now) (a .rows .now) (s .pre .0) in
-    v .0
-
-extension-size-requires : tie.Need-extension-size-requires
-extension-size-requires c κs =
-    let s = c .before .before in
-    let a = s .args in
-    let v = extended-valid (a .form) (a .front .now) (a .lent .now) (a .figure .now) (a .numbers .now) (a .rows .now) (s .pre .0) in
-    extension-counted (extensionIn (a .lent .now)) (v .1)
-
-add-put-lead : tie.Need-add-put-lead
-add-put-lead c = omega (arith, c .before .before .inner-size .ensures .1, c .before .extension-size .ensures .1)
+abbrev parts : tie.Start → Parts
+parts s = record { front = s .args .front .now; lent = s .args .lent .now; figure = s .args .figure .now; numbers = s .args .numbers .now; rows = s .args .rows .now }
 
 put-lead-requires : tie.Need-put-lead-requires
 put-lead-requires c κs =
-    let c3 = c .before .before .before in
-    let s = c3 .before in
-    let a = s .args in
-    let v = extended-valid (a .form) (a .front .now) (a .lent .now) (a .figure .now) (a .numbers .now) (a .rows .now) (s .pre .0) in
-    let x = extension-length (extensionIn (a .lent .now)) (c .before .extension-size .ensures .0) (v .1) in
-    let o = extended-octets (a .form) (a .front .now) (a .lent .now) (a .figure .now) (a .numbers .now) (a .rows .now) (c .before .before .inner-size .ensures .0) x in (
-      omega (
-        arith,
-        extended-length (a .form) (a .front .now) (a .lent .now) (a .figure .now) (a .numbers .now) (a .rows .now) (c .before .before .inner-size .ensures .0) x,
-        s .pre .1 .0,
-      ),
-      room-head _ (room-as (s .pre .1 .1) o),
-    )
+    let c3 = c .before .before .before in let s = c3 .before in
+    let n = c .before .before .inner-size .ensures .0 in
+    let x = c .before .extension-size .ensures .0 in
+    let l = extended-length (s .args .form) (parts s) (s .pre .0) n x in
+    (omega (arith, l, s .pre .1 .0), room-head _ (room-as (s .pre .1 .1) (extended-octets (s .args .form) (parts s) (s .pre .0) n x)))
 
 put-inner-requires : tie.Need-put-inner-requires
 put-inner-requires c κs =
-    let c3 = c .before .before .before in
-    let c6 = c3 .before .before .before in
-    let s = c6 .before .before in
-    let a = s .args in
-    let v = extended-valid (a .form) (a .front .now) (a .lent .now) (a .figure .now) (a .numbers .now) (a .rows .now) (s .pre .0) in
-    let x = extension-length (extensionIn (a .lent .now)) (c3 .before .before .extension-size .ensures .0) (v .1) in
-    let o = extended-octets (a .form) (a .front .now) (a .lent .now) (a .figure .now) (a .numbers .now) (a .rows .now) (c6 .inner-size .ensures .0) x in (
-      v .0,
-      (
-        omega (
-          arith,
-          extended-length (a .form) (a .front .now) (a .lent .now) (a .figure .now) (a .numbers .now) (a .rows .now) (c6 .inner-size .ensures .0) x,
-          s .pre .1 .0,
-          c6 .inner-size .ensures .0,
-        ),
-        room-head _ (room-2 o (s .pre .1 .1) (c3 .put-lead .ensures)),
-      ),
-    )
+    let c3 = c .before .before .before in let x = c3 .before .before in let s = x .before .before .before in
+    let n = x .before .inner-size .ensures .0 in
+    let l = extended-length (s .args .form) (parts s) (s .pre .0) n (x .extension-size .ensures .0) in
+    let o = extended-octets (s .args .form) (parts s) (s .pre .0) n (x .extension-size .ensures .0) in
+    (extended-valid (s .args .form) (parts s) (s .pre .0) .0, (omega (arith, l, s .pre .1 .0, n), room-head _ (room-2 o (s .pre .1 .1) (c3 .put-lead .ensures))))
 
 put-extension-requires : tie.Need-put-extension-requires
 put-extension-requires c κs =
-    let c3 = c .before .before .before in
-    let c6 = c3 .before .before .before in
-    let c9 = c6 .before .before .before in
-    let c12 = c9 .before .before .before in
-    let a = c12 .args in
-    let v = extended-valid (a .form) (a .front .now) (a .lent .now) (a .figure .now) (a .numbers .now) (a .rows .now) (c12 .pre .0) in
-    let x = extension-length (extensionIn (a .lent .now)) (c9 .extension-size .ensures .0) (v .1) in
-    let o = extended-octets (a .form) (a .front .now) (a .lent .now) (a .figure .now) (a .numbers .now) (a .rows .now) (c9 .before .inner-size .ensures .0) x in
-    (v .1, room-3 o (c12 .pre .1 .1) (c6 .before .put-lead .ensures) (c3 .put-inner .ensures))
+    let c3 = c .before .before .before in let c6 = c3 .before .before .before in let l = c6 .before in let x = l .before .before in let s = x .before .before .before in
+    let o = extended-octets (s .args .form) (parts s) (s .pre .0) (x .before .inner-size .ensures .0) (x .extension-size .ensures .0) in
+    (extended-valid (s .args .form) (parts s) (s .pre .0) .1, room-3 o (s .pre .1 .1) (l .put-lead .ensures) (c3 .put-inner .ensures))
 
 returns : tie.Need-returns
 returns c =
-    let c3 = c .before .before .before in
-    let c6 = c3 .before .before .before in
-    let c9 = c6 .before .before .before in
-    let c12 = c9 .before .before .before in
-    let c15 = c12 .before .before .before in
-    let a = c15 .args in
-    let v = extended-valid (a .form) (a .front .now) (a .lent .now) (a .figure .now) (a .numbers .now) (a .rows .now) (c15 .pre .0) in
-    let x = extension-length (extensionIn (a .lent .now)) (c12 .extension-size .ensures .0) (v .1) in
-    let o = extended-octets (a .form) (a .front .now) (a .lent .now) (a .figure .now) (a .numbers .now) (a .rows .now) (c12 .before .inner-size .ensures .0) x in
-    wrote-three o (c9 .before .put-lead .ensures) (c6 .put-inner .ensures) (c .before .before .put-extension .ensures)
+    let c3 = c .before .before .before in let i = c3 .before .before .before in let c9 = i .before .before .before in let l = c9 .before in let x = l .before .before in
+    let s = x .before .before .before in
+    let o = extended-octets (s .args .form) (parts s) (s .pre .0) (x .before .inner-size .ensures .0) (x .extension-size .ensures .0) in
+    wrote-three o (l .put-lead .ensures) (i .put-inner .ensures) (c .before .before .put-extension .ensures)
 
 pub put-extended-spec : {M : Type 1} → statement M
 put-extended-spec =
     tie.close
-    (tie.spec inner-size-requires extension-size-requires add-put-lead put-lead-requires put-inner-requires put-extension-requires (λ c. search needs) returns)
+    (tie.spec (λ c κs. let s = c .before in extended-valid (s .args .form) (parts s) (s .pre .0) .0)
+    (λ c κs. let s = c .before .before in extended-counted (s .args .form) (parts s) (s .pre .0))
+    (λ c. omega (arith, c .before .before .inner-size .ensures .1, c .before .extension-size .ensures .1)) put-lead-requires put-inner-requires put-extension-requires (λ c. omega arith) returns)

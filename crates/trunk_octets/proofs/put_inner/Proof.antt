@@ -1,151 +1,66 @@
-use Rattle.prelude.proofs.Prelude.{_≡_, sym, ap, arith, needs, length}
-use Rattle.coding.proofs.Writing.{room-as, wrote-as}
+use Rattle.prelude.proofs.Prelude.{[], _≡_, ap, arith, length}
+use Rattle.coding.proofs.Writing.{room-as}
+use Rattle.write_figures.proofs.Sizes.{wrote-is}
 use Rattle.trunk_octets.proofs.{Sizes.asking, Sizes.inner-modes, Forms.inner-1, Forms.inner-2, Forms.low-1, Forms.low-2, Forms.inner-64, Forms.inner-65, Forms.users-64, Forms.users-65}
-use Rattle.trunk_octets.proofs.{Forms.inner-charge, Forms.charge-valid, put_inner.Statement.statement}
+use Rattle.trunk_octets.proofs.{Forms.inner-charge, Given.Parts, put_inner.Statement.statement}
 use Rattle.trunk_octets.proofs.put_inner.Tie as tie
 
-put-small-requires : tie.Need-put-small-requires
-put-small-requires c κs =
-    let c3 = c .before .before .before in
-    let c6 = c3 .before .before .before in
-    let a = c6 .args in (
-      low-1 (a .front .now) (a .figure .now) (a .numbers .now) (a .rows .now) (c .before .before .if1 .taken) (c6 .pre .0),
-      room-as (c6 .pre .1 .1) (inner-1 (a .front .now) (a .figure .now) (a .numbers .now) (a .rows .now) (c .before .before .if1 .taken)),
-    )
-
-returns : tie.Need-returns
-returns c =
-    let c3 = c .before .before .before in
-    let c6 = c3 .before .before .before in
-    let c9 = c6 .before .before .before in
-    let a = c9 .args in
-    wrote-as (sym (inner-1 (a .front .now) (a .figure .now) (a .numbers .now) (a .rows .now) (c3 .before .before .if1 .taken))) (c .before .before .put-small .ensures)
-
-put-small-requires-2 : tie.Need-put-small-requires-2
-put-small-requires-2 c κs =
-    let c3 = c .before .before .before in
-    let c6 = c3 .before .before .before in
-    let s = c6 .before in
-    let a = s .args in (
-      low-2 (a .front .now) (a .figure .now) (a .numbers .now) (a .rows .now) (c .before .before .if2 .taken) (s .pre .0),
-      room-as (s .pre .1 .1) (inner-2 (a .front .now) (a .figure .now) (a .numbers .now) (a .rows .now) (c .before .before .if2 .taken)),
-    )
-
-returns-2 : tie.Need-returns-2
-returns-2 c =
-    let c3 = c .before .before .before in
-    let c6 = c3 .before .before .before in
-    let c9 = c6 .before .before .before in
-    let s = c9 .before in
-    let a = s .args in
-    wrote-as (sym (inner-2 (a .front .now) (a .figure .now) (a .numbers .now) (a .rows .now) (c3 .before .before .if2 .taken))) (c .before .before .put-small2 .ensures)
+abbrev parts : tie.Start → Parts
+parts s = record { front = s .args .front .now; lent = []; figure = s .args .figure .now; numbers = s .args .numbers .now; rows = s .args .rows .now }
 
 put-modes-requires : tie.Need-put-modes-requires
 put-modes-requires c κs =
-    let c3 = c .before .before .before in
-    let c6 = c3 .before .before .before in
-    let s = c6 .before in
-    let a = s .args in
-    let l : length (a .front .now) ≡ 48 = search needs in let m = asking (a .front .now) (a .figure .now) (a .numbers .now) (a .rows .now) (s .pre .0) l (c .before .if3 .taken) in (
-      (
-        m .few,
-        m .fine,
-      ),
-      room-as (s .pre .1 .1) (inner-modes (a .front .now) (a .figure .now) (a .numbers .now) (a .rows .now) (s .pre .0) l (c .before .if3 .taken)),
-    )
-
-returns-3 : tie.Need-returns-3
-returns-3 c =
-    let c3 = c .before .before .before in
-    let c6 = c3 .before .before .before in
-    let c9 = c6 .before .before .before in
-    let s = c9 .before in
-    let a = s .args in
-    let l : length (a .front .now) ≡ 48 = search needs in wrote-as (sym (inner-modes (a .front .now) (a .figure .now) (a .numbers .now) (a .rows .now) (s .pre .0) l
-    (c3 .before .if3 .taken))) (c .before .before .put-modes .ensures)
-
-put-users-requires : tie.Need-put-users-requires
-put-users-requires c κs =
-    let c3 = c .before .before .before in
-    let c6 = c3 .before .before .before in
-    let s = c6 .before .before in
-    let a = s .args in (
-      users-64 (a .front .now) (a .figure .now) (a .numbers .now) (a .rows .now) (c .before .if4 .taken) (s .pre .0),
-      room-as (s .pre .1 .1) (inner-64 (a .front .now) (a .figure .now)
-          (a .numbers .now) (a .rows .now) (c .before .if4 .taken)),
-    )
-
-returns-4 : tie.Need-returns-4
-returns-4 c =
-    let c3 = c .before .before .before in
-    let c6 = c3 .before .before .before in
-    let c9 = c6 .before .before .before in
-    let s = c9 .before .before in
-    let a = s .args in
-    wrote-as (sym (inner-64 (a .front .now) (a .figure .now) (a .numbers .now) (a .rows .now) (c3 .before .if4 .taken))) (c .before .before .put-users .ensures)
-
-put-diverting-requires : tie.Need-put-diverting-requires
-put-diverting-requires c κs =
-    let c3 = c .before .before .before in
-    let c6 = c3 .before .before .before in
-    let c9 = c6 .before .before .before in
-    let a = c9 .args in
-    let u = users-65 (a .front .now) (a .figure .now) (a .numbers .now) (a .rows .now) (c .before .if5 .taken) (c9 .pre .0) in (
-      u .0,
-      (
-        u .1,
-        room-as (c9 .pre .1 .1) (inner-65 (a .front .now) (a .figure .now) (a .numbers .now) (a .rows .now) (c .before .if5 .taken)),
-      ),
-    )
-
-returns-5 : tie.Need-returns-5
-returns-5 c =
-    let c3 = c .before .before .before in
-    let c6 = c3 .before .before .before in
-    let c9 = c6 .before .before .before in
-    let c12 = c9 .before .before .before in
-    let a = c12 .args in
-    wrote-as (sym (inner-65 (a .front .now) (a .figure .now) (a .numbers .now) (a .rows .now) (c3 .before .if5 .taken))) (c .before .before .put-diverting .ensures)
+    let c3 = c .before .before .before in let c6 = c3 .before .before .before in let s = c6 .before in
+    let l : length (s .args .front .now) ≡ 48 = omega arith in
+    let m = asking (parts s) (s .pre .0) l (c .before .if3 .taken) in
+    ((m .few, m .fine), room-as (s .pre .1 .1) (inner-modes (parts s) (s .pre .0) l (c .before .if3 .taken)))
 
 put-charge-requires : tie.Need-put-charge-requires
 put-charge-requires c κs =
-    let c3 = c .before .before .before in
-    let c6 = c3 .before .before .before in
-    let c9 = c6 .before .before .before in
-    let s = c9 .before in
-    let a = s .args in
-    let e = inner-charge (a .front .now) (a .figure .now) (a .numbers .now) (a .rows .now) (c .before .figure-of .ensures) (c6 .if1 .left) (c3 .before .before .if2 .left)
-    (c3 .before .if3 .left) (c3 .if4 .left) (c .before .before .if5 .left) in (
-      (search needs),
-      (
-        charge-valid (a .front .now) (a .figure .now) (a .numbers .now) (a .rows .now) (c .before .figure-of .ensures) (c6 .if1 .left) (c3 .before .before .if2 .left)
-            (c3 .before .if3 .left) (c3 .if4 .left) (c .before .before .if5 .left) (s .pre .0),
-        (
-          omega (
-            arith,
-            ap
-                length e,
-            s .pre .1 .0,
-          ),
-          room-as (s .pre .1 .1) e,
-        ),
-      ),
-    )
+    let c3 = c .before .before .before in let t = c3 .before in let c7 = t .before .before .before in let s = c7 .before .before .before in
+    let e = inner-charge (parts s) (c .before .figure-of .ensures) (t .before .before .if1 .left) (t .before .if2 .left) (t .if3 .left)
+    (c3 .if4 .left) (c .before .before .if5 .left) in
+    (omega arith, (e .1 (s .pre .0), (omega (arith, ap length (e .0), s .pre .1 .0), room-as (s .pre .1 .1) (e .0))))
 
 returns-6 : tie.Need-returns-6
 returns-6 c =
-    let c3 = c .before .before .before in
-    let c6 = c3 .before .before .before in
-    let c9 = c6 .before .before .before in
-    let c12 = c9 .before .before .before in
-    let s = c12 .before in
-    let a = s .args in
-    wrote-as (sym (inner-charge (a .front .now) (a .figure .now) (a .numbers .now) (a .rows .now) (c3 .before .figure-of .ensures) (c9 .if1 .left) (c6 .before .before .if2 .left)
-    (c6 .before .if3 .left) (c6 .if4 .left) (c3 .before .before .if5 .left))) (c .before .before .put-charge .ensures)
+    let c3 = c .before .before .before in let c6 = c3 .before .before .before in let t = c6 .before in let c10 = t .before .before .before in
+    let s = c10 .before .before .before in
+    let e = inner-charge (parts s) (c3 .before .figure-of .ensures) (t .before .before .if1 .left) (t .before .if2 .left) (t .if3 .left)
+    (c6 .if4 .left) (c3 .before .before .if5 .left) in
+    wrote-is (e .0) (c .before .before .put-charge .ensures)
 
 pub put-inner-spec : {M : Type 1} → statement M
 put-inner-spec =
     tie.close
-    (tie.spec (λ c. search needs) put-small-requires (λ c. search needs) returns (λ c. search needs) put-small-requires-2 (λ c. search needs) returns-2 put-modes-requires (λ c. search
-    needs) returns-3 put-users-requires (λ c. search needs) returns-4 put-diverting-requires (λ c. search needs) returns-5 (λ c κs. search needs) put-charge-requires (λ c. search
-    needs) returns-6)
+    (tie.spec (λ c. omega arith) (λ c κs.
+    let c3 = c .before .before .before in let s = c3 .before .before .before in
+    (low-1 (parts s) (c .before .before .if1 .taken) (s .pre .0), room-as (s .pre .1 .1) (inner-1 (parts s) (c .before .before .if1 .taken)))) (λ c. omega arith)
+    (λ c.
+    let c3 = c .before .before .before in let c5 = c3 .before .before in let c8 = c5 .before .before .before in let s = c8 .before in
+    wrote-is (inner-1 (parts s) (c5 .if1 .taken)) (c .before .before .put-small .ensures)) (λ c. omega arith)
+    (λ c κs.
+    let c3 = c .before .before .before in let c6 = c3 .before .before .before in let s = c6 .before in
+    (low-2 (parts s) (c .before .before .if2 .taken) (s .pre .0), room-as (s .pre .1 .1) (inner-2 (parts s) (c .before .before .if2 .taken)))) (λ c. omega arith)
+    (λ c.
+    let c3 = c .before .before .before in let c5 = c3 .before .before in let c8 = c5 .before .before .before in let s = c8 .before .before in
+    wrote-is (inner-2 (parts s) (c5 .if2 .taken)) (c .before .before .put-small2 .ensures))
+    put-modes-requires (λ c. omega arith)
+    (λ c.
+    let c3 = c .before .before .before in let c6 = c3 .before .before .before in let c9 = c6 .before .before .before in let s = c9 .before in
+    let l : length (s .args .front .now) ≡ 48 = omega arith in
+    wrote-is (inner-modes (parts s) (s .pre .0) l (c3 .before .if3 .taken)) (c .before .before .put-modes .ensures))
+    (λ c κs.
+    let c3 = c .before .before .before in let c6 = c3 .before .before .before in let s = c6 .before .before in
+    (users-64 (parts s) (c .before .if4 .taken) (s .pre .0), room-as (s .pre .1 .1) (inner-64 (parts s) (c .before .if4 .taken)))) (λ c. omega arith)
+    (λ c.
+    let c3 = c .before .before .before in let c6 = c3 .before .before .before in let c9 = c6 .before .before .before in let s = c9 .before .before in
+    wrote-is (inner-64 (parts s) (c3 .before .if4 .taken)) (c .before .before .put-users .ensures))
+    (λ c κs.
+    let c3 = c .before .before .before in let c6 = c3 .before .before .before in let s = c6 .before .before .before in
+    let u = users-65 (parts s) (c .before .if5 .taken) (s .pre .0) in
+    (u .0, (u .1, room-as (s .pre .1 .1) (inner-65 (parts s) (c .before .if5 .taken))))) (λ c. omega arith)
+    (λ c.
+    let c3 = c .before .before .before in let c6 = c3 .before .before .before in let c9 = c6 .before .before .before in let s = c9 .before .before .before in
+    wrote-is (inner-65 (parts s) (c3 .before .if5 .taken)) (c .before .before .put-diverting .ensures))
+    (λ c κs. omega arith) put-charge-requires (λ c. omega arith) returns-6)

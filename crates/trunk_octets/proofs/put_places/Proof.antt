@@ -1,7 +1,8 @@
-use Rattle.prelude.proofs.Prelude.{_-_, refl, sym, arith}
-use Rattle.coding.proofs.Writing.{room-as, wrote-as}
+use Rattle.prelude.proofs.Prelude.{_-_, refl, arith}
+use Rattle.coding.proofs.Writing.{room-as}
 use Rattle.write_rates.proofs.Tables.{Putting, putting-none, putting-room, putting-more, putting-done, left-valid}
 use Rattle.trunk_octets.specs.Octets.{mode, modeAt}
+use Rattle.write_figures.proofs.Sizes.{wrote-is}
 use Rattle.trunk_octets.proofs.{Forms.mode-low, Forms.mode-write, put_places.Statement.statement}
 use Rattle.trunk_octets.proofs.put_places.Tie as tie
 
@@ -18,9 +19,8 @@ put-small-requires c κs =
 
 loop-again : tie.Need-loop-again Inv-loop μ-loop
 loop-again c =
-    let w = c .before .before in
-    let l = w .before .before .before in
-    putting-more (l .before .loop .inv) (omega arith) refl (wrote-as (sym (mode-write _)) (w .put-small .ensures))
+    let c3 = c .before .before .before in
+    putting-more (c3 .before .before .before .loop .inv) (omega arith) refl (wrote-is (mode-write _) (c .before .before .put-small .ensures))
 
 pub put-places-spec : {M : Type 1} → statement M
 put-places-spec =

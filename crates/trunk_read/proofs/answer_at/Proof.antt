@@ -1,13 +1,13 @@
 -- Each return by the answers that led to it.
 use Rattle.prelude.proofs.Prelude.{needs, refl, sym, _∙_, arith}
-use Rattle.coding.proofs.Reading.{stay, step, remains, shut}
+use Rattle.coding.proofs.Reading.{stay, step, remains}
 use Rattle.types.specs.Frames.{inArgument}
 use Rattle.read_heads.proofs.Codes.{has-below}
 use Rattle.read_figures.proofs.Answers.{refused, surplus, arrived}
 use Rattle.trunks.specs.Components.{answerable}
 use Rattle.trunk_fields.proofs.Stores.{zero-spare}
 use Rattle.trunk_frames.proofs.Marked.{stay-in, goes-under, inner-some}
-use Rattle.trunk_read.proofs.{Frames.answer-read, answer_at.Statement.statement}
+use Rattle.trunk_read.proofs.{Frames.answer-read, Frames.answer-whole, answer_at.Statement.statement}
 use Rattle.trunk_read.proofs.answer_at.Tie as tie
 
 pub answer-at-spec : {M : Type 1} → statement M
@@ -110,8 +110,8 @@ answer-at-spec =
     let x = g .before .before in
     let e = x .before in
     let i = e .before .before in (
-      rw (answer-read, k .keep-lead .ensures .0 _ _) (arrived _ _ (c .reached .ensures)
-          (step _ _ _ _ (i .identifier-at .ensures .0) (e .if1 .left) (step _ _ _ _ (x .open-at .ensures .0) (g .if2 .left) (step _ _ _ _ (o .value-at .ensures .0) (f .if3 .left)
-          (goes-under _ _ _ _ inArgument _ (b .result-at .ensures .0) (h .if4 .left) (shut _ _ _ _ _ (n .if5 .left))))))),
+      arrived _ _ (c .reached .ensures)
+          (answer-whole _ _ _ _ _ (i .identifier-at .ensures .0) (e .if1 .left) (x .open-at .ensures .0) (g .if2 .left) (o .value-at .ensures .0) (f .if3 .left)
+          (b .result-at .ensures .0) (h .if4 .left) (n .if5 .left) (k .keep-lead .ensures .0 _ _)),
       k .keep-lead .ensures .1,
     )))

@@ -1,9 +1,9 @@
 -- Each return by the answers that led to it.
 use Rattle.prelude.proofs.Prelude.{needs, refl}
-use Rattle.coding.proofs.Reading.{stay, step, remains, shut}
-use Rattle.read_figures.proofs.Answers.{refused, surplus, arrived, goes}
+use Rattle.coding.proofs.Reading.{stay, step}
+use Rattle.read_figures.proofs.Answers.{refused, surplus, arrived}
 use Rattle.trunk_fields.proofs.Stores.{zero-spare}
-use Rattle.trunk_read.proofs.{Frames.component-read, component_at.Statement.statement}
+use Rattle.trunk_read.proofs.{Frames.component-read, Frames.component-over, Frames.component-whole, component_at.Statement.statement}
 use Rattle.trunk_read.proofs.component_at.Tie as tie
 
 pub component-at-spec : {M : Type 1} → statement M
@@ -38,8 +38,7 @@ component-at-spec =
     let b = a .before .before in
     let g = b .before .before in
     let e = g .before .before in (
-      rw component-read (surplus _ _ (c .halted3 .ensures) refl (step _ _ _ _ (e .enter .ensures .0) (g .if1 .left)
-          (goes _ _ _ _ _ (f .frame-at .ensures .0) (h .if2 .left) (remains _ _ _ _ _ (c .before .if3 .taken))))),
+      surplus _ _ (c .halted3 .ensures) refl (component-over _ _ (e .enter .ensures .0) (g .if1 .left) (f .frame-at .ensures .0) (h .if2 .left) (c .before .if3 .taken)),
       f .frame-at .ensures .1,
     )) (search needs)
     (λ c.
@@ -50,7 +49,6 @@ component-at-spec =
     let b = a .before .before in
     let g = b .before .before in
     let e = g .before .before in (
-      rw component-read (arrived _ _ (c .reached .ensures) (step _ _ _ _ (e .enter .ensures .0) (g .if1 .left)
-          (goes _ _ _ _ _ (f .frame-at .ensures .0) (h .if2 .left) (shut _ _ _ _ _ (c .before .if3 .left))))),
+      arrived _ _ (c .reached .ensures) (component-whole _ _ (e .enter .ensures .0) (g .if1 .left) (f .frame-at .ensures .0) (h .if2 .left) (c .before .if3 .left)),
       f .frame-at .ensures .1,
     )))

@@ -1,13 +1,12 @@
 -- Each return by the answers that led to it.
 use Rattle.prelude.proofs.Prelude.{needs, refl, sym, _∙_, arith}
-use Rattle.coding.proofs.Reading.{stay, step, gives}
-use Rattle.types.specs.Frames.{inArgument}
+use Rattle.coding.proofs.Reading.{stay, step}
 use Rattle.read_heads.proofs.Codes.{has-below}
 use Rattle.read_figures.proofs.Answers.{refused, arrived}
 use Rattle.trunks.specs.Components.{trunkOperations}
 use Rattle.trunk_fields.proofs.Stores.{zero-spare}
-use Rattle.trunk_frames.proofs.Marked.{stay-in, goes-under, inner-some}
-use Rattle.trunk_read.proofs.{Frames.invoke-read, invoke_at.Statement.statement}
+use Rattle.trunk_frames.proofs.Marked.{stay-in, inner-some}
+use Rattle.trunk_read.proofs.{Frames.invoke-read, Frames.invoke-whole, invoke_at.Statement.statement}
 use Rattle.trunk_read.proofs.invoke_at.Tie as tie
 
 pub invoke-at-spec : {M : Type 1} → statement M
@@ -62,8 +61,7 @@ invoke-at-spec =
     let o = f .before .before in
     let e = o .before in
     let i = e .before .before in (
-      rw (invoke-read, k .keep-lead .ensures .0 _ _) (arrived _ _ (c .reached .ensures)
-          (step _ _ _ _ (i .identifier-at .ensures .0) (e .if1 .left) (step _ _ _ _ (o .value-at .ensures .0) (f .if2 .left)
-          (goes-under _ _ _ _ inArgument _ (b .argument-at .ensures .0) (g .if3 .left) (gives _ _ _))))),
+      arrived _ _ (c .reached .ensures)
+          (invoke-whole _ _ _ _ _ (i .identifier-at .ensures .0) (e .if1 .left) (o .value-at .ensures .0) (f .if2 .left) (b .argument-at .ensures .0) (g .if3 .left) (k .keep-lead .ensures .0 _ _)),
       k .keep-lead .ensures .1,
     )))

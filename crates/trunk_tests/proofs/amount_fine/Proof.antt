@@ -1,4 +1,4 @@
-use Rattle.prelude.proofs.Prelude.{needs}
+use Rattle.prelude.proofs.Prelude.{arith}
 use Rattle.coding.specs.Reader.{part}
 use Rattle.trunk_tests.proofs.Blank.{no-amount, some-amount}
 use Rattle.trunk_tests.proofs.amount_fine.Statement.{statement}
@@ -8,4 +8,4 @@ pub amount-fine-spec : {M : Type 1} → statement M
 unfolding part
 amount-fine-spec =
     tie.close
-    (tie.spec (search needs) (λ c κs. search needs) (λ c κs. search needs) (λ c. search some-amount) (search needs) (search needs) (search needs) (λ c κs. search needs) (λ c. search no-amount))
+    (tie.spec (omega arith) (λ c κs. omega arith) (λ c κs. omega arith) (λ c. search some-amount) (omega arith) (omega arith) (omega arith) (λ c κs. omega arith) (λ c. search no-amount))

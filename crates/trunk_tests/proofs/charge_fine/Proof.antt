@@ -1,4 +1,4 @@
-use Rattle.prelude.proofs.Prelude.{needs}
+use Rattle.prelude.proofs.Prelude.{arith}
 use Rattle.write_tests.proofs.Truth.{answered}
 use Rattle.trunk_tests.proofs.Tests.{as-charge}
 use Rattle.trunk_tests.proofs.charge_fine.Statement.{statement}
@@ -7,5 +7,5 @@ use Rattle.trunk_tests.proofs.charge_fine.Tie as tie
 pub charge-fine-spec : {M : Type 1} → statement M
 charge-fine-spec =
     tie.close
-    (tie.spec (λ c κs. search needs) (λ c κs. search needs) (λ c. search (answered, as-charge)) (λ c κs. search needs) (λ c. search (answered, as-charge))
-    (λ c κs. search needs) (λ c. search (answered, as-charge)) (λ c κs. search needs) (λ c. search (answered, as-charge)))
+    (tie.spec (λ c κs. omega arith) (λ c κs. omega arith) (λ c. search (answered, as-charge)) (λ c κs. omega arith) (λ c. search (answered, as-charge))
+    (λ c κs. omega arith) (λ c. search (answered, as-charge)) (λ c κs. omega arith) (λ c. search (answered, as-charge)))

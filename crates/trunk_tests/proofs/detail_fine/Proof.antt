@@ -1,4 +1,4 @@
-use Rattle.prelude.proofs.Prelude.{needs}
+use Rattle.prelude.proofs.Prelude.{arith}
 use Rattle.coding.proofs.Tests.{tests}
 use Rattle.trunk_tests.specs.Fine.{detailFine}
 use Rattle.trunk_tests.proofs.detail_fine.Statement.{statement}
@@ -8,4 +8,4 @@ pub detail-fine-spec : {M : Type 1} → statement M
 unfolding detailFine
 detail-fine-spec =
     tie.close
-    (tie.spec (λ c. search tests) (λ c. search tests) (λ c. search tests) (λ c. search tests) (search needs) (λ c. search tests) (λ c. search tests) (λ c. search tests))
+    (tie.spec (λ c. search tests) (λ c. search tests) (λ c. search tests) (λ c. search tests) (omega arith) (λ c. search tests) (λ c. search tests) (λ c. search tests))

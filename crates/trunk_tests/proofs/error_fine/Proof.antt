@@ -1,4 +1,4 @@
-use Rattle.prelude.proofs.Prelude.{needs}
+use Rattle.prelude.proofs.Prelude.{arith}
 use Rattle.coding.proofs.Tests.{tests}
 use Rattle.trunk_tests.proofs.Tests.{error-is}
 use Rattle.trunk_tests.proofs.error_fine.Statement.{statement}
@@ -7,4 +7,4 @@ use Rattle.trunk_tests.proofs.error_fine.Tie as tie
 pub error-fine-spec : {M : Type 1} → statement M
 error-fine-spec =
     tie.close
-    (tie.spec (λ c. search (tests, error-is)) (λ c. search (tests, error-is)) (λ c. search (tests, error-is)) (search needs) (search needs) (λ c. search (tests, error-is)))
+    (tie.spec (λ c. search (tests, error-is)) (λ c. search (tests, error-is)) (λ c. search (tests, error-is)) (omega arith) (omega arith) (λ c. search (tests, error-is)))

@@ -1,4 +1,4 @@
-use Rattle.prelude.proofs.Prelude.{needs}
+use Rattle.prelude.proofs.Prelude.{arith, needs}
 use Rattle.coding.specs.Reader.{part}
 use Rattle.write_tests.proofs.Truth.{answered}
 use Rattle.trunk_tests.specs.Fine.{frontFits}
@@ -11,6 +11,6 @@ pub front-fine-spec : {M : Type 1} → statement M
 unfolding frontFits part
 front-fine-spec =
     tie.close
-    (tie.spec (search needs) (λ c κs. search needs) (λ c. search answered) (search needs) (λ c κs. search needs) (λ c. search answered) (search needs)
-    (search needs) (search needs) (λ c κs. search needs) (λ c κs. search needs) (λ c. search (answered, no-people)) (λ c κs. search needs)
-    (λ c. search answered) (λ c κs. search needs) (λ c κs. search needs) (λ c. search (answered, as-front)))
+    (tie.spec (omega arith) (λ c κs. omega arith) (λ c. search answered) (omega arith) (λ c κs. omega arith) (λ c. search answered) (omega arith)
+    (omega arith) (omega arith) (λ c κs. omega arith) (λ c κs. omega arith) (λ c. search (answered, no-people)) (λ c κs. omega arith)
+    (λ c. search answered) (λ c κs. omega arith) (λ c κs. search needs) (λ c. search (answered, as-front)))

@@ -1,4 +1,4 @@
-use Rattle.prelude.proofs.Prelude.{needs}
+use Rattle.prelude.proofs.Prelude.{arith}
 use Rattle.coding.proofs.Tests.{tests}
 use Rattle.trunk_tests.proofs.Tests.{invoke-is}
 use Rattle.trunk_tests.proofs.invoke_fine.Statement.{statement}
@@ -7,4 +7,4 @@ use Rattle.trunk_tests.proofs.invoke_fine.Tie as tie
 pub invoke-fine-spec : {M : Type 1} → statement M
 invoke-fine-spec =
     tie.close
-    (tie.spec (λ c. search (tests, invoke-is)) (λ c. search (tests, invoke-is)) (λ c. search (tests, invoke-is)) (search needs) (search needs) (λ c. search (tests, invoke-is)))
+    (tie.spec (λ c. search (tests, invoke-is)) (λ c. search (tests, invoke-is)) (λ c. search (tests, invoke-is)) (omega arith) (omega arith) (λ c. search (tests, invoke-is)))

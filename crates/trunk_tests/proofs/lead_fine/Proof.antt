@@ -1,4 +1,4 @@
-use Rattle.prelude.proofs.Prelude.{needs}
+use Rattle.prelude.proofs.Prelude.{arith}
 use Rattle.coding.proofs.Tests.{tests}
 use Rattle.trunk_tests.specs.Fine.{leadFine}
 use Rattle.trunk_tests.proofs.lead_fine.Statement.{statement}
@@ -8,4 +8,4 @@ pub lead-fine-spec : {M : Type 1} → statement M
 unfolding leadFine
 lead-fine-spec =
     tie.close
-    (tie.spec (search needs) (λ c. search) (search needs) (λ c. search) (search needs) (λ c. search) (search needs) (λ c. search) (search needs) (λ c. search) (λ c. search tests))
+    (tie.spec (omega arith) (λ c. search) (omega arith) (λ c. search) (omega arith) (λ c. search) (omega arith) (λ c. search) (omega arith) (λ c. search) (λ c. search tests))

@@ -1,4 +1,4 @@
-use Rattle.prelude.proofs.Prelude.{needs}
+use Rattle.prelude.proofs.Prelude.{arith}
 use Rattle.coding.proofs.Tests.{tests}
 use Rattle.trunk_tests.specs.Fine.{listIf}
 use Rattle.trunk_tests.proofs.list_fine.Statement.{statement}
@@ -6,4 +6,4 @@ use Rattle.trunk_tests.proofs.list_fine.Tie as tie
 
 pub list-fine-spec : {M : Type 1} → statement M
 unfolding listIf
-list-fine-spec = tie.close (tie.spec (λ c κs. search needs) (λ c. search tests) (λ c. search tests) (λ c κs. search needs) (λ c. search tests))
+list-fine-spec = tie.close (tie.spec (λ c κs. omega arith) (λ c. search tests) (λ c. search tests) (λ c κs. omega arith) (λ c. search tests))

@@ -1,4 +1,4 @@
-use Rattle.prelude.proofs.Prelude.{needs}
+use Rattle.prelude.proofs.Prelude.{arith}
 use Rattle.coding.proofs.Tests.{tests}
 use Rattle.write_tests.proofs.Truth.{answered}
 use Rattle.trunk_tests.specs.Fine.{markedFine}
@@ -9,4 +9,4 @@ pub marked-fine-spec : {M : Type 1} → statement M
 unfolding markedFine
 marked-fine-spec =
     tie.close
-    (tie.spec (search needs) (λ c. search (tests, answered)) (λ c. search (tests, answered)) (λ c. search (tests, answered)) (search needs) (λ c. search (tests, answered)))
+    (tie.spec (omega arith) (λ c. search (tests, answered)) (λ c. search (tests, answered)) (λ c. search (tests, answered)) (omega arith) (λ c. search (tests, answered)))

@@ -1,4 +1,4 @@
-use Rattle.prelude.proofs.Prelude.{needs}
+use Rattle.prelude.proofs.Prelude.{arith, needs}
 use Rattle.coding.specs.Reader.{part}
 use Rattle.trunk_tests.proofs.Blank.{no-other, same-other}
 use Rattle.trunk_tests.proofs.other_fine.Statement.{statement}
@@ -8,4 +8,4 @@ pub other-fine-spec : {M : Type 1} → statement M
 unfolding part
 other-fine-spec =
     tie.close
-    (tie.spec (search needs) (search needs) (search needs) (search needs) (λ c κs. search needs) (λ c. search no-other) (λ c κs. search needs) (λ c κs. search needs) (λ c. search same-other))
+    (tie.spec (omega arith) (omega arith) (omega arith) (omega arith) (λ c κs. omega arith) (λ c. search no-other) (λ c κs. omega arith) (λ c κs. search needs) (λ c. search same-other))

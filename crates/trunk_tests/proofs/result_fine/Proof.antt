@@ -1,4 +1,4 @@
-use Rattle.prelude.proofs.Prelude.{needs}
+use Rattle.prelude.proofs.Prelude.{arith}
 use Rattle.coding.proofs.Tests.{tests}
 use Rattle.trunk_tests.proofs.Tests.{result-is}
 use Rattle.trunk_tests.proofs.result_fine.Statement.{statement}
@@ -7,4 +7,4 @@ use Rattle.trunk_tests.proofs.result_fine.Tie as tie
 pub result-fine-spec : {M : Type 1} → statement M
 result-fine-spec =
     tie.close
-    (tie.spec (λ c. search (tests, result-is)) (λ c. search (tests, result-is)) (λ c. search (tests, result-is)) (search needs) (search needs) (λ c. search (tests, result-is)))
+    (tie.spec (λ c. search (tests, result-is)) (λ c. search (tests, result-is)) (λ c. search (tests, result-is)) (omega arith) (omega arith) (λ c. search (tests, result-is)))

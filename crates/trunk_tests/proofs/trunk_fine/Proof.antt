@@ -1,4 +1,4 @@
-use Rattle.prelude.proofs.Prelude.{needs}
+use Rattle.prelude.proofs.Prelude.{arith}
 use Rattle.trunks.specs.Stored.{trunkIn}
 use Rattle.write_tests.proofs.Truth.{test-no, test-yes}
 use Rattle.trunk_tests.proofs.Tests.{as-trunk}
@@ -17,4 +17,4 @@ returns-2 c =
     (test-yes _ _ _ _ (l .before .lead-fine .ensures) (l .if1 .left) (rw (← c .before .form-of .ensures) (c .body-fine .ensures)))
 
 pub trunk-fine-spec : {M : Type 1} → statement M
-trunk-fine-spec = tie.close (tie.spec (λ c κs. search needs) (λ c κs. search needs) returns (λ c κs. search needs) (λ c κs. search needs) returns-2)
+trunk-fine-spec = tie.close (tie.spec (λ c κs. omega arith) (λ c κs. omega arith) returns (λ c κs. omega arith) (λ c κs. omega arith) returns-2)

@@ -1,4 +1,4 @@
-use Rattle.prelude.proofs.Prelude.{needs, _-_, _/_, _≡_, sym, _∙_, arith, length}
+use Rattle.prelude.proofs.Prelude.{_-_, _/_, _≡_, sym, _∙_, arith, length}
 use Rattle.events.{specs.Events.eventsFrom, specs.Events.eventsOf, specs.Events.Going, proofs.Laws.begins, proofs.Laws.inside, proofs.Laws.goes-on}
 use Rattle.reasons.specs.Reasons.{reasonOf}
 use Rattle.why.specs.Seeing.{runFrom}
@@ -39,17 +39,17 @@ explained-spec =
     (tie.spec
     Inv-loop
     μ-loop
-    (search needs)
+    (omega arith)
     (λ c. let start = c .before .before .before in (begins _ _ (start .pre), rw (c .fresh .ensures) (run-start (start .args .rows .now) (start .args .octets .now))))
-    (search needs)
+    (omega arith)
     (λ c. let at = c .before .before in omega (arith, c .count-at .ensures, inside _ _ _ _ (at .loop .inv .0) (c .before .loop-test .taken)))
-    (search needs)
+    (omega arith)
     (omega arith)
     (omega arith)
     (omega arith)
     (λ c. let counted = c .before in let at = counted .before .before in omega (arith, counted .count-at .ensures, inside _ _ _ _ (at .loop .inv .0) (counted .before .loop-test .taken)))
-    (search needs)
+    (omega arith)
     (omega arith)
     loop-again
-    (search needs)
+    (omega arith)
     returns)

@@ -1,4 +1,4 @@
-use Rattle.prelude.proofs.Prelude.{sym, _∙_, eq-eqb, ne-eqb, not-true, not-false, needs}
+use Rattle.prelude.proofs.Prelude.{sym, _∙_, eq-eqb, ne-eqb, not-true, not-false, arith}
 use Rattle.why.proofs.is_figure.Statement.{statement}
 use Rattle.why.proofs.is_figure.Tie as tie
 
@@ -15,4 +15,4 @@ returns-3 c =
 
 pub is-figure-spec : {M : Type 1} → statement M
 is-figure-spec =
-    tie.close (tie.spec (search needs) (λ c. rw (sym (c .before .before .read .ensures)) (simp (ne-eqb _ _ (c .if1 .taken)))) (search needs) returns-2 (search needs) returns-3)
+    tie.close (tie.spec (omega arith) (λ c. rw (sym (c .before .before .read .ensures)) (simp (ne-eqb _ _ (c .if1 .taken)))) (omega arith) returns-2 (omega arith) returns-3)

@@ -1,8 +1,8 @@
-use Rattle.prelude.proofs.Prelude.{needs}
+use Rattle.prelude.proofs.Prelude.{arith}
 use Rattle.why.specs.Seeing.{turnOf}
 use Rattle.why.proofs.turn.Statement.{statement}
 use Rattle.why.proofs.turn.Tie as tie
 
 pub turn-spec : {M : Type 1} → statement M
 unfolding turnOf
-turn-spec = tie.close (tie.spec (search needs) (search needs) (search needs) (λ c. cc))
+turn-spec = tie.close (tie.spec (omega arith) (omega arith) (omega arith) (λ c. cc))

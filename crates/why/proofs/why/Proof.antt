@@ -1,4 +1,4 @@
-use Rattle.prelude.proofs.Prelude.{sym, _∙_, not-false, needs}
+use Rattle.prelude.proofs.Prelude.{sym, _∙_, not-false, arith}
 use Rattle.outcomes.proofs.Refusals.{ways}
 use Rattle.reasons.specs.Reasons.{whyOf}
 use Rattle.why.proofs.why.Statement.{statement}
@@ -6,4 +6,4 @@ use Rattle.why.proofs.why.Tie as tie
 
 pub why-spec : {M : Type 1} → statement M
 unfolding whyOf
-why-spec = tie.close (tie.spec (search needs) (λ c. search ways) (λ c κs. sym (c .before .adds-up .ensures) ∙ not-false _ (c .if1 .left)) (λ c. search ways))
+why-spec = tie.close (tie.spec (omega arith) (λ c. search ways) (λ c κs. sym (c .before .adds-up .ensures) ∙ not-false _ (c .if1 .left)) (λ c. search ways))

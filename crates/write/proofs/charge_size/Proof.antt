@@ -1,4 +1,4 @@
-use Rattle.prelude.proofs.Prelude.{sym, ap, _∙_, length, needs}
+use Rattle.prelude.proofs.Prelude.{arith, sym, ap, _∙_, length}
 use Rattle.coding.proofs.Basic.{picked, unpicked}
 use Rattle.types.specs.Stored.{withList}
 use Rattle.write.proofs.{Fits.operation-range, Fits.its-front, Fits.its-charge, charge_size.Statement.statement}
@@ -15,6 +15,6 @@ charge-size-requires c κs =
 pub charge-size-spec : {M : Type 1} → statement M
 charge-size-spec =
     tie.close
-    (tie.spec (λ c κs. search needs) charge-size-requires
+    (tie.spec (λ c κs. omega arith) charge-size-requires
     (λ c. c .charge-size .ensures .0 ∙ sym (ap length (picked _ _ (sym (c .before .before .is-charged .ensures) ∙ c .before .if1 .taken))))
     (λ c. sym (ap length (unpicked _ _ (sym (c .before .is-charged .ensures) ∙ c .if1 .left)))))

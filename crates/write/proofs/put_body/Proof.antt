@@ -1,4 +1,4 @@
-use Rattle.prelude.proofs.Prelude.{_≡_, sym, ap, _∙_, arith, needs, length}
+use Rattle.prelude.proofs.Prelude.{_≡_, sym, ap, _∙_, arith, length}
 use Rattle.coding.proofs.Basic.{picked}
 use Rattle.types.specs.Arguments.{chargeOf}
 use Rattle.types.specs.Stored.{withList}
@@ -27,5 +27,5 @@ put-charge-requires c κs =
 pub put-body-spec : {M : Type 1} → statement M
 put-body-spec =
     tie.close
-    (tie.spec put-front-requires (λ c κs. search needs) put-charge-requires (λ c. search needs) (λ c. search put-body-3) (λ c. search needs)
+    (tie.spec put-front-requires (λ c κs. omega arith) put-charge-requires (λ c. omega arith) (λ c. search put-body-3) (λ c. omega arith)
     (λ c. search put-body-4))

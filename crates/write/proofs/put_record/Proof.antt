@@ -13,7 +13,7 @@ abbrev given : tie.Start → Record
 given s = recordOf (s .args .f) (withList (s .args .figure) (s .args .numbers .now) (s .args .rows .now))
 
 small : (s : tie.Start) → given s .front .id < 0x10000
-small s = search needs
+small s = omega arith
 
 abbrev start : tie.After-charge-size → tie.Start
 start c = let e = c .before in e .before .before .before
@@ -55,17 +55,17 @@ put-body-requires c κs =
 pub put-record-spec : {M : Type 1} → statement M
 put-record-spec =
     tie.close
-    (tie.spec (λ c κs. c .before .pre) (λ c κs. search needs)
+    (tie.spec (λ c κs. c .before .pre) (λ c κs. omega arith)
     (λ c. let f = c .before .before in let s = f .before .before in
     not-fine (given s) _ (small s) (f .record-fine .ensures .0) (c .before .if1 .taken) (c .refuse .ensures))
-    (λ c κs. (was-true (c .before .record-fine .ensures .0) (c .if1 .left), c .before .record-fine .ensures .1)) (λ c κs. search needs)
+    (λ c κs. (was-true (c .before .record-fine .ensures .0) (c .if1 .left), c .before .record-fine .ensures .1)) (λ c κs. omega arith)
     (λ c. long-charge (known (c .before .before)) _ (c .before .if2 .taken) (c .refuse2 .ensures))
-    (λ c κs. (its-front (start (c .before) .args .f) _ (known (c .before) .fine), omega arith)) (λ c. omega arith) (λ c κs. search needs)
-    (λ c. long-body (sized (c .before .before)) _ (c .before .if3 .taken) (c .refuse3 .ensures)) (λ c κs. omega arith) (λ c κs. search needs)
+    (λ c κs. (its-front (start (c .before) .args .f) _ (known (c .before) .fine), omega arith)) (λ c. omega arith) (λ c κs. omega arith)
+    (λ c. long-body (sized (c .before .before)) _ (c .before .if3 .taken) (c .refuse3 .ensures)) (λ c κs. omega arith) (λ c κs. omega arith)
     (λ c. no-room (whole (c .before .before)) _ (c .before .if4 .taken) (c .refuse4 .ensures))
     (λ c. let n = measured (c .before .before .before) .before .before in omega (arith, frame-few (start n .args .f) (its-front (start n .args .f) _ (known n .fine))))
     (λ c κs. let w = c .before .before in (omega arith, put-record-1 (whole (w .before)) (w .if4 .left))) put-body-requires
     (λ c. let b = c .before .before in let l = led (b .before) in
-    omega (arith, put-record-few (whole (roomy l .before)) (roomy l .if4 .left) (l .put-lead .ensures) (b .put-body .ensures))) (λ c. search needs)
+    omega (arith, put-record-few (whole (roomy l .before)) (roomy l .if4 .left) (l .put-lead .ensures) (b .put-body .ensures))) (λ c. omega arith)
     (λ c. let b = c .before .before in let l = led (b .before) in
     put-record-3 (whole (roomy l .before)) (roomy l .if4 .left) (l .put-lead .ensures) (b .put-body .ensures)))

@@ -1,4 +1,4 @@
-use Rattle.prelude.proofs.Prelude.{_∙_, needs}
+use Rattle.prelude.proofs.Prelude.{arith, _∙_, needs}
 use Rattle.types.specs.Stored.{withList}
 use Rattle.write_prices.proofs.Prices.{was-true, was-false}
 use Rattle.write.proofs.{Fits.held-not, Fits.held-tested, record_fine.Statement.statement}
@@ -10,7 +10,7 @@ returns-2 c =
     let a = c3 .before .before .before .args in (
       held-not (a .f) (withList (a .figure) (a .numbers .now) (a .rows .now)) (was-true (c3 .front-fine .ensures) (c .before .before .if1 .left))
           (was-false (c .before .may-hold .ensures) (c .if2 .taken)),
-      search needs,
+      omega arith,
     )
 
 returns-3 : tie.Need-returns-3
@@ -19,11 +19,11 @@ returns-3 c =
     let a = c6 .before .before .args in (
       c .charge-fine .ensures ∙ held-tested (a .f) (withList (a .figure) (a .numbers .now) (a .rows .now)) (was-true (c3 .before .before .front-fine .ensures) (c3 .before .if1 .left))
           (was-true (c3 .may-hold .ensures) (c .before .before .if2 .left)) (c .before .tested-by .result) (c .before .tested-by .ensures .0),
-      search needs,
+      omega arith,
     )
 
 pub record-fine-spec : {M : Type 1} → statement M
 record-fine-spec =
     tie.close
-    (tie.spec (λ c κs. search needs) (λ c. (rw (was-false (c .before .front-fine .ensures) (c .if1 .taken)), search needs)) (λ c κs. search needs) returns-2
+    (tie.spec (λ c κs. omega arith) (λ c. (rw (was-false (c .before .front-fine .ensures) (c .if1 .taken)), omega arith)) (λ c κs. omega arith) returns-2
     (λ c κs. was-true (c .before .before .before .front-fine .ensures) (c .before .before .if1 .left)) (λ c κs. search needs) returns-3)

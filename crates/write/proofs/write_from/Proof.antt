@@ -1,4 +1,4 @@
-use Rattle.prelude.proofs.Prelude.{sym, ap, needs}
+use Rattle.prelude.proofs.Prelude.{arith, sym, ap}
 use Rattle.types.specs.declared.Figure.{Figure}
 use Rattle.types.specs.Stored.{withList}
 use Rattle.write.specs.Halves.{recordOf}
@@ -17,4 +17,4 @@ returns c =
     of-same (a .buf .now) (ap (λ (f : Figure). recordOf (a .f) (withList f (a .numbers .now) (a .rows .now))) (c3 .before .figure-of .ensures)) (c .before .before .put-record .ensures)
 
 pub write-from-spec : {M : Type 1} → statement M
-write-from-spec = tie.close (tie.spec (λ c κs. search needs) put-record-requires (λ c. search needs) returns)
+write-from-spec = tie.close (tie.spec (λ c κs. omega arith) put-record-requires (λ c. omega arith) returns)

@@ -1,6 +1,6 @@
-use Rattle.prelude.proofs.Prelude.{needs}
+use Rattle.prelude.proofs.Prelude.{arith, needs}
 use Rattle.write_figures.proofs.{Sizes.address-length, address_size.Statement.statement}
 use Rattle.write_figures.proofs.address_size.Tie as tie
 
 pub address-size-spec : {M : Type 1} → statement M
-address-size-spec = tie.close (tie.spec (λ c κs. search needs) (search needs) (λ c. (λ tag. search address-length, search needs)))
+address-size-spec = tie.close (tie.spec (λ c κs. search needs) (omega arith) (λ c. (λ tag. search address-length, omega arith)))

@@ -1,8 +1,8 @@
-use Rattle.prelude.proofs.Prelude.{needs}
+use Rattle.prelude.proofs.Prelude.{arith, needs}
 use Rattle.write_figures.proofs.{Frames.fine-association, Frames.free-during-length, Frames.free-length, free_size.Statement.statement}
 use Rattle.write_figures.proofs.free_size.Tie as tie
 
 pub free-size-spec : {M : Type 1} → statement M
 free-size-spec =
     tie.close
-    (tie.spec (λ c. search (needs, free-during-length)) (λ c κs. search fine-association) (search needs) (search needs) (λ c. search (needs, free-length)))
+    (tie.spec (λ c. search (needs, free-during-length)) (λ c κs. search fine-association) (omega arith) (omega arith) (λ c. search (needs, free-length)))

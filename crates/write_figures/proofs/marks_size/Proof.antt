@@ -1,4 +1,4 @@
-use Rattle.prelude.proofs.Prelude.{ap, arith, length, needs}
+use Rattle.prelude.proofs.Prelude.{ap, arith, length}
 use Rattle.write_figures.proofs.{Frames.marks-during-length, Frames.marks-ending, marks_size.Statement.statement}
 use Rattle.write_figures.proofs.marks_size.Tie as tie
 
@@ -15,4 +15,4 @@ returns-2 c =
     omega (arith, ap length (marks-ending (s .args .operation) f (c .if1 .left)), c .before .billing-size .ensures .0 0x82 (f .billing) (s .pre .1))
 
 pub marks-size-spec : {M : Type 1} → statement M
-marks-size-spec = tie.close (tie.spec (search needs) (search needs) returns returns-2)
+marks-size-spec = tie.close (tie.spec (omega arith) (omega arith) returns returns-2)

@@ -1,4 +1,4 @@
-use Rattle.prelude.proofs.Prelude.{arith, needs}
+use Rattle.prelude.proofs.Prelude.{arith}
 use Rattle.coding.proofs.Writing.{width-range}
 use Rattle.write_figures.proofs.{Sizes.money-length, Sizes.money-count, money_size.Statement.statement}
 use Rattle.write_figures.proofs.money_size.Tie as tie
@@ -6,5 +6,5 @@ use Rattle.write_figures.proofs.money_size.Tie as tie
 pub money-size-spec : {M : Type 1} → statement M
 money-size-spec =
     tie.close
-    (tie.spec (search needs) (search needs) (search needs) (λ c. omega (arith, width-range (c .before .before .args .m .number), money-count))
+    (tie.spec (omega arith) (omega arith) (omega arith) (λ c. omega (arith, width-range (c .before .before .args .m .number), money-count))
     (λ c. (search money-length, omega (arith, width-range (c .before .before .args .m .number), money-count))))

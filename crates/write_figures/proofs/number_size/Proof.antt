@@ -1,9 +1,9 @@
-use Rattle.prelude.proofs.Prelude.{arith, needs}
+use Rattle.prelude.proofs.Prelude.{arith}
 use Rattle.write_figures.proofs.{Sizes.number-count, Sizes.planned-length, Sizes.plain-length, Sizes.told, number_size.Statement.statement}
 use Rattle.write_figures.proofs.number_size.Tie as tie
 
 pub number-size-spec : {M : Type 1} → statement M
 number-size-spec =
     tie.close
-    (tie.spec (search needs) (search needs) (search needs) (λ c. (search (planned-length, told), omega (arith, number-count)))
-    (search needs) (λ c. (search (plain-length, told), omega (arith, number-count))))
+    (tie.spec (omega arith) (omega arith) (omega arith) (λ c. (search (planned-length, told), omega (arith, number-count)))
+    (omega arith) (λ c. (search (plain-length, told), omega (arith, number-count))))

@@ -1,4 +1,4 @@
-use Rattle.prelude.proofs.Prelude.{arith, needs}
+use Rattle.prelude.proofs.Prelude.{arith}
 use Rattle.write_figures.proofs.Frames.{fine-total, fine-billing, fine-association, priced-during-length, priced-ending-length}
 use Rattle.write_figures.proofs.priced_size.Statement.{statement}
 use Rattle.write_figures.proofs.priced_size.Tie as tie
@@ -21,5 +21,5 @@ returns-2 c =
 pub priced-size-spec : {M : Type 1} → statement M
 priced-size-spec =
     tie.close
-    (tie.spec (search needs) (λ c κs. search (fine-total, fine-billing)) (search needs) (search needs) returns (λ c κs. search fine-association) (search needs)
-    (search needs) returns-2)
+    (tie.spec (omega arith) (λ c κs. search (fine-total, fine-billing)) (omega arith) (omega arith) returns (λ c κs. search fine-association) (omega arith)
+    (omega arith) returns-2)

@@ -1,4 +1,4 @@
-use Rattle.prelude.proofs.Prelude.{needs}
+use Rattle.prelude.proofs.Prelude.{arith, needs}
 use Rattle.coding.proofs.Writing.{room-as}
 use Rattle.write_figures.proofs.{Sizes.wrote-is, Sizes.wrote-two, Frames.fine-total, Frames.fine-billing, Frames.fine-association, Frames.during-few, Frames.before-during}
 use Rattle.write_figures.proofs.{Frames.before-ending, Frames.before-1, Frames.before-2, put_before.Statement.statement}
@@ -25,5 +25,5 @@ returns-2 c =
 pub put-before-spec : {M : Type 1} → statement M
 put-before-spec =
     tie.close
-    (tie.spec (search needs) (λ c κs. search (fine-total, fine-billing)) (search needs) (λ c κs. search (needs, during-few, room-as, before-during)) (search needs)
-    (λ c. search (wrote-is, before-during)) (search needs) (λ c κs. search fine-association) (search needs) put-lead-requires put-leads-requires-2 (search needs) returns-2)
+    (tie.spec (omega arith) (λ c κs. search (fine-total, fine-billing)) (omega arith) (λ c κs. search (needs, during-few, room-as, before-during)) (omega arith)
+    (λ c. search (wrote-is, before-during)) (omega arith) (λ c κs. search fine-association) (omega arith) put-lead-requires put-leads-requires-2 (omega arith) returns-2)

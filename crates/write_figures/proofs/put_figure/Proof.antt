@@ -1,4 +1,4 @@
-use Rattle.prelude.proofs.Prelude.{needs}
+use Rattle.prelude.proofs.Prelude.{arith}
 use Rattle.coding.proofs.Writing.{room-as, room-head}
 use Rattle.write_figures.proofs.{Sizes.wrote-is, Plain.figure-fine, Plain.figure-small, Plain.figure-none, Plain.figure-free, Plain.figure-arranged, Plain.figure-valid}
 use Rattle.write_figures.proofs.{Plain.figure-few, Plain.figure-1, Plain.figure-octets, Sizes.room-2, Sizes.room-3, Sizes.wrote-three, put_figure.Statement.statement}
@@ -28,7 +28,7 @@ returns-4 c =
 pub put-figure-spec : {M : Type 1} → statement M
 put-figure-spec =
     tie.close
-    (tie.spec (λ c κs. search (room-as, figure-none)) (search needs) (λ c. search (wrote-is, figure-none)) (λ c κs. search (figure-small, room-as, figure-arranged))
-    (search needs) (λ c. search (wrote-is, figure-arranged)) (λ c κs. search (figure-fine, room-as, figure-free)) (search needs)
+    (tie.spec (λ c κs. search (room-as, figure-none)) (omega arith) (λ c. search (wrote-is, figure-none)) (λ c κs. search (figure-small, room-as, figure-arranged))
+    (omega arith) (λ c. search (wrote-is, figure-arranged)) (λ c κs. search (figure-fine, room-as, figure-free)) (omega arith)
     (λ c. search (wrote-is, figure-free)) (λ c κs. search figure-valid) (λ c κs. search (figure-fine, figure-few, figure-1))
-    put-money-requires put-after-requires (search needs) returns-4)
+    put-money-requires put-after-requires (omega arith) returns-4)

@@ -1,7 +1,7 @@
-use Rattle.prelude.proofs.Prelude.{needs}
+use Rattle.prelude.proofs.Prelude.{arith}
 use Rattle.coding.proofs.Writing.{wrote-both, room-head, room-tail}
 use Rattle.write_figures.proofs.put_leads.Statement.{statement}
 use Rattle.write_figures.proofs.put_leads.Tie as tie
 
 pub put-leads-spec : {M : Type 1} → statement M
-put-leads-spec = tie.close (tie.spec (λ c κs. search room-head) (λ c κs. search room-tail) (search needs) (λ c. search wrote-both))
+put-leads-spec = tie.close (tie.spec (λ c κs. search room-head) (λ c κs. search room-tail) (omega arith) (λ c. search wrote-both))

@@ -1,4 +1,4 @@
-use Rattle.prelude.proofs.Prelude.{needs}
+use Rattle.prelude.proofs.Prelude.{arith, needs}
 use Rattle.coding.proofs.Writing.{room-as}
 use Rattle.write_figures.proofs.{Sizes.wrote-is, Sizes.room-2, Sizes.wrote-two, Frames.marks-during, Frames.marks-ending, Frames.marks-1, put_marks.Statement.statement}
 use Rattle.write_figures.proofs.put_marks.Tie as tie
@@ -6,5 +6,5 @@ use Rattle.write_figures.proofs.put_marks.Tie as tie
 pub put-marks-spec : {M : Type 1} → statement M
 put-marks-spec =
     tie.close
-    (tie.spec (λ c κs. search (needs, room-as, marks-ending)) (search needs) (λ c. search (needs, wrote-is, marks-ending)) (λ c κs. search (needs, marks-1))
-    (λ c κs. search (needs, room-2, marks-during)) (search needs) (λ c. search (needs, wrote-two, marks-during)))
+    (tie.spec (λ c κs. search (needs, room-as, marks-ending)) (omega arith) (λ c. search (needs, wrote-is, marks-ending)) (λ c κs. search (needs, marks-1))
+    (λ c κs. search (needs, room-2, marks-during)) (omega arith) (λ c. search (needs, wrote-two, marks-during)))

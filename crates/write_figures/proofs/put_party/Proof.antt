@@ -6,5 +6,5 @@ use Rattle.write_figures.proofs.put_party.Tie as tie
 pub put-party-spec : {M : Type 1} → statement M
 put-party-spec =
     tie.close
-    (tie.spec (search needs) (search needs) (λ c κs. search (needs, told)) (search needs) (λ c. search needs) (λ c. search needs)
-    (λ c κs. ((omega (arith, number-count), search number-fits), search (room-as, plain-octets, told))) (search needs) (λ c. search (wrote-is, plain-octets, told)))
+    (tie.spec (omega arith) (omega arith) (λ c κs. search (needs, told)) (omega arith) (λ c. search needs) (λ c. search needs)
+    (λ c κs. ((omega (arith, number-count), search number-fits), search (room-as, plain-octets, told))) (omega arith) (λ c. search (wrote-is, plain-octets, told)))

@@ -6,6 +6,6 @@ use Rattle.write_figures.proofs.put_scaled.Tie as tie
 pub put-scaled-spec : {M : Type 1} → statement M
 put-scaled-spec =
     tie.close
-    (tie.spec (search needs) (λ c. omega (arith, width-range (c .before .before .before .args .s .number)))
+    (tie.spec (omega arith) (λ c. omega (arith, width-range (c .before .before .before .args .s .number)))
     (λ c κs. (omega (arith, width-range (c .before .before .before .args .s .number)), search scaled-1)) (λ c κs. search scaled-2)
-    (λ c κs. search (needs, scaled-3)) (search needs) (λ c. search (wrote-three, scaled-octets)))
+    (λ c κs. search (needs, scaled-3)) (omega arith) (λ c. search (wrote-three, scaled-octets)))

@@ -1,4 +1,4 @@
-use Rattle.prelude.proofs.Prelude.{arith, needs}
+use Rattle.prelude.proofs.Prelude.{arith}
 use Rattle.coding.proofs.Writing.{width-range}
 use Rattle.write_figures.proofs.{Sizes.scaled-length, scaled_size.Statement.statement}
 use Rattle.write_figures.proofs.scaled_size.Tie as tie
@@ -6,4 +6,4 @@ use Rattle.write_figures.proofs.scaled_size.Tie as tie
 pub scaled-size-spec : {M : Type 1} → statement M
 scaled-size-spec =
     tie.close
-    (tie.spec (search needs) (λ c. omega (arith, width-range (c .before .args .s .number))) (λ c. (λ tag. search scaled-length, omega (arith, width-range (c .before .args .s .number)))))
+    (tie.spec (omega arith) (λ c. omega (arith, width-range (c .before .args .s .number))) (λ c. (λ tag. search scaled-length, omega (arith, width-range (c .before .args .s .number)))))

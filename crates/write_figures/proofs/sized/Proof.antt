@@ -5,4 +5,4 @@ use Rattle.write_figures.proofs.sized.Tie as tie
 pub sized-spec : {M : Type 1} → statement M
 sized-spec =
     tie.close (tie.spec
-    (search needs) (λ c. search needs) (search needs) (λ c. (λ tag. omega (arith, lead-two tag (c .before .args .n) (c .if1 .left)), omega arith)))
+    (omega arith) (λ c. search needs) (omega arith) (λ c. (λ tag. omega (arith, lead-two tag (c .before .args .n) (c .if1 .left)), omega arith)))

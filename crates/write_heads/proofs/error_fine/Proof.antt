@@ -1,4 +1,4 @@
-use Rattle.prelude.proofs.Prelude.{needs}
+use Rattle.prelude.proofs.Prelude.{arith}
 use Rattle.write_heads.specs.Fronts.{frontFine}
 use Rattle.write_heads.proofs.{Fine.fine, error_fine.Statement.statement}
 use Rattle.write_heads.proofs.error_fine.Tie as tie
@@ -6,4 +6,4 @@ use Rattle.write_heads.proofs.error_fine.Tie as tie
 pub error-fine-spec : {M : Type 1} → statement M
 unfolding frontFine
 error-fine-spec =
-    tie.close (tie.spec (λ c. search fine) (λ c. search fine) (λ c. search fine) (λ c. search fine) (search needs) (search needs) (λ c. search fine))
+    tie.close (tie.spec (λ c. search fine) (λ c. search fine) (λ c. search fine) (λ c. search fine) (omega arith) (omega arith) (λ c. search fine))

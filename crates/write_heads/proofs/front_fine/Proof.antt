@@ -1,4 +1,4 @@
-use Rattle.prelude.proofs.Prelude.{needs}
+use Rattle.prelude.proofs.Prelude.{arith}
 use Rattle.coding.proofs.Tests.{tests}
 use Rattle.write_heads.specs.Fronts.{frontFine}
 use Rattle.write_heads.proofs.front_fine.Statement.{statement}
@@ -6,4 +6,4 @@ use Rattle.write_heads.proofs.front_fine.Tie as tie
 
 pub front-fine-spec : {M : Type 1} → statement M
 unfolding frontFine
-front-fine-spec = tie.close (tie.spec (search needs) (λ c. search) (search needs) (λ c. search) (search needs) (λ c. search) (search needs) (λ c. search) (λ c. search tests))
+front-fine-spec = tie.close (tie.spec (omega arith) (λ c. search) (omega arith) (λ c. search) (omega arith) (λ c. search) (omega arith) (λ c. search) (λ c. search tests))

@@ -1,4 +1,4 @@
-use Rattle.prelude.proofs.Prelude.{needs}
+use Rattle.prelude.proofs.Prelude.{arith, needs}
 use Rattle.write_heads.specs.Fronts.{frontFine}
 use Rattle.write_heads.proofs.{Fine.fine, Fine.told-no, Fine.invoke-yes, invoke_fine.Statement.statement}
 use Rattle.write_heads.proofs.invoke_fine.Tie as tie
@@ -7,4 +7,4 @@ pub invoke-fine-spec : {M : Type 1} → statement M
 unfolding frontFine
 invoke-fine-spec =
     tie.close
-    (tie.spec (search needs) (λ c. search needs) (search needs) (λ c. search (fine, told-no)) (λ c. search fine) (λ c. search fine) (λ c. search fine) (λ c. search fine) (λ c. search invoke-yes))
+    (tie.spec (omega arith) (λ c. search needs) (omega arith) (λ c. search (fine, told-no)) (λ c. search fine) (λ c. search fine) (λ c. search fine) (λ c. search fine) (λ c. search invoke-yes))

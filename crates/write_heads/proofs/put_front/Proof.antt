@@ -1,4 +1,4 @@
-use Rattle.prelude.proofs.Prelude.{needs}
+use Rattle.prelude.proofs.Prelude.{arith}
 use Rattle.coding.proofs.{Tests.tests, Writing.room-as}
 use Rattle.write_heads.specs.Fronts.{frontOctets}
 use Rattle.write_heads.proofs.{Sizes.small-operation, Sizes.small-error, Sizes.small-detail, put_front.Statement.statement}
@@ -10,5 +10,5 @@ pub put-front-spec : {M : Type 1} → statement M
 unfolding frontOctets
 put-front-spec =
     tie.close
-    (tie.spec (λ c κs. search fronts) (search needs) (λ c. search tests) (λ c κs. search fronts) (search needs) (λ c. search tests) (λ c κs. search fronts)
-    (search needs) (λ c. search tests) (λ c κs. search fronts) (search needs) (λ c. search tests))
+    (tie.spec (λ c κs. search fronts) (omega arith) (λ c. search tests) (λ c κs. search fronts) (omega arith) (λ c. search tests) (λ c κs. search fronts)
+    (omega arith) (λ c. search tests) (λ c κs. search fronts) (omega arith) (λ c. search tests))

@@ -1,4 +1,4 @@
-use Rattle.prelude.proofs.Prelude.{needs, eq-eqb, append-nil}
+use Rattle.prelude.proofs.Prelude.{arith, eq-eqb, append-nil}
 use Rattle.coding.proofs.{Tests.tests, Writing.room, Writing.room-when}
 use Rattle.write_heads.proofs.put_invoke.Statement.{statement}
 use Rattle.write_heads.proofs.put_invoke.Tie as tie
@@ -11,5 +11,5 @@ put-small-requires-2 c κs =
 pub put-invoke-spec : {M : Type 1} → statement M
 put-invoke-spec =
     tie.close
-    (tie.spec (λ c κs. search room) (λ c κs. search room) put-small-requires-2 (search needs) (λ c. search (room, tests)) (search needs)
+    (tie.spec (λ c κs. search room) (λ c κs. search room) put-small-requires-2 (omega arith) (λ c. search (room, tests)) (omega arith)
     (λ c. search (room, tests, append-nil)))

@@ -1,7 +1,7 @@
-use Rattle.prelude.proofs.Prelude.{needs}
+use Rattle.prelude.proofs.Prelude.{arith}
 use Rattle.coding.proofs.Writing.{room}
 use Rattle.write_heads.proofs.put_reject.Statement.{statement}
 use Rattle.write_heads.proofs.put_reject.Tie as tie
 
 pub put-reject-spec : {M : Type 1} → statement M
-put-reject-spec = tie.close (tie.spec (λ c κs. search room) (λ c κs. search room) (search needs) (λ c. search room))
+put-reject-spec = tie.close (tie.spec (λ c κs. search room) (λ c κs. search room) (omega arith) (λ c. search room))

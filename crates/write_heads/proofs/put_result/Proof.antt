@@ -1,4 +1,4 @@
-use Rattle.prelude.proofs.Prelude.{needs}
+use Rattle.prelude.proofs.Prelude.{arith, needs}
 use Rattle.coding.proofs.Writing.{room, room-third}
 use Rattle.write_heads.proofs.put_result.Statement.{statement}
 use Rattle.write_heads.proofs.put_result.Tie as tie
@@ -6,4 +6,4 @@ use Rattle.write_heads.proofs.put_result.Tie as tie
 pub put-result-spec : {M : Type 1} → statement M
 put-result-spec =
     tie.close (tie.spec
-    (λ c κs. search room) (search needs) (λ c κs. (search needs, search room)) (λ c κs. (search, search room-third)) (search needs) (λ c. search room))
+    (λ c κs. search room) (omega arith) (λ c κs. (search needs, search room)) (λ c κs. (search, search room-third)) (omega arith) (λ c. search room))

@@ -1,4 +1,4 @@
-use Rattle.prelude.proofs.Prelude.{needs}
+use Rattle.prelude.proofs.Prelude.{arith}
 use Rattle.coding.proofs.Tests.{tests}
 use Rattle.write_heads.proofs.{Fine.reject-is, Fine.told-no, Fine.told-yes, reject_fine.Statement.statement}
 use Rattle.write_heads.proofs.reject_fine.Tie as tie
@@ -6,4 +6,4 @@ use Rattle.write_heads.proofs.reject_fine.Tie as tie
 pub reject-fine-spec : {M : Type 1} → statement M
 reject-fine-spec =
     tie.close
-    (tie.spec (search needs) (λ c. search (reject-is, told-no)) (λ c. search (tests, reject-is)) (λ c. search (tests, reject-is)) (search needs) (λ c. search (tests, reject-is, told-yes)))
+    (tie.spec (omega arith) (λ c. search (reject-is, told-no)) (λ c. search (tests, reject-is)) (λ c. search (tests, reject-is)) (omega arith) (λ c. search (tests, reject-is, told-yes)))

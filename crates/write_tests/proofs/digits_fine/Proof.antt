@@ -1,4 +1,4 @@
-use Rattle.prelude.proofs.Prelude.{needs}
+use Rattle.prelude.proofs.Prelude.{arith}
 use Rattle.coding.proofs.Tests.{tests}
 use Rattle.write_tests.proofs.{Tests.digits-is, Truth.answered, digits_fine.Statement.statement}
 use Rattle.write_tests.proofs.digits_fine.Tie as tie
@@ -6,5 +6,5 @@ use Rattle.write_tests.proofs.digits_fine.Tie as tie
 pub digits-fine-spec : {M : Type 1} → statement M
 digits-fine-spec =
     tie.close
-    (tie.spec (λ c. search (tests, digits-is)) (λ c. search (tests, digits-is)) (search needs) (search needs) (λ c. search (tests, digits-is, answered)) (search needs)
-    (search needs) (λ c. search (tests, digits-is, answered)))
+    (tie.spec (λ c. search (tests, digits-is)) (λ c. search (tests, digits-is)) (omega arith) (omega arith) (λ c. search (tests, digits-is, answered)) (omega arith)
+    (omega arith) (λ c. search (tests, digits-is, answered)))

@@ -1,4 +1,4 @@
-use Rattle.prelude.proofs.Prelude.{needs}
+use Rattle.prelude.proofs.Prelude.{arith}
 use Rattle.coding.proofs.Tests.{tests}
 use Rattle.write_tests.specs.Fine.{marksFine}
 use Rattle.write_tests.proofs.{Truth.answered, marks_fine.Statement.statement}
@@ -8,5 +8,5 @@ pub marks-fine-spec : {M : Type 1} → statement M
 unfolding marksFine
 marks-fine-spec =
     tie.close
-    (tie.spec (search needs) (λ c. search tests) (search needs) (λ c. search tests) (search needs) (λ c. search tests) (search needs) (λ c. search (tests, answered))
-    (search needs) (λ c. search (tests, answered)))
+    (tie.spec (omega arith) (λ c. search tests) (omega arith) (λ c. search tests) (omega arith) (λ c. search tests) (omega arith) (λ c. search (tests, answered))
+    (omega arith) (λ c. search (tests, answered)))

@@ -1,8 +1,8 @@
-use Rattle.prelude.proofs.Prelude.{needs}
+use Rattle.prelude.proofs.Prelude.{arith, needs}
 use Rattle.coding.proofs.Tests.{tests}
 use Rattle.write_tests.proofs.{Tests.zeros-lent, no_association.Statement.statement}
 use Rattle.write_tests.proofs.no_association.Tie as tie
 
 pub no-association-spec : {M : Type 1} → statement M
 no-association-spec =
-    tie.close (tie.spec (λ c. search tests) (λ c. search tests) (λ c. search tests) (λ c. search tests) (search needs) (λ c. search (needs, tests, zeros-lent)))
+    tie.close (tie.spec (λ c. search tests) (λ c. search tests) (λ c. search tests) (λ c. search tests) (omega arith) (λ c. search (needs, tests, zeros-lent)))

@@ -1,5 +1,5 @@
 -- A step of the machine, by what the line awaits and what comes.
-use Rattle.prelude.proofs.Prelude.{arith, needs, _≤_, _<_, _∙_}
+use Rattle.prelude.proofs.Prelude.{arith, _≤_, _<_, _∙_}
 use Rattle.lines.specs.Lines.{digitOf}
 use Rattle.lines.proofs.Steps.{fed-bad, fed-space, fed-gap, fed-none, fed-first, fed-second, fed-full}
 use Rattle.lines.proofs.input.fed.Statement.{statement}
@@ -18,9 +18,9 @@ a-digit c = omega (arith, c .before .digit .ensures, c .if4 .left)
 pub fed-spec : {M : Type 1} → statement M
 fed-spec =
     tie.close
-    (tie.spec (λ c. fed-bad _ _ _ (c .if1 .taken)) (λ c. fed-space _ _ _ (c .before .if2 .taken) (c .if3 .taken)) (λ c κs. search needs)
-    (λ c. let f = fed-gap _ _ _ (c .before .before .if2 .taken) (c .before .if3 .left) in (c .bad-line .ensures ∙ f .0, f .1)) (λ c κs. search needs)
-    (λ c κs. search needs) returns-4 (λ c κs. search needs) (λ c. search needs) (λ c. search needs)
+    (tie.spec (λ c. fed-bad _ _ _ (c .if1 .taken)) (λ c. fed-space _ _ _ (c .before .if2 .taken) (c .if3 .taken)) (λ c κs. omega arith)
+    (λ c. let f = fed-gap _ _ _ (c .before .before .if2 .taken) (c .before .if3 .left) in (c .bad-line .ensures ∙ f .0, f .1)) (λ c κs. omega arith)
+    (λ c κs. omega arith) returns-4 (λ c κs. omega arith) (λ c. omega arith) (λ c. omega arith)
     (λ c. let s = c .before .before in
     rw (c .octet .ensures, s .before .before .digit .ensures) (fed-second _ _ _ (s .if5 .taken) (c .before .if6 .taken) (a-digit (s .before))))
     (λ c. fed-full _ _ _ (c .before .if5 .taken) (c .if6 .left) (a-digit (c .before .before)))

@@ -1,5 +1,5 @@
 -- The loop's invariant: the characters passed are heard, and none of them ended the line. The measure is what is left.
-use Rattle.prelude.proofs.Prelude.{arith, needs, ℕ, _≤_, _-_, _≡_, _∙_, List, length}
+use Rattle.prelude.proofs.Prelude.{arith, ℕ, _≤_, _-_, _≡_, _∙_, List, length}
 use Rattle.coding.specs.Reader.{part}
 use Rattle.lines.specs.Machine.{state, turn, turns}
 use Rattle.lines.proofs.{Steps.turns-none, Steps.turns-more, Steps.turn-open, Steps.heard-on, input.take_line.Statement.statement}
@@ -38,7 +38,7 @@ loop-again c =
 pub take-line-spec : {M : Type 1} → statement M
 take-line-spec =
     tie.close
-    (tie.spec Inv-loop μ-loop (λ c κs. search needs) (λ c. (c .before .take-ready .ensures .0, c .before .take-ready .ensures .1 (c .if1 .taken)))
-    (λ c. (c .before .before .take-ready .ensures .0 .inside, omega arith, λ t. turns-none _ _ _)) (λ c. search needs) (λ c. search needs) returns-2
-    (λ c κs. search needs) (λ c. search needs) loop-again
+    (tie.spec Inv-loop μ-loop (λ c κs. omega arith) (λ c. (c .before .take-ready .ensures .0, c .before .take-ready .ensures .1 (c .if1 .taken)))
+    (λ c. (c .before .before .take-ready .ensures .0 .inside, omega arith, λ t. turns-none _ _ _)) (λ c. omega arith) (λ c. omega arith) returns-2
+    (λ c κs. omega arith) (λ c. omega arith) loop-again
     (λ c. let h = heard-by (c .before) in (record { onward = h .0; inside = omega arith; heard = h .1 }, omega arith)))

@@ -1,5 +1,5 @@
 -- The loop's invariant: k octets with their spaces are taken. The measure is what may still come.
-use Rattle.prelude.proofs.Prelude.{arith, needs, _≤_, _<_, _+_, _*_, _-_, _≡_, sym, true, false, true≢false}
+use Rattle.prelude.proofs.Prelude.{arith, _≤_, _<_, _+_, _*_, _-_, _≡_, sym, true, false, true≢false}
 use Rattle.lines.specs.{declared.input.Line.Line, Machine.spacedLine, Machine.Heard}
 use Rattle.lines.proofs.{Steps.Taken, Steps.Next, Steps.taken-none, Steps.taken-more, Steps.taken-last, input.take_octets.Statement.statement}
 use Rattle.lines.proofs.input.take_octets.Tie as tie
@@ -50,12 +50,12 @@ returns-4 c =
 pub take-octets-spec : {M : Type 1} → statement M
 take-octets-spec =
     tie.close
-    (tie.spec Inv-loop μ-loop (λ c. search needs) (λ c κs. search needs) (λ c. search needs) (λ c κs. search needs)
-    (λ c. (omega arith, omega arith, taken-none _ _ _ _)) (λ c. search needs) (λ c κs. search needs) (λ c κs. search needs)
-    (λ c. left-at (turn-of (c .before .before)) (c .spaced .ensures)) (λ c. search needs) (λ c. search needs) (λ c κs. search needs) (λ c κs. search needs)
-    (λ c. let d = c .before .before .before in left-at (turn-of (d .before .before)) (c .spaced2 .ensures)) (λ c. search needs) (λ c. search needs)
-    (λ c κs. search needs) (λ c. let d = c .before .before .before in left-at (turn-of (first (d .before) .before)) (c .spaced3 .ensures))
-    (λ c κs. search needs) (λ c. search needs) (λ c. search needs) (λ c. search needs) (λ c. search needs) (λ c. search needs) returns-4
-    (λ c κs. search needs) (λ c. search needs) (λ c. search needs) (λ c. search needs) (λ c. search needs) (λ c. search needs)
-    (λ c. (omega arith, omega arith, taken-more (next-at (c .before .before .before)) (c .octet2 .ensures) (c .before .if3 .left))) (λ c κs. search needs)
+    (tie.spec Inv-loop μ-loop (λ c. omega arith) (λ c κs. omega arith) (λ c. omega arith) (λ c κs. omega arith)
+    (λ c. (omega arith, omega arith, taken-none _ _ _ _)) (λ c. omega arith) (λ c κs. omega arith) (λ c κs. omega arith)
+    (λ c. left-at (turn-of (c .before .before)) (c .spaced .ensures)) (λ c. omega arith) (λ c. omega arith) (λ c κs. omega arith) (λ c κs. omega arith)
+    (λ c. let d = c .before .before .before in left-at (turn-of (d .before .before)) (c .spaced2 .ensures)) (λ c. omega arith) (λ c. omega arith)
+    (λ c κs. omega arith) (λ c. let d = c .before .before .before in left-at (turn-of (first (d .before) .before)) (c .spaced3 .ensures))
+    (λ c κs. omega arith) (λ c. omega arith) (λ c. omega arith) (λ c. omega arith) (λ c. omega arith) (λ c. omega arith) returns-4
+    (λ c κs. omega arith) (λ c. omega arith) (λ c. omega arith) (λ c. omega arith) (λ c. omega arith) (λ c. omega arith)
+    (λ c. (omega arith, omega arith, taken-more (next-at (c .before .before .before)) (c .octet2 .ensures) (c .before .if3 .left))) (λ c κs. omega arith)
     (λ c. left-at (c .before .before) (c .spaced4 .ensures)))

@@ -1,5 +1,5 @@
 -- The loop's invariant: what is put and the text of the octets left make the whole text. The measure is what is left.
-use Rattle.prelude.proofs.Prelude.{arith, needs, ℕ, _≤_, _+_, _*_, _-_, _≡_, refl, List, [], _++_}
+use Rattle.prelude.proofs.Prelude.{arith, ℕ, _≤_, _+_, _*_, _-_, _≡_, refl, List, [], _++_}
 use Rattle.coding.{specs.Reader.part, specs.Written.Wrote, proofs.Writing.wrote-none, proofs.Writing.wrote-next, proofs.Writing.wrote-as, proofs.Writing.wrote-both}
 use Rattle.lines.specs.Text.{hexText}
 use Rattle.lines.proofs.{Texts.hex-more, Texts.hex-last, output.put_octets.Statement.statement}
@@ -35,6 +35,6 @@ returns-2 c =
 pub put-octets-spec : {M : Type 1} → statement M
 put-octets-spec =
     tie.close
-    (tie.spec Inv-loop μ-loop (λ c. unfold hexText in (rw (c .if1 .taken) (wrote-next (omega arith) (wrote-none _ _)), omega arith)) (λ c. search needs)
-    (λ c. (omega arith, omega arith, [], wrote-next (omega arith) (wrote-none _ _), refl)) (λ c. search needs) (λ c κs. search needs) (λ c. search needs)
-    (λ c. search needs) loop-again (λ c. search needs) (λ c κs. search needs) returns-2)
+    (tie.spec Inv-loop μ-loop (λ c. unfold hexText in (rw (c .if1 .taken) (wrote-next (omega arith) (wrote-none _ _)), omega arith)) (λ c. omega arith)
+    (λ c. (omega arith, omega arith, [], wrote-next (omega arith) (wrote-none _ _), refl)) (λ c. omega arith) (λ c κs. omega arith) (λ c. omega arith)
+    (λ c. omega arith) loop-again (λ c. omega arith) (λ c κs. omega arith) returns-2)

@@ -1,4 +1,4 @@
-use Rattle.prelude.proofs.Prelude.{arith, needs, lt-ltb, le-ltb}
+use Rattle.prelude.proofs.Prelude.{arith, lt-ltb, le-ltb}
 use Rattle.coding.proofs.Writing.{wrote-2, wrote-3, wrote-both}
 use Rattle.lines.specs.Text.{refusedText}
 use Rattle.lines.proofs.output.put_refused.Statement.{statement}
@@ -7,11 +7,11 @@ use Rattle.lines.proofs.output.put_refused.Tie as tie
 pub put-refused-spec : {M : Type 1} → statement M
 put-refused-spec =
     tie.close
-    (tie.spec (λ c. search needs) (λ c κs. search needs) (λ c. search needs) (λ c. search needs) (λ c. search needs) (λ c. search needs) (λ c. search needs)
-    (λ c. search needs)
+    (tie.spec (λ c. omega arith) (λ c κs. omega arith) (λ c. omega arith) (λ c. omega arith) (λ c. omega arith) (λ c. omega arith) (λ c. omega arith)
+    (λ c. omega arith)
     (λ c. unfold refusedText in
     (rw (lt-ltb _ 10 (c .if1 .taken)) (wrote-both (c .before .put-octets .ensures) (wrote-2 _ _ _ _)), omega (arith, c .before .put-octets .ensures .place)))
-    (λ c. search needs) (λ c. search needs) (λ c. search needs) (λ c. search needs) (λ c. search needs) (λ c. search needs) (λ c. search needs)
-    (λ c. search needs)
+    (λ c. omega arith) (λ c. omega arith) (λ c. omega arith) (λ c. omega arith) (λ c. omega arith) (λ c. omega arith) (λ c. omega arith)
+    (λ c. omega arith)
     (λ c. unfold refusedText in
     (rw (le-ltb _ 10 (c .if1 .left)) (wrote-both (c .before .put-octets .ensures) (wrote-3 _ _ _ _ _)), omega (arith, c .before .put-octets .ensures .place))))

@@ -1,7 +1,7 @@
-use Rattle.prelude.proofs.Prelude.{needs}
+use Rattle.prelude.proofs.Prelude.{arith}
 use Rattle.coding.proofs.Tests.{tests}
 use Rattle.read_heads.proofs.values.is_known.Statement.{statement}
 use Rattle.read_heads.proofs.values.is_known.Tie as tie
 
 pub is-known-spec : {M : Type 1} → statement M
-is-known-spec = tie.close (tie.spec (search needs) (λ c. search tests) (search needs) (λ c. search tests) (search needs) (λ c. search tests))
+is-known-spec = tie.close (tie.spec (omega arith) (λ c. search tests) (omega arith) (λ c. search tests) (omega arith) (λ c. search tests))

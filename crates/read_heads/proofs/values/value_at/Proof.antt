@@ -1,14 +1,14 @@
-use Rattle.prelude.proofs.Prelude.{needs, arith, _∙_, sym}
+use Rattle.prelude.proofs.Prelude.{arith, _∙_, sym}
 use Rattle.read_heads.proofs.{Short.tiny-value, values.value_at.Statement.statement}
 use Rattle.read_heads.proofs.values.value_at.Tie as tie
 
 pub value-at-spec : {M : Type 1} → statement M
 value-at-spec =
     tie.close (tie.spec
-    (search needs) (search needs) (search needs) (λ c. omega (arith, c .before .before .before .tiny .ensures .1 .1 (omega arith) .inside))
+    (omega arith) (omega arith) (omega arith) (λ c. omega (arith, c .before .before .before .tiny .ensures .1 .1 (omega arith) .inside))
     (λ c. let t = c .before .before .before in (
       tiny-value _ _ _ _ (t .before .before .pre) (t .tiny .ensures .1 .1 (omega arith)) _ _ (c .before .before .if1 .taken)
           (sym (c .before .is-known .ensures) ∙ c .if2 .taken),
       omega arith,
     ))
-    (search needs) (λ c. c .value-long .ensures))
+    (omega arith) (λ c. c .value-long .ensures))

@@ -1,0 +1,9 @@
+pub mod Rows
+pub mod Ranges
+pub mod Filled
+pub mod Places
+pub mod Units
+pub mod Whole
+pub mod Sums
+pub mod Theorems
+pub mod Examples

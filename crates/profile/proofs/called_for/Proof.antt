@@ -1,7 +1,0 @@
-use Rattle.prelude.proofs.Prelude.{needs}
-use Rattle.coding.proofs.Tests.{tests}
-use Rattle.profile.proofs.called_for.Statement.{statement}
-use Rattle.profile.proofs.called_for.Tie as tie
-
-pub called-for-spec : {M : Type 1} → statement M
-called-for-spec = tie.close (tie.spec (λ c. search tests) (λ c. search tests) (λ c. search tests))

@@ -1,0 +1,17 @@
+-- Both families, gone through by the element's own third octet.
+use Prim.Native.Nat.{ℕ}
+use mathlib.Core.List.{List}
+use Rattle.pass.specs.Pass.{Reads, Passed}
+use Rattle.profile.specs.Profile.{Either, ofNone, readBy, eitherIn}
+use Rattle.profile_pass.specs.declared.NextBy.{NextBy}
+
+abbrev pub families : Reads Either
+families = record { by = readBy; none = ofNone }
+
+-- as it lies in the parts that are lent
+abbrev pub nextIn : NextBy → List ℕ → List ℕ → List ℕ → List ℕ → List ℕ → List ℕ → List ℕ → List ℕ → List ℕ → Passed Either
+nextIn r front figure numbers rows lead lent trunkFigure trunkNumbers trunkRows = record {
+  ended = r .ended;
+  after = r .after;
+  answer = eitherIn (r .answer) front figure numbers rows lead lent trunkFigure trunkNumbers trunkRows;
+}

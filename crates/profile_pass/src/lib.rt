@@ -1,0 +1,76 @@
+// The components of an element one after another, read by the element's own profile octet.
+use profile::Judged;
+ghost use mathlib.Core.Path.{_≡_};
+ghost use Rattle.trunk_fields.specs.Fields.{Spare};
+ghost use Rattle.pass.specs.Pass.{passWith};
+ghost use Rattle.profile_pass.specs.Passing.{families, nextIn};
+
+// after: the place after the component. ended: 1 at the end of the element, where all else is zero.
+#[repr(C)]
+pub struct NextBy {
+    pub after: usize,
+    pub ended: usize,
+    pub answer: Judged,
+}
+
+// What stands at a place of an element: the next component, read by the element's own third octet, with the place after it; or the end.
+pub fn next_by(
+    octets: &[u8],
+    place: usize,
+    front: &mut [u8; 8],
+    figure: &mut [u8; 48],
+    numbers: &mut [u32; 32],
+    rows: &mut [u8; 192],
+    lead: &mut [u8; 48],
+    lent: &mut [u8; 244],
+    trunk_figure: &mut [u8; 48],
+    trunk_numbers: &mut [u32; 32],
+    trunk_rows: &mut [u8; 192],
+) -> NextBy
+    ensures { λ r. ⌜ nextIn r (now (front .exit)) (now (figure .exit)) (now (numbers .exit)) (now (rows .exit)) (now (lead .exit)) (now (lent .exit)) (now («trunk_figure» .exit)) (now («trunk_numbers» .exit)) (now («trunk_rows» .exit)) ≡ passWith families (now (octets .entry)) place ⌝ }
+    ensures spare { λ _. ⌜ Spare (now (lead .exit)) ⌝ }
+{
+    let n = pass::next_into(octets, place, front, figure, numbers, rows);
+    let after = n.after;
+    let ended = n.ended;
+    if after == 0 {
+        profile::no_trunk(lead, lent, trunk_figure, trunk_numbers, trunk_rows);
+        return NextBy {
+            after: 0,
+            ended,
+            answer: Judged {
+                number: n.answer.number,
+                offset: 0,
+                family: 0,
+            },
+        };
+    }
+    let profile = octets[2];
+    if profile == 0x91 {
+        profile::no_trunk(lead, lent, trunk_figure, trunk_numbers, trunk_rows);
+        let a: read::Refusal = n.answer;
+        return NextBy {
+            after,
+            ended,
+            answer: Judged {
+                number: a.number,
+                offset: a.offset,
+                family: 1,
+            },
+        };
+    }
+    let answer = profile::trunk_by(
+        profile,
+        &octets[place..after],
+        lead,
+        lent,
+        trunk_figure,
+        trunk_numbers,
+        trunk_rows,
+    );
+    NextBy {
+        after,
+        ended,
+        answer,
+    }
+}

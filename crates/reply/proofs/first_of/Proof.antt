@@ -1,6 +1,0 @@
-use Rattle.prelude.proofs.Prelude.{needs, refl}
-use Rattle.reply.proofs.{Ids.no-first, first_of.Statement.statement}
-use Rattle.reply.proofs.first_of.Tie as tie
-
-pub first-of-spec : {M : Type 1} → statement M
-first-of-spec = tie.close (tie.spec (λ c. no-first (c .before .args .octets .now) (c .if1 .taken)) (λ c. search needs) (λ c. refl))
