@@ -18,8 +18,10 @@ python3 - "$work/code" >"$work/table" <<'END' || exit 1
 import re, sys
 
 APART = {"memcpy", "memmove", "memset"}
-# the search for an end marker goes on past two of at most 254 octets at each turn
-DEEP = {"read_lengths::find_end": 128, "write_elements::put_digits": 5}
+# The search for an end marker goes on past two octets or more at each call, up to an end that the proofs bound; one more call finds
+# nothing left.
+bound = int(re.search(r"\(end ≤ (\d+)\)", open("crates/read_lengths/specs/Bounds.antt", encoding="utf-8").read())[1])
+DEEP = {"read_lengths::find_end": (bound + 1) // 2 + 1, "write_elements::put_digits": 5}
 frames, calls, name, at_call = {}, {}, None, None
 depth = deepest = 0
 for line in open(sys.argv[1]):

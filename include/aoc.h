@@ -20,8 +20,8 @@
 #include <stdint.h>
 #include <string.h>
 
-#define AOC_VERSION 30000       /* 3.0.0: ten thousand times the first number, a hundred times the second, the third */
-#define AOC_VERSION_TEXT "3.0.0"
+#define AOC_VERSION 30001       /* 3.0.1: ten thousand times the first number, a hundred times the second, the third */
+#define AOC_VERSION_TEXT "3.0.1"
 
 #ifdef __cplusplus
 extern "C" {

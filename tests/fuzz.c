@@ -243,13 +243,33 @@ static size_t input(uint8_t *to)
     return length;
 }
 
+/* More octets than a component or an element may have, up to 70,000: such an input with elements behind it, in one another or side by
+ * side, some octets of which are changed. */
+enum { LONG = 70000 };
+
+static size_t long_input(uint8_t *to)
+{
+    size_t from = input(to), length = 250 + chance() % (LONG - 250);
+    bool beside = chance() % 2;
+    for (size_t i = from & ~(size_t)1; i + 1 < length; i += 2) {
+        to[i] = beside ? 0x05 : 0x30;
+        to[i + 1] = beside ? 0x00 : 0x80;
+    }
+    to[0] = (uint8_t)(0xA1 + chance() % 4);
+    to[1] = 0x80;
+    for (size_t changes = chance() % 4; changes > 0; changes--)
+        to[2 + chance() % (length - 2)] = (uint8_t)chance();
+    return length;
+}
+
 int main(int argc, char **argv)
 {
+    static uint8_t octets[LONG];
     long rounds = argc > 1 ? atol(argv[1]) : 100000;
     seed += argc > 2 ? strtoull(argv[2], NULL, 10) : 0;
     for (long i = 0; i < rounds; i++) {
-        uint8_t octets[300] = {0};
-        LLVMFuzzerTestOneInput(octets, input(octets));
+        memset(octets, 0, 300);
+        LLVMFuzzerTestOneInput(octets, i % 1000 ? input(octets) : long_input(octets));
     }
     printf("fuzz: %ld rounds\n", rounds);
     return 0;

@@ -27,6 +27,7 @@ if [ -n "$own" ] && has $sanitizers; then
 fi
 if [ -n "$own" ] && command -v clang >/dev/null && CC=clang sh tools/cc "$work/libfuzzer" tests/fuzz.c -fsanitize=fuzzer,address,undefined -g 2>/dev/null; then
     run "libFuzzer" sh -c "\"$work/libfuzzer\" -runs=20000 -seed=1 -max_len=300 -verbosity=0 && echo fuzz: 20000 rounds"
+    run "libFuzzer, up to 70,000 octets" sh -c "\"$work/libfuzzer\" -runs=1000 -seed=2 -max_len=70000 -len_control=0 -verbosity=0 && echo fuzz: 1000 rounds"
 fi
 memcheck=
 [ -n "$own" ] && command -v valgrind >/dev/null && memcheck=1

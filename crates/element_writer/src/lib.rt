@@ -10,6 +10,7 @@ ghost use Rattle.element_writer.specs.Round.{isTiled, elementHolds, elem
 
 // Whether octets are components laid end to end.
 fn is_tiled(octets: &[u8]) -> bool
+    requires { ⌜ length (now octets) ≤ 254 ⌝ }
     ensures { λ r. ⌜ r ≡ isTiled (now (octets .entry)) ⌝ }
 {
     let end = octets.len();

@@ -2,8 +2,8 @@
 //
 // What is read is stored in a record's parts, which are lent: its front of 8 octets, its figure of 48 and its list's two arrays.
 ghost use mathlib.Core.Path.{_≡_};
-ghost use Prim.Native.Nat.{_≤_, _%_};
-ghost use lib.ListN.{length, replicate};
+ghost use Prim.Native.Nat.{_%_};
+ghost use lib.ListN.{replicate};
 ghost use Rattle.coding.specs.Reader.Ans.{halt};
 ghost use Rattle.coding.specs.Shown.{shown};
 ghost use Rattle.types.specs.Arguments.{noCharge, chargeOf};
@@ -13,6 +13,7 @@ ghost use Rattle.read_heads.specs.Heads.{faultBy, tailOf};
 ghost use Rattle.read_entries.specs.Answers.{whole};
 ghost use Rattle.read.specs.Whole.{wholeAnswer};
 ghost use Rattle.read.specs.Ways.{isRequest, held, plainAnswer, endsWell, Ended};
+ghost use Rattle.read_lengths.specs.Bounds.{Bounded};
 
 // 0 where a component is accepted; or the refusal's number, with 40 to 45 the offset of the octet at which reading stopped.
 #[repr(C)]
@@ -122,7 +123,7 @@ fn ends_well(fault: u8, number: u32) -> bool
 
 // The argument of operation 30.
 fn asked(s: &[u8], h: read_heads::Head, front: &mut [u8; 8]) -> Refusal
-    requires { ⌜ h .stop ≤ length (now s) ⌝ }
+    requires { ⌜ Bounded (now s) (h .stop) ⌝ }
     requires { ⌜ now front ≡ replicate 8 0 ⌝ }
     ensures { λ r. ⌜ plainAnswer r (now (front .exit)) ≡ held (answered (tailOf (request (h .front .id)) h (now (s .entry)))) ⌝ }
 {
@@ -144,7 +145,7 @@ fn charge_at(
     numbers: &mut [u32; 32],
     rows: &mut [u8; 192],
 ) -> read_elements::Empty
-    requires { ⌜ end ≤ length (now s) ⌝ }
+    requires { ⌜ Bounded (now s) end ⌝ }
     requires { ⌜ Blank (now figure) (now numbers) (now rows) ⌝ }
     ensures { λ r. ⌜ whole r (now (figure .exit)) (now (numbers .exit)) (now (rows .exit)) ≡ shown noCharge ((chargeOf operation) .read (now (s .entry)) at end) ⌝ }
 {
@@ -163,7 +164,7 @@ fn carried(
     numbers: &mut [u32; 32],
     rows: &mut [u8; 192],
 ) -> Refusal
-    requires { ⌜ h .stop ≤ length (now s) ⌝ }
+    requires { ⌜ Bounded (now s) (h .stop) ⌝ }
     requires { ⌜ (now front ≡ replicate 8 0) × Blank (now figure) (now numbers) (now rows) ⌝ }
     ensures { λ r. ⌜ wholeAnswer r (now (front .exit)) (now (figure .exit)) (now (numbers .exit)) (now (rows .exit)) ≡ held (answered (tailOf (carrying (h .front .frame) (h .front .id) (h .front .operation)) h (now (s .entry)))) ⌝ }
 {

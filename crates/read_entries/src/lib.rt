@@ -2,12 +2,11 @@
 //
 // After a fault what is stored does not count.
 ghost use mathlib.Core.Path.{_≡_};
-ghost use Prim.Native.Nat.{_≤_};
-ghost use lib.ListN.{length};
 ghost use Rattle.coding.specs.Shown.{shown};
 ghost use Rattle.types.specs.Arguments.{noCharge, inUnits};
 ghost use Rattle.types.specs.Stored.{Blank};
 ghost use Rattle.read_entries.specs.Answers.{whole, Clear, inRates};
+ghost use Rattle.read_lengths.specs.Bounds.{Bounded};
 
 // 1 to 32 entries of units, up to the end of the enclosing element.
 pub fn units_in(
@@ -18,7 +17,7 @@ pub fn units_in(
     numbers: &mut [u32; 32],
     rows: &mut [u8; 192],
 ) -> read_elements::Empty
-    requires { ⌜ end ≤ length (now s) ⌝ }
+    requires { ⌜ Bounded (now s) end ⌝ }
     requires { ⌜ Blank (now figure) (now numbers) (now rows) ⌝ }
     ensures { λ r. ⌜ whole r (now (figure .exit)) (now (numbers .exit)) (now (rows .exit)) ≡ shown noCharge (inUnits .read (now (s .entry)) at end) ⌝ }
     ensures clear { λ _. ⌜ Clear (now (figure .exit)) ⌝ }
@@ -59,7 +58,7 @@ pub fn rates_in(
     numbers: &mut [u32; 32],
     rows: &mut [u8; 192],
 ) -> read_elements::Empty
-    requires { ⌜ end ≤ length (now s) ⌝ }
+    requires { ⌜ Bounded (now s) end ⌝ }
     requires { ⌜ Blank (now figure) (now numbers) (now rows) ⌝ }
     ensures { λ r. ⌜ whole r (now (figure .exit)) (now (numbers .exit)) (now (rows .exit)) ≡ shown noCharge (inRates trunk (now (s .entry)) at end) ⌝ }
 {

@@ -11,6 +11,7 @@ ghost use Rattle.coding.specs.Reader.Fault.{named};
 ghost use Rattle.coding.specs.Shown.{shown};
 ghost use Rattle.types.specs.Frames.{outside, numberOf, value, invoke, returnResult, returnError, reject, caller, rejects, readWhole};
 ghost use Rattle.read_heads.specs.Heads.{outsideCode, argumentCode, faultBy, contentsOf, noHead, restOf, callerBy, rejectedBy, problemIn, problemsIn};
+ghost use Rattle.read_lengths.specs.Bounds.{Bounded};
 
 // What stands before an argument or result, which lies from at to stop, in an element that ends at next, in a component whose contents end at end; of a
 // return error or reject, all.
@@ -98,7 +99,7 @@ fn no_head(fault: u8, at: usize) -> Head
 
 // A1: identifier, operation.
 fn invoke_head(s: &[u8], start: usize, n: usize) -> Head
-    requires { ⌜ n ≤ length (now s) ⌝ }
+    requires { ⌜ Bounded (now s) n ⌝ }
     ensures { λ r. ⌜ restOf r (now (s .entry)) ≡ contentsOf invoke (now (s .entry)) start n ⌝ }
     ensures inside { λ r. ⌜ r .stop ≤ length (now (s .entry)) ⌝ }
 {
@@ -132,7 +133,7 @@ fn invoke_head(s: &[u8], start: usize, n: usize) -> Head
 
 // A2: identifier, then 30 holding operation and result.
 fn result_head(s: &[u8], start: usize, n: usize) -> Head
-    requires { ⌜ n ≤ length (now s) ⌝ }
+    requires { ⌜ Bounded (now s) n ⌝ }
     ensures { λ r. ⌜ restOf r (now (s .entry)) ≡ contentsOf returnResult (now (s .entry)) start n ⌝ }
     ensures inside { λ r. ⌜ r .stop ≤ length (now (s .entry)) ⌝ }
 {
@@ -170,7 +171,7 @@ fn result_head(s: &[u8], start: usize, n: usize) -> Head
 
 // A3: identifier, error.
 fn error_head(s: &[u8], start: usize, n: usize) -> Head
-    requires { ⌜ n ≤ length (now s) ⌝ }
+    requires { ⌜ Bounded (now s) n ⌝ }
     ensures { λ r. ⌜ restOf r (now (s .entry)) ≡ contentsOf returnError (now (s .entry)) start n ⌝ }
     ensures inside { λ r. ⌜ r .stop ≤ length (now (s .entry)) ⌝ }
 {
@@ -219,7 +220,7 @@ pub struct CallerRead {
 }
 
 pub fn caller_at(s: &[u8], at: usize, end: usize) -> CallerRead
-    requires { ⌜ end ≤ length (now s) ⌝ }
+    requires { ⌜ Bounded (now s) end ⌝ }
     ensures { λ r. ⌜ (r .fault, r .place, callerBy (r .value), r .next) ≡ shown (inr 0) (caller .read (now (s .entry)) at end) ⌝ }
     ensures proper { λ r. ⌜ ((tag detail : ℕ) → rejects (callerBy (r .value)) tag detail ≡ rejectedBy (r .value) tag detail) ⌝ }
 {
@@ -272,7 +273,7 @@ pub struct Problem {
 }
 
 fn problem_at(s: &[u8], at: usize, end: usize, tag: u8, most: u32) -> ProblemRead
-    requires { ⌜ (end ≤ length (now s)) × (most < 256) ⌝ }
+    requires { ⌜ Bounded (now s) end × (most < 256) ⌝ }
     ensures { λ r. ⌜ (r .fault, r .place, r .value, r .next) ≡ shown (record { tag = 0; detail = 0 }) (problemIn tag most (now (s .entry)) at end) ⌝ }
 {
     let n = read_elements::natural_at(s, at, end, tag, 0, most);
@@ -294,7 +295,7 @@ fn problem_at(s: &[u8], at: usize, end: usize, tag: u8, most: u32) -> ProblemRea
 }
 
 pub fn problems_at(s: &[u8], at: usize, end: usize) -> ProblemRead
-    requires { ⌜ end ≤ length (now s) ⌝ }
+    requires { ⌜ Bounded (now s) end ⌝ }
     ensures { λ r. ⌜ (r .fault, r .place, r .value, r .next) ≡ shown (record { tag = 0; detail = 0 }) (problemsIn (now (s .entry)) at end) ⌝ }
 {
     if read_lengths::is_tag(s, at, end, 0x80) {
@@ -311,7 +312,7 @@ pub fn problems_at(s: &[u8], at: usize, end: usize) -> ProblemRead
 
 // A4: identifier or NULL, problem.
 fn reject_head(s: &[u8], start: usize, n: usize) -> Head
-    requires { ⌜ n ≤ length (now s) ⌝ }
+    requires { ⌜ Bounded (now s) n ⌝ }
     ensures { λ r. ⌜ restOf r (now (s .entry)) ≡ contentsOf reject (now (s .entry)) start n ⌝ }
     ensures inside { λ r. ⌜ r .stop ≤ length (now (s .entry)) ⌝ }
 {
@@ -346,6 +347,7 @@ fn reject_head(s: &[u8], start: usize, n: usize) -> Head
 
 // The component's own element: its first octet, its length, its end, and nothing after it.
 pub fn enter(s: &[u8]) -> read_lengths::Opened
+    requires { ⌜ length (now s) ≤ 257 ⌝ }
     ensures { λ r. ⌜ (r .fault, r .place, r .value, r .next) ≡ shown (record { start = 0; stop = 0 }) (enteredAny (0xa1 ∷ 0xa2 ∷ 0xa3 ∷ 0xa4 ∷ []) outside (named 5) (now (s .entry)) 0 (length (now (s .entry)))) ⌝ }
     ensures there { λ r. ⌜ ((r .fault ≡ 0) → (0 < length (now (s .entry)))) ⌝ }
     ensures inside { λ r. ⌜ r .value .stop ≤ length (now (s .entry)) ⌝ }
@@ -391,7 +393,7 @@ fn shut_out(fault: u8, place: usize) -> read_lengths::Opened
 // All that stands before an argument or result.
 pub fn head_of(s: &[u8]) -> Head
     ensures { λ r. ⌜ restOf r (now (s .entry)) ≡ readWhole (now (s .entry)) ⌝ }
-    ensures inside { λ r. ⌜ r .stop ≤ length (now (s .entry)) ⌝ }
+    ensures inside { λ r. ⌜ Bounded (now (s .entry)) (r .stop) ⌝ }
 {
     let n = s.len();
     if 254 < n {

@@ -9,6 +9,7 @@ ghost use Rattle.coding.specs.Leaves.{listing};
 ghost use Rattle.coding.specs.Shown.{shown, verdict};
 ghost use Rattle.types.specs.Frames.{operations, errors, value};
 ghost use Rattle.read_heads.specs.Heads.{knownIn, unknownIn};
+ghost use Rattle.read_lengths.specs.Bounds.{Bounded};
 
 fn known_operation(n: u32) -> bool
     ensures { λ r. ⌜ r ≡ oneOf operations n ⌝ }
@@ -105,7 +106,7 @@ fn value_in(s: &[u8], start: usize, stop: usize, frame: u8) -> read_elements::Ve
 }
 
 pub fn value_long(s: &[u8], at: usize, end: usize, frame: u8) -> read_elements::NumberRead
-    requires { ⌜ end ≤ length (now s) ⌝ }
+    requires { ⌜ Bounded (now s) end ⌝ }
     ensures { λ r. ⌜ (r .fault, r .place, r .value, r .next) ≡ shown 0 ((value (unknownIn frame) (knownIn frame)) .read (now (s .entry)) at end) ⌝ }
     ensures bounded { λ r. ⌜ r .value < 256 ⌝ }
 {
@@ -146,7 +147,7 @@ pub fn value_long(s: &[u8], at: usize, end: usize, frame: u8) -> read_elements::
 
 // The same, where the value is a known one of one octet at once.
 pub fn value_at(s: &[u8], at: usize, end: usize, frame: u8) -> read_elements::NumberRead
-    requires { ⌜ end ≤ length (now s) ⌝ }
+    requires { ⌜ Bounded (now s) end ⌝ }
     ensures { λ r. ⌜ (r .fault, r .place, r .value, r .next) ≡ shown 0 ((value (unknownIn frame) (knownIn frame)) .read (now (s .entry)) at end) ⌝ }
     ensures bounded { λ r. ⌜ r .value < 256 ⌝ }
 {

@@ -9,6 +9,7 @@ ghost use lib.ListN.{length, getD};
 ghost use Rattle.coding.specs.Reader.{tagged, neither, extent, numberedAt, endless, marker, findEnd, spanned, lengthAt, opened};
 ghost use Rattle.coding.specs.Shown.{shown};
 ghost use Rattle.coding.specs.Shortcut.{Short, shortAt};
+ghost use Rattle.read_lengths.specs.Bounds.{Bounded, sought};
 use coding::Extent;
 
 // An element that is opened.
@@ -133,51 +134,32 @@ fn is_marker(s: &[u8], at: usize, end: usize) -> bool
     short_length(s, at, end, 0) == 0
 }
 
-// An end marker that is searched: its place, and the place after it.
-struct Ended {
-    pub fault: u8,
-    pub place: usize,
-    pub value: usize,
-    pub next: usize,
-}
+// What the search answers where it fails: this and the fault's number. It is past every place.
+const NO_END: usize = 1000;
 
-// The end marker that belongs to contents which go on at a place.
-fn find_end(s: &[u8], at: usize, end: usize) -> Ended
-    requires { ⌜ end ≤ length (now s) ⌝ }
-    ensures { λ r. ⌜ (r .fault, r .place, r .value, r .next) ≡ shown 0 (findEnd (now (s .entry)) at end) ⌝ }
+// The place of the end marker that belongs to contents which go on at a place, or why there is none.
+// It calls itself for each element on the way, and answers one number, so that a call takes little of the stack.
+fn find_end(s: &[u8], at: usize, end: usize) -> usize
+    requires { ⌜ Bounded (now s) end ⌝ }
+    ensures { λ r. ⌜ r ≡ sought (findEnd (now (s .entry)) at end) ⌝ }
+    ensures small { λ r. ⌜ r < 1256 ⌝ }
 {
     if end <= at {
-        return Ended {
-            fault: 42,
-            place: at,
-            value: 0,
-            next: 0,
-        };
+        return NO_END + 42;
     }
     if is_marker(s, at, end) {
-        return Ended {
-            fault: 0,
-            place: 0,
-            value: at,
-            next: at + 2,
-        };
+        return at;
     }
     if is_endless(s, at, at + 1, end) {
         let inner = find_end(s, at + 2, end);
-        if inner.fault != 0 {
+        if NO_END <= inner {
             return inner;
         }
-        let next = inner.next;
-        return find_end(s, next, end);
+        return find_end(s, inner + 2, end);
     }
     let o = numbered_at(s, at, at + 1, end);
     if o.fault != 0 {
-        return Ended {
-            fault: o.fault,
-            place: o.place,
-            value: 0,
-            next: 0,
-        };
+        return NO_END + octets::wide(o.fault);
     }
     let n = o.next;
     find_end(s, n, end)
@@ -185,28 +167,25 @@ fn find_end(s: &[u8], at: usize, end: usize) -> Ended
 
 // Contents from start up to their end marker.
 fn span_at(s: &[u8], tag: usize, start: usize, end: usize) -> Opened
-    requires { ⌜ end ≤ length (now s) ⌝ }
+    requires { ⌜ Bounded (now s) end ⌝ }
     ensures { λ r. ⌜ (r .fault, r .place, r .value, r .next) ≡ shown (record { start = 0; stop = 0 }) (spanned tag start (findEnd (now (s .entry)) start end)) ⌝ }
     ensures inside { λ r. ⌜ (r .value .start ≤ r .value .stop) × (r .value .stop ≤ end) ⌝ }
 {
-    let m = find_end(s, start, end);
-    if m.fault != 0 {
-        return halted(m.fault, tag);
+    let stop = find_end(s, start, end);
+    if NO_END <= stop {
+        return halted((stop - NO_END) as u8, tag);
     }
     Opened {
         fault: 0,
         place: 0,
-        value: Extent {
-            start,
-            stop: m.value,
-        },
-        next: m.next,
+        value: Extent { start, stop },
+        next: stop + 2,
     }
 }
 
 // The length octets at a place, of the element whose tag is at tag.
 fn length_at(s: &[u8], tag: usize, at: usize, end: usize) -> Opened
-    requires { ⌜ (end ≤ length (now s)) × (tag < at) ⌝ }
+    requires { ⌜ Bounded (now s) end × (tag < at) ⌝ }
     ensures { λ r. ⌜ (r .fault, r .place, r .value, r .next) ≡ shown (record { start = 0; stop = 0 }) (lengthAt tag (now (s .entry)) at end) ⌝ }
     ensures inside { λ r. ⌜ (r .value .start ≤ r .value .stop) × (r .value .stop ≤ end) ⌝ }
 {
@@ -254,7 +233,7 @@ fn not_there(at: usize, end: usize) -> Opened
 
 // An element's tag and length octets.
 pub fn open_at(s: &[u8], at: usize, end: usize, tag: u8) -> Opened
-    requires { ⌜ end ≤ length (now s) ⌝ }
+    requires { ⌜ Bounded (now s) end ⌝ }
     ensures { λ r. ⌜ (r .fault, r .place, r .value, r .next) ≡ shown (record { start = 0; stop = 0 }) (opened tag (now (s .entry)) at end) ⌝ }
     ensures inside { λ r. ⌜ (r .value .start ≤ r .value .stop) × (r .value .stop ≤ end) ⌝ }
 {
@@ -274,7 +253,7 @@ pub fn open_at(s: &[u8], at: usize, end: usize, tag: u8) -> Opened
 
 // The same, every length octet looked at in its turn.
 pub fn open_long(s: &[u8], at: usize, end: usize, tag: u8) -> Opened
-    requires { ⌜ end ≤ length (now s) ⌝ }
+    requires { ⌜ Bounded (now s) end ⌝ }
     ensures { λ r. ⌜ (r .fault, r .place, r .value, r .next) ≡ shown (record { start = 0; stop = 0 }) (opened tag (now (s .entry)) at end) ⌝ }
     ensures inside { λ r. ⌜ (r .value .start ≤ r .value .stop) × (r .value .stop ≤ end) ⌝ }
 {
@@ -287,7 +266,7 @@ pub fn open_long(s: &[u8], at: usize, end: usize, tag: u8) -> Opened
 // The same for a tag that is mostly a primitive element's: there the length has a number, and no end marker is searched.
 // With one caller it becomes part of it: so natural_long is large and stays a call, and natural_at becomes part of each reader above.
 pub fn open_leaf(s: &[u8], at: usize, end: usize, tag: u8) -> Opened
-    requires { ⌜ end ≤ length (now s) ⌝ }
+    requires { ⌜ Bounded (now s) end ⌝ }
     ensures { λ r. ⌜ (r .fault, r .place, r .value, r .next) ≡ shown (record { start = 0; stop = 0 }) (opened tag (now (s .entry)) at end) ⌝ }
     ensures inside { λ r. ⌜ (r .value .start ≤ r .value .stop) × (r .value .stop ≤ end) ⌝ }
 {

@@ -3,14 +3,13 @@
 // The readers store what they read where it will lie: a list in two arrays and the rest in the figure's 48 octets, all zero before.
 // After a fault what is stored does not count.
 ghost use mathlib.Core.Path.{_≡_};
-ghost use Prim.Native.Nat.{_≤_};
-ghost use lib.ListN.{length};
 ghost use Rattle.coding.specs.Shown.{shown};
 ghost use Rattle.types.specs.Arguments.{noCharge, rates, available};
 ghost use Rattle.types.specs.Stored.{Blank};
 ghost use Rattle.read_figures.specs.Beside.{Unassociated};
 ghost use Rattle.read_entries.specs.Answers.{whole, Clear};
 ghost use Rattle.read_lists.specs.Readers.{amountBy, pricedOf, settledOf, figureOf};
+ghost use Rattle.read_lengths.specs.Bounds.{Bounded};
 
 // The argument of operation 31, and what a trunk's 63 holds.
 pub fn rates_at(
@@ -22,7 +21,7 @@ pub fn rates_at(
     numbers: &mut [u32; 32],
     rows: &mut [u8; 192],
 ) -> read_elements::Empty
-    requires { ⌜ end ≤ length (now s) ⌝ }
+    requires { ⌜ Bounded (now s) end ⌝ }
     requires { ⌜ Blank (now figure) (now numbers) (now rows) ⌝ }
     ensures { λ r. ⌜ whole r (now (figure .exit)) (now (numbers .exit)) (now (rows .exit)) ≡ shown noCharge ((rates trunk) .read (now (s .entry)) at end) ⌝ }
 {
@@ -52,7 +51,7 @@ fn price_in(
     numbers: &mut [u32; 32],
     rows: &mut [u8; 192],
 ) -> read_elements::Empty
-    requires { ⌜ end ≤ length (now s) ⌝ }
+    requires { ⌜ Bounded (now s) end ⌝ }
     requires { ⌜ Blank (now figure) (now numbers) (now rows) ⌝ }
     ensures { λ r. ⌜ whole r (now (figure .exit)) (now (numbers .exit)) (now (rows .exit)) ≡ shown noCharge ((amountBy operation) .read (now (s .entry)) at end) ⌝ }
     ensures clear { λ _. ⌜ Clear (now (figure .exit)) ⌝ }
@@ -78,7 +77,7 @@ fn priced_at(
     numbers: &mut [u32; 32],
     rows: &mut [u8; 192],
 ) -> read_elements::Empty
-    requires { ⌜ end ≤ length (now s) ⌝ }
+    requires { ⌜ Bounded (now s) end ⌝ }
     requires { ⌜ Blank (now figure) (now numbers) (now rows) ⌝ }
     ensures { λ r. ⌜ whole r (now (figure .exit)) (now (numbers .exit)) (now (rows .exit)) ≡ shown noCharge ((pricedOf operation) .read (now (s .entry)) at end) ⌝ }
     ensures clear { λ _. ⌜ Clear (now (figure .exit)) ⌝ }
@@ -133,7 +132,7 @@ fn settled_at(
     numbers: &mut [u32; 32],
     rows: &mut [u8; 192],
 ) -> read_elements::Empty
-    requires { ⌜ end ≤ length (now s) ⌝ }
+    requires { ⌜ Bounded (now s) end ⌝ }
     requires { ⌜ Blank (now figure) (now numbers) (now rows) ⌝ }
     ensures { λ r. ⌜ whole r (now (figure .exit)) (now (numbers .exit)) (now (rows .exit)) ≡ shown noCharge ((settledOf operation) .read (now (s .entry)) at end) ⌝ }
     ensures clear { λ _. ⌜ Unassociated (now (figure .exit)) ⌝ }
@@ -154,7 +153,7 @@ fn figure_at(
     numbers: &mut [u32; 32],
     rows: &mut [u8; 192],
 ) -> read_elements::Empty
-    requires { ⌜ end ≤ length (now s) ⌝ }
+    requires { ⌜ Bounded (now s) end ⌝ }
     requires { ⌜ Blank (now figure) (now numbers) (now rows) ⌝ }
     ensures { λ r. ⌜ whole r (now (figure .exit)) (now (numbers .exit)) (now (rows .exit)) ≡ shown noCharge ((figureOf operation) .read (now (s .entry)) at end) ⌝ }
 {
@@ -202,7 +201,7 @@ pub fn charge_into(
     numbers: &mut [u32; 32],
     rows: &mut [u8; 192],
 ) -> read_elements::Empty
-    requires { ⌜ end ≤ length (now s) ⌝ }
+    requires { ⌜ Bounded (now s) end ⌝ }
     requires { ⌜ Blank (now figure) (now numbers) (now rows) ⌝ }
     ensures { λ r. ⌜ whole r (now (figure .exit)) (now (numbers .exit)) (now (rows .exit)) ≡ shown noCharge ((available operation) .read (now (s .entry)) at end) ⌝ }
 {

@@ -2,13 +2,13 @@
 ghost use mathlib.Core.Path.{_≡_};
 ghost use mathlib.Core.Bool.{false, _&&_, _||_};
 ghost use Prim.Native.Nat.{_*_, _≤_, _<_};
-ghost use lib.ListN.{length};
 ghost use lib.Dec.{eqb};
 ghost use lib.Seq.{sets};
 ghost use Rattle.coding.specs.Reader.{tagged};
 ghost use Rattle.coding.specs.Shown.{shown, refusal};
 ghost use Rattle.types.specs.Entries.{noUnits, unit, unitNumbers, unitOctets};
 ghost use Rattle.read_terms.specs.Readers.{unitNumber, isTariff, isSubtotal, isMoney, typeBy, billingBy, framedBy};
+ghost use Rattle.read_lengths.specs.Bounds.{Bounded};
 
 pub struct UnitsRead {
     pub fault: u8,
@@ -36,7 +36,7 @@ fn no_units(fault: u8, place: usize) -> UnitsRead
 
 // A number of units, or NULL where it is not available.
 fn unit_number_at(s: &[u8], at: usize, end: usize) -> UnitsRead
-    requires { ⌜ end ≤ length (now s) ⌝ }
+    requires { ⌜ Bounded (now s) end ⌝ }
     ensures { λ r. ⌜ (r .fault, r .place, r .value, r .next) ≡ shown noUnits (unitNumber (now (s .entry)) at end) ⌝ }
 {
     if read_lengths::is_tag(s, at, end, 0x05) {
@@ -69,7 +69,7 @@ fn unit_number_at(s: &[u8], at: usize, end: usize) -> UnitsRead
 
 // An entry of a list of units.
 pub fn unit_at(s: &[u8], at: usize, end: usize) -> UnitsRead
-    requires { ⌜ end ≤ length (now s) ⌝ }
+    requires { ⌜ Bounded (now s) end ⌝ }
     ensures { λ r. ⌜ (r .fault, r .place, r .value, r .next) ≡ shown noUnits (unit .read (now (s .entry)) at end) ⌝ }
 {
     let e = read_lengths::open_at(s, at, end, 0x30);
@@ -124,7 +124,7 @@ pub fn is_tariff(operation: u8) -> bool
 
 // The argument of operation 32, and the special arrangement among the results of operation 30.
 pub fn is_arranged(s: &[u8], at: usize, end: usize, operation: u8) -> bool
-    requires { ⌜ end ≤ length (now s) ⌝ }
+    requires { ⌜ Bounded (now s) end ⌝ }
     ensures { λ r. ⌜ r ≡ eqb operation 32 || eqb operation 30 && tagged (now (s .entry)) at end 0x02 ⌝ }
 {
     if operation == 32 {
@@ -158,7 +158,7 @@ pub fn is_money(operation: u8) -> bool
 
 // 35 and 36 have a 30 around the charge and its association; 33 and 34 have none.
 pub fn frame_at(s: &[u8], at: usize, end: usize, operation: u8) -> read_lengths::Opened
-    requires { ⌜ end ≤ length (now s) ⌝ }
+    requires { ⌜ Bounded (now s) end ⌝ }
     ensures { λ r. ⌜ (r .fault, r .place, r .value, r .next) ≡ shown (record { start = 0; stop = 0 }) (framedBy (isSubtotal operation) (now (s .entry)) at end) ⌝ }
     ensures inside { λ r. ⌜ r .value .stop ≤ end ⌝ }
 {
@@ -178,7 +178,7 @@ pub fn frame_at(s: &[u8], at: usize, end: usize, operation: u8) -> read_lengths:
 
 // The type of 33 and 34; 35 and 36 have none.
 pub fn type_at(s: &[u8], at: usize, end: usize, operation: u8) -> read_elements::NumberRead
-    requires { ⌜ end ≤ length (now s) ⌝ }
+    requires { ⌜ Bounded (now s) end ⌝ }
     ensures { λ r. ⌜ (r .fault, r .place, r .value, r .next) ≡ shown 0 (typeBy (isSubtotal operation) (now (s .entry)) at end) ⌝ }
     ensures bounded { λ r. ⌜ r .value ≤ 1 ⌝ }
 {
@@ -195,7 +195,7 @@ pub fn type_at(s: &[u8], at: usize, end: usize, operation: u8) -> read_elements:
 
 // Optional billing: 83 to 2 in 33 and 34, 82 to 7 in 35 and 36.
 pub fn billing_at(s: &[u8], at: usize, end: usize, operation: u8) -> read_elements::ChosenRead
-    requires { ⌜ end ≤ length (now s) ⌝ }
+    requires { ⌜ Bounded (now s) end ⌝ }
     ensures { λ r. ⌜ (r .fault, r .place, r .value, r .next) ≡ shown (record { given = false; value = 0 }) (billingBy (isSubtotal operation) (now (s .entry)) at end) ⌝ }
     ensures bounded { λ r. ⌜ r .value .value ≤ 7 ⌝ }
 {

@@ -153,13 +153,15 @@ module _ {A : Type 0} (all : List ℕ) (tagOf : A → ℕ) (frameOf : ℕ → Ru
       → ((firstOf s ≡ 0xa4 → ⊥) → (a e : ℕ) → oneOf all (firstOf s) ≡ true → Begins s a e (firstOf s) ((frameOf (firstOf s)) .read s a e))
       → (i m : ℕ) × (identifierRead s ≡ got i m) × (callerOf (rejectTo n s) ≡ inr i)
   unfolding identifierOf oneOf
-  named-by g heads = by-length (ltb 254 (length s)) g
+  named-by g heads = by-length (ltb 254 (length s)) refl g
     where
-      by-length : (t : Bool) → isNamed (numberBy (cond t (halt (named 3) 0) ((frames all tagOf outside (named 5) frameOf) .read s 0 (length s)))) ≡ true
+      by-length : (t : Bool) → ltb 254 (length s) ≡ t → isNamed (numberBy (cond t (halt (named 3) 0) ((frames all tagOf outside (named 5) frameOf) .read s 0 (length s)))) ≡ true
           → (i m : ℕ) × (identifierRead s ≡ got i m) × (callerOf (rejectTo n s) ≡ inr i)
-      by-length true m = absurd (true≢false (sym m))
-      by-length false m =
-          let r = read-named all tagOf frameOf s (heads other) m in (r .0, r .1, r .2, sent n (firstOf s) (identifierOf s) h ∙ ap inr (ap valueOr0 (r .2)))
+      by-length true l m = absurd (true≢false (sym m))
+      by-length false l m =
+          let r = read-named all tagOf frameOf s (heads other) m in
+          let i : identifierOf s ≡ r .0 = rw l (ap valueOr0 (r .2)) in
+          (r .0, r .1, r .2, sent n (firstOf s) (identifierOf s) h ∙ ap inr i)
 
 -- where a reply is sent for a refusal that names the component
 pub named-reply : (s : List ℕ) → isSilent s ≡ false → isNamed (readOf s .number) ≡ true

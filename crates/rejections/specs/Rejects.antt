@@ -4,7 +4,7 @@ use mathlib.Core.List.{List, [], _∷_}
 use mathlib.Core.Bool.{Bool, _||_, cond}
 use mathlib.Core.Logic.{inl, inr}
 use lib.ListN.{length, getD}
-use lib.Dec.{leb, eqb}
+use lib.Dec.{ltb, leb, eqb}
 use Rattle.coding.specs.Reader.{Ans, after, enteredAny}
 use Rattle.coding.specs.Reader.Ans.{got, halt}
 use Rattle.coding.specs.Reader.Fault.{named}
@@ -27,8 +27,9 @@ abbrev pub valueOr0 : Ans ℕ → ℕ
 valueOr0 (got i n) = i
 valueOr0 (halt w p) = 0
 
+-- Over 254 octets are not opened: their reply, to refusal 3, names no component.
 unfoldable pub identifierOf : List ℕ → ℕ
-identifierOf s = valueOr0 (identifierRead s)
+identifierOf s = cond (ltb 254 (length s)) 0 (valueOr0 (identifierRead s))
 
 -- none for an accepted component or where the first octet is A4
 abbrev pub isSilentTo : ℕ → List ℕ → Bool

@@ -13,13 +13,16 @@ pub fn first_of(octets: &[u8]) -> u8
     octets[0]
 }
 
-// The identifier of a component whose contents can be entered; 0 where none can be read.
+// The identifier of a component whose contents can be entered; 0 where none can be read, or where there are over 254 octets, which are not opened.
 // It opens the component by itself: `read_heads::enter` stays with one caller, and is compiled into it.
 pub fn identifier_of(octets: &[u8]) -> u16
     ensures { λ r. ⌜ r ≡ identifierOf (now (octets .entry)) ⌝ }
 {
     let n = octets.len();
     if n == 0 {
+        return 0;
+    }
+    if 254 < n {
         return 0;
     }
     let tag = octets[0];

@@ -1,5 +1,5 @@
 -- Every reply is a reject that may be written, of at most nine octets, and it is read back.
-use Rattle.prelude.proofs.Prelude.{ℕ, _+_, _≤_, _<_, arith, _≡_, refl, ap, _∙_, Bool, true, false, cond, _⊎_, inl, inr, List, [], _++_, length, length-append, leb, eqb, eq-eqb, ltb-true}
+use Rattle.prelude.proofs.Prelude.{ℕ, _+_, _≤_, _<_, arith, _≡_, refl, ap, _∙_, Bool, true, false, cond, _⊎_, inl, inr, List, [], _++_, length, length-append, ltb, leb, eqb, eq-eqb, ltb-true}
 use Rattle.prelude.proofs.Prelude.{le-leb}
 use Rattle.coding.{specs.Reader.Ans, specs.Reader.after, specs.Reader.enteredAny, specs.Reader.Ans.got, specs.Reader.Ans.halt, specs.Reader.Fault.named, specs.Codec.prim}
 use Rattle.coding.{specs.Leaves.identifier, specs.Written.lead, specs.Written.fullNumber, specs.declared.Extent.Extent, proofs.Basic.and-both, proofs.Laws.Octets, proofs.Combine.primLaws}
@@ -88,7 +88,7 @@ small-entered s os (halt w p) q = omega arith
 
 pub identifier-small : (s : List ℕ) → Octets s → identifierOf s < 0x10000
 unfolding identifierOf
-identifier-small s os = small-entered s os (enteredAny tags outside (named 5) s 0 (length s)) refl
+identifier-small s os = pick (λ i. i < 0x10000) (ltb 254 (length s)) _ _ (λ _. omega arith) (λ _. small-entered s os (enteredAny tags outside (named 5) s 0 (length s)) refl)
 
 pub reply-sent : (s : List ℕ) → Octets s → Sent (replyTo s)
 unfolding replyTo

@@ -3,8 +3,7 @@
 // What is read is stored in the parts that are lent: a front of 48 octets, an extension of 244, a figure of 48 and a list's two arrays.
 ghost use mathlib.Core.Path.{_≡_};
 ghost use mathlib.Core.Bool.{true};
-ghost use Prim.Native.Nat.{_≤_};
-ghost use lib.ListN.{length, replicate};
+ghost use lib.ListN.{replicate};
 ghost use Rattle.coding.specs.Codec.{oneOf};
 ghost use Rattle.coding.specs.Shown.{shown};
 ghost use Rattle.types.specs.Arguments.{noCharge};
@@ -15,6 +14,7 @@ ghost use Rattle.trunks.specs.Components.{trunkOperations};
 ghost use Rattle.trunks.specs.Stored.{extensionIn};
 ghost use Rattle.trunk_fields.specs.Fields.{Spare, inner};
 ghost use Rattle.trunk_bodies.specs.Bodied.{Bare, bodied, chargeFor, innerOf};
+ghost use Rattle.read_lengths.specs.Bounds.{Bounded};
 
 // The charge of 61, 62 or 63.
 fn charge_at(
@@ -26,7 +26,7 @@ fn charge_at(
     numbers: &mut [u32; 32],
     rows: &mut [u8; 192],
 ) -> read_elements::Empty
-    requires { ⌜ end ≤ length (now s) ⌝ }
+    requires { ⌜ Bounded (now s) end ⌝ }
     requires { ⌜ Blank (now figure) (now numbers) (now rows) ⌝ }
     ensures { λ r. ⌜ whole r (now (figure .exit)) (now (numbers .exit)) (now (rows .exit)) ≡ shown noCharge ((chargeFor form) .read (now (s .entry)) at end) ⌝ }
 {
@@ -53,7 +53,7 @@ fn inner_at(
     numbers: &mut [u32; 32],
     rows: &mut [u8; 192],
 ) -> read_elements::Empty
-    requires { ⌜ end ≤ length (now s) ⌝ }
+    requires { ⌜ Bounded (now s) end ⌝ }
     requires { ⌜ (now front ≡ replicate 48 0) × Blank (now figure) (now numbers) (now rows) ⌝ }
     ensures { λ r. ⌜ inner r (now (front .exit)) (storedCharge (now (figure .exit)) (now (numbers .exit)) (now (rows .exit))) ≡ shown noBody ((innerOf form) .read (now (s .entry)) at end) ⌝ }
     ensures spare { λ _. ⌜ Spare (now (front .exit)) ⌝ }
@@ -90,7 +90,7 @@ fn extended_at(
     numbers: &mut [u32; 32],
     rows: &mut [u8; 192],
 ) -> read_elements::Empty
-    requires { ⌜ end ≤ length (now s) ⌝ }
+    requires { ⌜ Bounded (now s) end ⌝ }
     requires { ⌜ Bare (now front) (now lent) (now figure) (now numbers) (now rows) ⌝ }
     ensures { λ r. ⌜ bodied r (now (front .exit)) (now (lent .exit)) (storedCharge (now (figure .exit)) (now (numbers .exit)) (now (rows .exit))) ≡ shown noBody ((extended (innerOf form)) .read (now (s .entry)) at end) ⌝ }
     ensures spare { λ _. ⌜ Spare (now (front .exit)) ⌝ }
@@ -124,7 +124,7 @@ fn extended_at(
 
 // 60: 05 00, or an extension by itself.
 fn dummy_at(s: &[u8], at: usize, end: usize, lent: &mut [u8; 244]) -> read_elements::Empty
-    requires { ⌜ end ≤ length (now s) ⌝ }
+    requires { ⌜ Bounded (now s) end ⌝ }
     requires { ⌜ now lent ≡ replicate 244 0 ⌝ }
     ensures { λ r. ⌜ (r .fault, r .place, stored noBody (r .fault) (extending (extensionIn (now (lent .exit)))), r .next) ≡ shown noBody (dummy .read (now (s .entry)) at end) ⌝ }
 {
@@ -146,7 +146,7 @@ pub fn argument_at(
     numbers: &mut [u32; 32],
     rows: &mut [u8; 192],
 ) -> read_elements::Empty
-    requires { ⌜ (end ≤ length (now s)) × (oneOf trunkOperations operation ≡ true) ⌝ }
+    requires { ⌜ Bounded (now s) end × (oneOf trunkOperations operation ≡ true) ⌝ }
     requires { ⌜ Bare (now front) (now lent) (now figure) (now numbers) (now rows) ⌝ }
     ensures { λ r. ⌜ bodied r (now (front .exit)) (now (lent .exit)) (storedCharge (now (figure .exit)) (now (numbers .exit)) (now (rows .exit))) ≡ shown noBody ((argumentOf operation) .read (now (s .entry)) at end) ⌝ }
     ensures spare { λ _. ⌜ Spare (now (front .exit)) ⌝ }
@@ -169,7 +169,7 @@ pub fn result_at(
     numbers: &mut [u32; 32],
     rows: &mut [u8; 192],
 ) -> read_elements::Empty
-    requires { ⌜ end ≤ length (now s) ⌝ }
+    requires { ⌜ Bounded (now s) end ⌝ }
     requires { ⌜ Bare (now front) (now lent) (now figure) (now numbers) (now rows) ⌝ }
     ensures { λ r. ⌜ bodied r (now (front .exit)) (now (lent .exit)) (storedCharge (now (figure .exit)) (now (numbers .exit)) (now (rows .exit))) ≡ shown noBody ((resultOf operation) .read (now (s .entry)) at end) ⌝ }
     ensures spare { λ _. ⌜ Spare (now (front .exit)) ⌝ }

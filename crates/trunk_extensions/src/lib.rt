@@ -11,6 +11,7 @@ ghost use Rattle.types.specs.Stored.{stored};
 ghost use Rattle.trunks.specs.Extensions.{arcs, objectIdentifier, inOne, inList, extensionBy, noExtension, extensionAt, someExtension, extension, parameter};
 ghost use Rattle.trunks.specs.Stored.{extensionIn};
 ghost use Rattle.trunk_extensions.specs.Judges.{judgeOf};
+ghost use Rattle.read_lengths.specs.Bounds.{Bounded};
 
 // A number that is to begin here does so with 80.
 fn begins_badly(fresh: bool, x: u8) -> bool
@@ -55,7 +56,7 @@ fn identifier_in(s: &[u8], start: usize, stop: usize) -> u8
 }
 
 fn identifier_at(s: &[u8], at: usize, end: usize) -> read_elements::Empty
-    requires { ⌜ end ≤ length (now s) ⌝ }
+    requires { ⌜ Bounded (now s) end ⌝ }
     ensures { λ r. ⌜ (r .fault, r .place, tt, r .next) ≡ shown tt (primitive 0x06 objectIdentifier (now (s .entry)) at end) ⌝ }
 {
     let e = read_lengths::open_at(s, at, end, 0x06);
@@ -71,7 +72,7 @@ fn identifier_at(s: &[u8], at: usize, end: usize) -> read_elements::Empty
 
 // One element of any tag, its length with a number, not looked into.
 fn tile_at(s: &[u8], at: usize, end: usize) -> read_elements::Empty
-    requires { ⌜ end ≤ length (now s) ⌝ }
+    requires { ⌜ Bounded (now s) end ⌝ }
     ensures { λ r. ⌜ (r .fault, r .place, tt, r .next) ≡ shown tt (tile (now (s .entry)) at end) ⌝ }
 {
     if end <= at {
@@ -86,7 +87,7 @@ fn tile_at(s: &[u8], at: usize, end: usize) -> read_elements::Empty
 
 // 06 identifier, and one element of any tag.
 fn one_at(s: &[u8], at: usize, end: usize) -> read_elements::Empty
-    requires { ⌜ end ≤ length (now s) ⌝ }
+    requires { ⌜ Bounded (now s) end ⌝ }
     ensures { λ r. ⌜ (r .fault, r .place, tt, r .next) ≡ shown tt (inOne (now (s .entry)) at end) ⌝ }
 {
     let i = identifier_at(s, at, end);
@@ -98,7 +99,7 @@ fn one_at(s: &[u8], at: usize, end: usize) -> read_elements::Empty
 
 // An entry of a list: 30 with one, its length with a number.
 fn entry_at(s: &[u8], at: usize, end: usize) -> read_elements::Empty
-    requires { ⌜ end ≤ length (now s) ⌝ }
+    requires { ⌜ Bounded (now s) end ⌝ }
     ensures { λ r. ⌜ (r .fault, r .place, tt, r .next) ≡ shown tt (counted·in 0x30 inOne (now (s .entry)) at end) ⌝ }
 {
     if end <= at {
@@ -123,7 +124,7 @@ fn entry_at(s: &[u8], at: usize, end: usize) -> read_elements::Empty
 
 // Any number of entries, up to the end.
 fn list_at(s: &[u8], at: usize, end: usize) -> read_elements::Empty
-    requires { ⌜ end ≤ length (now s) ⌝ }
+    requires { ⌜ Bounded (now s) end ⌝ }
     ensures { λ r. ⌜ (r .fault, r .place, tt, r .next) ≡ shown tt (inList (now (s .entry)) at end) ⌝ }
 {
     if end <= at {
@@ -150,7 +151,7 @@ fn list_at(s: &[u8], at: usize, end: usize) -> read_elements::Empty
 
 // One, or a list where the kind is 2.
 fn inside_at(s: &[u8], at: usize, end: usize, kind: u8) -> read_elements::Empty
-    requires { ⌜ end ≤ length (now s) ⌝ }
+    requires { ⌜ Bounded (now s) end ⌝ }
     ensures { λ r. ⌜ (r .fault, r .place, tt, r .next) ≡ shown tt (judgeOf kind (now (s .entry)) at end) ⌝ }
 {
     if kind == 2 {
@@ -203,7 +204,7 @@ fn extension_at(
     kind: u8,
     lent: &mut [u8; 244],
 ) -> read_elements::Empty
-    requires { ⌜ end ≤ length (now s) ⌝ }
+    requires { ⌜ Bounded (now s) end ⌝ }
     requires { ⌜ now lent ≡ replicate 244 0 ⌝ }
     ensures { λ r. ⌜ (r .fault, r .place, stored noExtension (r .fault) (extensionIn (now (lent .exit))), r .next) ≡ shown noExtension ((extensionAt tag kind (judgeOf kind)) .read (now (s .entry)) at end) ⌝ }
 {
@@ -223,7 +224,7 @@ fn extension_at(
 
 // One or a list, or none.
 pub fn extension_if(s: &[u8], at: usize, end: usize, lent: &mut [u8; 244]) -> read_elements::Empty
-    requires { ⌜ end ≤ length (now s) ⌝ }
+    requires { ⌜ Bounded (now s) end ⌝ }
     requires { ⌜ now lent ≡ replicate 244 0 ⌝ }
     ensures { λ r. ⌜ (r .fault, r .place, stored noExtension (r .fault) (extensionIn (now (lent .exit))), r .next) ≡ shown noExtension (extension .read (now (s .entry)) at end) ⌝ }
 {
@@ -238,7 +239,7 @@ pub fn extension_if(s: &[u8], at: usize, end: usize, lent: &mut [u8; 244]) -> re
 
 // One or a list.
 pub fn some_at(s: &[u8], at: usize, end: usize, lent: &mut [u8; 244]) -> read_elements::Empty
-    requires { ⌜ end ≤ length (now s) ⌝ }
+    requires { ⌜ Bounded (now s) end ⌝ }
     requires { ⌜ now lent ≡ replicate 244 0 ⌝ }
     ensures { λ r. ⌜ (r .fault, r .place, stored noExtension (r .fault) (extensionIn (now (lent .exit))), r .next) ≡ shown noExtension (someExtension .read (now (s .entry)) at end) ⌝ }
 {
@@ -250,7 +251,7 @@ pub fn some_at(s: &[u8], at: usize, end: usize, lent: &mut [u8; 244]) -> read_el
 
 // The optional parameter of error 1008.
 pub fn parameter_at(s: &[u8], at: usize, end: usize, lent: &mut [u8; 244]) -> read_elements::Empty
-    requires { ⌜ end ≤ length (now s) ⌝ }
+    requires { ⌜ Bounded (now s) end ⌝ }
     requires { ⌜ now lent ≡ replicate 244 0 ⌝ }
     ensures { λ r. ⌜ (r .fault, r .place, stored noExtension (r .fault) (extensionIn (now (lent .exit))), r .next) ≡ shown noExtension (parameter .read (now (s .entry)) at end) ⌝ }
 {

@@ -5,7 +5,7 @@
 ghost use mathlib.Core.Path.{_≡_};
 ghost use mathlib.Core.Bool.{true, false};
 ghost use Prim.Native.Nat.{_≤_, _<_};
-ghost use lib.ListN.{length, replicate};
+ghost use lib.ListN.{replicate};
 ghost use Rattle.coding.specs.Leaves.{given};
 ghost use Rattle.coding.specs.Shown.{shown};
 ghost use Rattle.types.specs.Charges.{noAssociation};
@@ -15,12 +15,13 @@ ghost use Rattle.read_figures.specs.Beside.{Unassociated, SameBeside};
 ghost use Rattle.trunks.specs.Bodies.{noBody, billings, figures, modes, detail, address, network};
 ghost use Rattle.trunk_fields.specs.Readers.{figured};
 ghost use Rattle.trunk_fields.specs.Fields.{Spare, inner, inModes, users, diverting};
+ghost use Rattle.read_lengths.specs.Bounds.{Bounded};
 
 // ---- the figure of 61 and 62, in the figure's octets alone
 
 // Optional billing, never 1.
 fn billing_at(s: &[u8], at: usize, end: usize, most: u32) -> read_elements::ChosenRead
-    requires { ⌜ (end ≤ length (now s)) × (most ≤ 7) ⌝ }
+    requires { ⌜ Bounded (now s) end × (most ≤ 7) ⌝ }
     ensures { λ r. ⌜ (r .fault, r .place, r .value, r .next) ≡ shown (record { given = false; value = 0 }) ((given 0x82 (billings most)) .read (now (s .entry)) at end) ⌝ }
     ensures bounded { λ r. ⌜ r .value .value ≤ 7 ⌝ }
 {
@@ -47,7 +48,7 @@ fn priced_at(
     most: u32,
     figure: &mut [u8; 48],
 ) -> read_elements::Empty
-    requires { ⌜ (end ≤ length (now s)) × (most ≤ 7) ⌝ }
+    requires { ⌜ Bounded (now s) end × (most ≤ 7) ⌝ }
     requires { ⌜ now figure ≡ replicate 48 0 ⌝ }
     ensures { λ r. ⌜ figured r (now (figure .exit)) ≡ shown noCharge ((ending (billings most) (inMoney true)) .read (now (s .entry)) at end) ⌝ }
     ensures free { λ _. ⌜ Unassociated (now (figure .exit)) ⌝ }
@@ -88,7 +89,7 @@ fn figure_at(
     most: u32,
     figure: &mut [u8; 48],
 ) -> read_elements::Empty
-    requires { ⌜ (end ≤ length (now s)) × (most ≤ 7) ⌝ }
+    requires { ⌜ Bounded (now s) end × (most ≤ 7) ⌝ }
     requires { ⌜ now figure ≡ replicate 48 0 ⌝ }
     ensures { λ r. ⌜ figured r (now (figure .exit)) ≡ shown noCharge ((figures most) .read (now (s .entry)) at end) ⌝ }
     ensures free { λ _. ⌜ Unassociated (now (figure .exit)) ⌝ }
@@ -104,7 +105,7 @@ fn figure_at(
 
 // The charge of 62.
 pub fn interim_at(s: &[u8], at: usize, end: usize, figure: &mut [u8; 48]) -> read_elements::Empty
-    requires { ⌜ end ≤ length (now s) ⌝ }
+    requires { ⌜ Bounded (now s) end ⌝ }
     requires { ⌜ now figure ≡ replicate 48 0 ⌝ }
     ensures { λ r. ⌜ figured r (now (figure .exit)) ≡ shown noCharge ((figures 2) .read (now (s .entry)) at end) ⌝ }
 {
@@ -113,7 +114,7 @@ pub fn interim_at(s: &[u8], at: usize, end: usize, figure: &mut [u8; 48]) -> rea
 
 // The charge of 61 and its association, which may be a private number.
 pub fn final_at(s: &[u8], at: usize, end: usize, figure: &mut [u8; 48]) -> read_elements::Empty
-    requires { ⌜ end ≤ length (now s) ⌝ }
+    requires { ⌜ Bounded (now s) end ⌝ }
     requires { ⌜ now figure ≡ replicate 48 0 ⌝ }
     ensures { λ r. ⌜ figured r (now (figure .exit)) ≡ shown noCharge ((withAssociation true (figures 7)) .read (now (s .entry)) at end) ⌝ }
 {
@@ -138,7 +139,7 @@ pub fn detail_at(
     most: u32,
     front: &mut [u8; 48],
 ) -> read_elements::Empty
-    requires { ⌜ (end ≤ length (now s)) × (most < 7) ⌝ }
+    requires { ⌜ Bounded (now s) end × (most < 7) ⌝ }
     requires { ⌜ now front ≡ replicate 48 0 ⌝ }
     ensures { λ r. ⌜ inner r (now (front .exit)) noCharge ≡ shown noBody ((detail most) .read (now (s .entry)) at end) ⌝ }
     ensures spare { λ _. ⌜ Spare (now (front .exit)) ⌝ }
@@ -159,7 +160,7 @@ pub fn users_at(
     front: &mut [u8; 48],
     figure: &mut [u8; 48],
 ) -> read_elements::Empty
-    requires { ⌜ end ≤ length (now s) ⌝ }
+    requires { ⌜ Bounded (now s) end ⌝ }
     requires { ⌜ (now front ≡ replicate 48 0) × (now figure ≡ replicate 48 0) ⌝ }
     ensures { λ r. ⌜ inner r (now (front .exit)) (storedCharge (now (figure .exit)) (replicate 32 0) (replicate 192 0)) ≡ shown noBody (users .read (now (s .entry)) at end) ⌝ }
     ensures spare { λ _. ⌜ Spare (now (front .exit)) ⌝ }
@@ -183,7 +184,7 @@ pub fn diverting_at(
     front: &mut [u8; 48],
     figure: &mut [u8; 48],
 ) -> read_elements::Empty
-    requires { ⌜ end ≤ length (now s) ⌝ }
+    requires { ⌜ Bounded (now s) end ⌝ }
     requires { ⌜ (now front ≡ replicate 48 0) × (now figure ≡ replicate 48 0) ⌝ }
     ensures { λ r. ⌜ inner r (now (front .exit)) (storedCharge (now (figure .exit)) (replicate 32 0) (replicate 192 0)) ≡ shown noBody (diverting .read (now (s .entry)) at end) ⌝ }
     ensures spare { λ _. ⌜ Spare (now (front .exit)) ⌝ }
@@ -206,7 +207,7 @@ pub fn diverting_at(
 
 // 0 to 7 modes, up to the end of the enclosing element.
 fn modes_in(s: &[u8], at: usize, end: usize, front: &mut [u8; 48]) -> read_elements::Empty
-    requires { ⌜ end ≤ length (now s) ⌝ }
+    requires { ⌜ Bounded (now s) end ⌝ }
     requires { ⌜ now front ≡ replicate 48 0 ⌝ }
     ensures { λ r. ⌜ inner r (now (front .exit)) noCharge ≡ shown noBody (inModes (now (s .entry)) at end) ⌝ }
     ensures spare { λ _. ⌜ Spare (now (front .exit)) ⌝ }
@@ -237,7 +238,7 @@ fn modes_in(s: &[u8], at: usize, end: usize, front: &mut [u8; 48]) -> read_eleme
 
 // 59: those in a 30.
 pub fn modes_at(s: &[u8], at: usize, end: usize, front: &mut [u8; 48]) -> read_elements::Empty
-    requires { ⌜ end ≤ length (now s) ⌝ }
+    requires { ⌜ Bounded (now s) end ⌝ }
     requires { ⌜ now front ≡ replicate 48 0 ⌝ }
     ensures { λ r. ⌜ inner r (now (front .exit)) noCharge ≡ shown noBody (modes .read (now (s .entry)) at end) ⌝ }
     ensures spare { λ _. ⌜ Spare (now (front .exit)) ⌝ }
@@ -266,7 +267,7 @@ fn address_at(
     tag: u8,
     figure: &mut [u8; 48],
 ) -> read_elements::Empty
-    requires { ⌜ end ≤ length (now s) ⌝ }
+    requires { ⌜ Bounded (now s) end ⌝ }
     requires { ⌜ Unassociated (now figure) ⌝ }
     ensures { λ r. ⌜ (r .fault, r .place, stored noAssociation (r .fault) (associationIn (now (figure .exit))), r .next) ≡ shown noAssociation ((address tag) .read (now (s .entry)) at end) ⌝ }
     ensures rest { λ _. ⌜ SameBeside (now (figure .entry)) (now (figure .exit)) ⌝ }
@@ -285,7 +286,7 @@ pub fn network_at(
     front: &mut [u8; 48],
     figure: &mut [u8; 48],
 ) -> read_elements::Empty
-    requires { ⌜ end ≤ length (now s) ⌝ }
+    requires { ⌜ Bounded (now s) end ⌝ }
     requires { ⌜ (now front ≡ replicate 48 0) × (now figure ≡ replicate 48 0) ⌝ }
     ensures { λ r. ⌜ inner r (now (front .exit)) (storedCharge (now (figure .exit)) (replicate 32 0) (replicate 192 0)) ≡ shown noBody (network .read (now (s .entry)) at end) ⌝ }
     ensures spare { λ _. ⌜ Spare (now (front .exit)) ⌝ }

@@ -2,9 +2,9 @@
 //
 // What is read is stored in the parts that are lent. A body is stored first, and the lead last: it is all in the first eight octets of the front, which no body uses.
 ghost use mathlib.Core.Path.{_≡_};
-ghost use Prim.Native.Nat.{ℕ, _≤_};
+ghost use Prim.Native.Nat.{ℕ};
 ghost use mathlib.Core.List.{List};
-ghost use lib.ListN.{length, replicate};
+ghost use lib.ListN.{replicate};
 ghost use Rattle.coding.specs.Shown.{shown};
 ghost use Rattle.types.specs.declared.Charge.{Charge};
 ghost use Rattle.types.specs.Arguments.{noCharge};
@@ -14,6 +14,7 @@ ghost use Rattle.trunks.specs.Stored.{extensionIn, bodyIn, trunkIn};
 ghost use Rattle.trunks.specs.Components.{noTrunk, leadBy, trunkBy, trunkError, rejected, facility};
 ghost use Rattle.trunk_fields.specs.Fields.{Spare};
 ghost use Rattle.trunk_frames.specs.Framed.{framed, failure};
+ghost use Rattle.read_lengths.specs.Bounds.{Bounded};
 
 // The lead, put into a front that holds a body.
 pub fn keep_lead(
@@ -47,7 +48,7 @@ fn failing_at(
     error: u16,
     lent: &mut [u8; 244],
 ) -> read_elements::Empty
-    requires { ⌜ end ≤ length (now s) ⌝ }
+    requires { ⌜ Bounded (now s) end ⌝ }
     requires { ⌜ now lent ≡ replicate 244 0 ⌝ }
     ensures { λ r. ⌜ (r .fault, r .place, stored noExtension (r .fault) (extensionIn (now (lent .exit))), r .next) ≡ shown noExtension ((failure error) .read (now (s .entry)) at end) ⌝ }
 {
@@ -65,7 +66,7 @@ pub fn error_at(
     front: &mut [u8; 48],
     lent: &mut [u8; 244],
 ) -> read_elements::Empty
-    requires { ⌜ end ≤ length (now s) ⌝ }
+    requires { ⌜ Bounded (now s) end ⌝ }
     requires { ⌜ (now front ≡ replicate 48 0) × (now lent ≡ replicate 244 0) ⌝ }
     ensures { λ r. ⌜ framed r (now (front .exit)) (now (lent .exit)) noCharge ≡ shown noTrunk (trunkError .read (now (s .entry)) at end) ⌝ }
     ensures spare { λ _. ⌜ Spare (now (front .exit)) ⌝ }
@@ -90,7 +91,7 @@ pub fn error_at(
 
 // A4: as document 01 has it.
 pub fn reject_at(s: &[u8], at: usize, end: usize, front: &mut [u8; 48]) -> read_elements::Empty
-    requires { ⌜ end ≤ length (now s) ⌝ }
+    requires { ⌜ Bounded (now s) end ⌝ }
     requires { ⌜ now front ≡ replicate 48 0 ⌝ }
     ensures { λ r. ⌜ framed r (now (front .exit)) (replicate 244 0) noCharge ≡ shown noTrunk (rejected .read (now (s .entry)) at end) ⌝ }
     ensures spare { λ _. ⌜ Spare (now (front .exit)) ⌝ }
@@ -116,7 +117,7 @@ pub fn facility_at(
     front: &mut [u8; 48],
     figure: &mut [u8; 48],
 ) -> read_elements::Empty
-    requires { ⌜ end ≤ length (now s) ⌝ }
+    requires { ⌜ Bounded (now s) end ⌝ }
     requires { ⌜ (now front ≡ replicate 48 0) × (now figure ≡ replicate 48 0) ⌝ }
     ensures { λ r. ⌜ framed r (now (front .exit)) (replicate 244 0) (storedCharge (now (figure .exit)) (replicate 32 0) (replicate 192 0)) ≡ shown noTrunk (facility .read (now (s .entry)) at end) ⌝ }
     ensures spare { λ _. ⌜ Spare (now (front .exit)) ⌝ }

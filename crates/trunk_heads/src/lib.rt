@@ -12,6 +12,7 @@ ghost use Rattle.types.specs.Frames.{outside, value};
 ghost use Rattle.trunks.specs.Components.{trunkOperations, answerable, trunkErrors, tags};
 ghost use Rattle.read_heads.specs.Heads.{outsideCode};
 ghost use Rattle.trunk_heads.specs.Known.{knownIn, unknownIn};
+ghost use Rattle.read_lengths.specs.Bounds.{Bounded};
 
 // ---- operation and error values
 
@@ -111,7 +112,7 @@ fn value_in(s: &[u8], start: usize, stop: usize, frame: u8) -> read_elements::Ve
 }
 
 pub fn value_at(s: &[u8], at: usize, end: usize, frame: u8) -> read_elements::NumberRead
-    requires { ⌜ end ≤ length (now s) ⌝ }
+    requires { ⌜ Bounded (now s) end ⌝ }
     ensures { λ r. ⌜ (r .fault, r .place, r .value, r .next) ≡ shown 0 ((value (unknownIn frame) (knownIn frame)) .read (now (s .entry)) at end) ⌝ }
     ensures bounded { λ r. ⌜ r .value < 1017 ⌝ }
     ensures known { λ r. ⌜ (r .fault ≡ 0 → oneOf (knownIn frame) (r .value) ≡ true) ⌝ }
@@ -204,6 +205,7 @@ fn is_frame(tag: u8) -> bool
 
 // Its first octet, its length, its end, and nothing after it.
 pub fn enter(s: &[u8]) -> read_lengths::Opened
+    requires { ⌜ length (now s) ≤ 257 ⌝ }
     ensures { λ r. ⌜ (r .fault, r .place, r .value, r .next) ≡ shown (record { start = 0; stop = 0 }) (enteredAny tags outside (named 5) (now (s .entry)) 0 (length (now (s .entry)))) ⌝ }
     ensures there { λ r. ⌜ ((r .fault ≡ 0) → (0 < length (now (s .entry)))) ⌝ }
     ensures inside { λ r. ⌜ r .value .stop ≤ length (now (s .entry)) ⌝ }

@@ -12,6 +12,7 @@ ghost use Rattle.trunk_fields.specs.Fields.{Spare};
 ghost use Rattle.trunk_bodies.specs.Bodied.{Bare};
 ghost use Rattle.trunk_frames.specs.Framed.{framed};
 ghost use Rattle.trunk_read.specs.Whole.{wholeTrunk};
+ghost use Rattle.read_lengths.specs.Bounds.{Bounded};
 
 // ---- frames
 
@@ -26,7 +27,7 @@ fn invoke_at(
     numbers: &mut [u32; 32],
     rows: &mut [u8; 192],
 ) -> read_elements::Empty
-    requires { ⌜ end ≤ length (now s) ⌝ }
+    requires { ⌜ Bounded (now s) end ⌝ }
     requires { ⌜ Bare (now front) (now lent) (now figure) (now numbers) (now rows) ⌝ }
     ensures { λ r. ⌜ framed r (now (front .exit)) (now (lent .exit)) (storedCharge (now (figure .exit)) (now (numbers .exit)) (now (rows .exit))) ≡ shown noTrunk (trunkInvoke .read (now (s .entry)) at end) ⌝ }
     ensures spare { λ _. ⌜ Spare (now (front .exit)) ⌝ }
@@ -70,7 +71,7 @@ fn answer_at(
     numbers: &mut [u32; 32],
     rows: &mut [u8; 192],
 ) -> read_elements::Empty
-    requires { ⌜ end ≤ length (now s) ⌝ }
+    requires { ⌜ Bounded (now s) end ⌝ }
     requires { ⌜ Bare (now front) (now lent) (now figure) (now numbers) (now rows) ⌝ }
     ensures { λ r. ⌜ framed r (now (front .exit)) (now (lent .exit)) (storedCharge (now (figure .exit)) (now (numbers .exit)) (now (rows .exit))) ≡ shown noTrunk (trunkResult .read (now (s .entry)) at end) ⌝ }
     ensures spare { λ _. ⌜ Spare (now (front .exit)) ⌝ }
@@ -124,7 +125,7 @@ fn frame_at(
     numbers: &mut [u32; 32],
     rows: &mut [u8; 192],
 ) -> read_elements::Empty
-    requires { ⌜ end ≤ length (now s) ⌝ }
+    requires { ⌜ Bounded (now s) end ⌝ }
     requires { ⌜ Bare (now front) (now lent) (now figure) (now numbers) (now rows) ⌝ }
     ensures { λ r. ⌜ framed r (now (front .exit)) (now (lent .exit)) (storedCharge (now (figure .exit)) (now (numbers .exit)) (now (rows .exit))) ≡ shown noTrunk ((trunkFrame tag) .read (now (s .entry)) at end) ⌝ }
     ensures spare { λ _. ⌜ Spare (now (front .exit)) ⌝ }
@@ -155,6 +156,7 @@ fn component_at(
     numbers: &mut [u32; 32],
     rows: &mut [u8; 192],
 ) -> read_elements::Empty
+    requires { ⌜ length (now s) ≤ 257 ⌝ }
     requires { ⌜ Bare (now front) (now lent) (now figure) (now numbers) (now rows) ⌝ }
     ensures { λ r. ⌜ framed r (now (front .exit)) (now (lent .exit)) (storedCharge (now (figure .exit)) (now (numbers .exit)) (now (rows .exit))) ≡ shown noTrunk (trunkComponent .read (now (s .entry)) 0 (length (now (s .entry)))) ⌝ }
     ensures spare { λ _. ⌜ Spare (now (front .exit)) ⌝ }

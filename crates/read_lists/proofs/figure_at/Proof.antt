@@ -1,10 +1,10 @@
 -- Each return by the answers that led to it.
-use Rattle.prelude.proofs.Prelude.{needs, arith, _≡_, refl, sym, _∙_, _≤_, length}
+use Rattle.prelude.proofs.Prelude.{needs, arith, _≡_, refl, sym, _∙_}
 use Rattle.coding.{specs.Shown.shown, proofs.Reading.reading, proofs.Reading.step, proofs.Reading.shut}
 use Rattle.types.specs.{Arguments.noCharge, Stored.storedCharge}
 use Rattle.read_figures.{specs.Beside.Unassociated, proofs.Answers.storing, proofs.Answers.goes}
 use Rattle.read_lists.specs.Readers.{figureOf}
-use Rattle.read_lengths.proofs.Answers.{passed}
+use Rattle.read_lengths.{specs.Bounds.Bounded, proofs.Answers.passed}
 use Rattle.read_lists.proofs.{Stores.none-stored, Stores.association-stored, Steps.ended, Steps.parties, Steps.parties-none, Steps.figure-read, figure_at.Statement.statement}
 use Rattle.read_lists.proofs.figure_at.Tie as tie
 
@@ -19,8 +19,11 @@ settled : (c : tie.Else3) →
     let o = e .frame-at .result in
     (shown noCharge (parties (storedCharge (w .0) (w .1 .0) (w .1 .1 .0)) (g .s .now) (p .settled-at .result .next) (o .value .stop) (o .next))
     ≡ shown noCharge ((figureOf (g .operation)) .read (g .s .now) (g .at) (g .end)))
-    × Unassociated (w .0) × (o .value .stop ≤ length (g .s .now))
-settled c = (rw figure-read (search (passed, goes, step, refl) depth 8), search, omega arith)
+    × Unassociated (w .0) × Bounded (g .s .now) (o .value .stop)
+settled c =
+    let e = c .before .before .before .before .before .before .before .before .before .before in
+    let b = e .before .before .pre .0 in
+    (rw figure-read (search (passed, goes, step, refl) depth 8), search, (omega (arith, b .0), omega (arith, b .1)))
 
 pub figure-at-spec : {M : Type 1} → statement M
 figure-at-spec =

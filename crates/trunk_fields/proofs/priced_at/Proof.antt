@@ -1,8 +1,9 @@
 -- Each return by the answers that led to it.
-use Rattle.prelude.proofs.Prelude.{needs, arith, _≡_, refl, _∙_, _≤_, length, drop, replicate, true}
+use Rattle.prelude.proofs.Prelude.{needs, arith, _≡_, refl, _∙_, _≤_, drop, replicate, true}
 use Rattle.coding.{specs.Reader.after, specs.Reader.closed, specs.Shown.shown, proofs.Reading.reading, proofs.Reading.step, proofs.Reading.shut, proofs.Reading.remains}
 use Rattle.types.specs.{Arguments.plain, Arguments.moneyFigure, Arguments.noCharge, Arguments.inMoney, Arguments.ending, Stored.moneyIn}
 use Rattle.types.proofs.Stored.{money-unassociated}
+use Rattle.read_lengths.specs.Bounds.{Bounded}
 use Rattle.read_figures.proofs.Answers.{storing, surplus, goes}
 use Rattle.read_lists.proofs.Steps.{inner, shut-in}
 use Rattle.trunks.specs.Bodies.{billings}
@@ -22,8 +23,11 @@ amount : (c : tie.Else3) →
     (shown noCharge (after (closed (plain (moneyFigure (moneyIn w))) (p .money-at .result .next) (i .value .stop) (i .next)) (λ x k.
     billed (g .most) x (g .s .now) k (o .value .stop) (o .next)))
     ≡ shown noCharge ((ending (billings (g .most)) (inMoney true)) .read (g .s .now) (g .at) (g .end)))
-    × (drop 16 w ≡ replicate 32 0) × (o .value .stop ≤ length (g .s .now)) × (g .most ≤ 7)
-amount c = (rw priced-read (search (goes, step, refl) depth 8), search, omega arith, omega arith)
+    × (drop 16 w ≡ replicate 32 0) × Bounded (g .s .now) (o .value .stop) × (g .most ≤ 7)
+amount c =
+    let e = c .before .before .before .before .before .before .before .before .before in
+    let b = e .before .before .pre .0 in
+    (rw priced-read (search (goes, step, refl) depth 8), search, (omega (arith, b .0 .0), omega (arith, b .0 .1)), omega (arith, b .1))
 
 pub priced-at-spec : {M : Type 1} → statement M
 priced-at-spec =

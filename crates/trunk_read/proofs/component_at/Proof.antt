@@ -1,5 +1,5 @@
 -- Each return by the answers that led to it.
-use Rattle.prelude.proofs.Prelude.{needs, refl}
+use Rattle.prelude.proofs.Prelude.{arith, needs, refl}
 use Rattle.coding.proofs.Reading.{stay, step}
 use Rattle.read_figures.proofs.Answers.{refused, surplus, arrived}
 use Rattle.trunk_fields.proofs.Stores.{zero-spare}
@@ -12,14 +12,14 @@ component-at-spec =
     (tie.spec (search needs) (search needs)
     (λ c.
     let e = c .before .before .before in
-    (rw component-read (refused _ _ (c .halted .ensures) (c .before .if1 .taken) (stay _ _ _ _ (e .enter .ensures .0) (c .before .if1 .taken))), zero-spare (e .before .before .pre .front-bare)))
+    (rw component-read (refused _ _ (c .halted .ensures) (c .before .if1 .taken) (stay _ _ _ _ (e .enter .ensures .0) (c .before .if1 .taken))), zero-spare (e .before .before .pre .1 .front-bare)))
     (λ c. let g = c .before in g .before .before .enter .ensures .1 .0 (g .if1 .left))
     (λ c κs.
     let a = c .before .before in
     let b = a .before .before in
     let g = b .before .before in
     let e = g .before .before in
-    (e .enter .ensures .1 .1, e .before .before .pre)) (search needs)
+    ((e .enter .ensures .1 .1, omega (arith, e .enter .ensures .1 .1)), e .before .before .pre .1)) (search needs)
     (λ c.
     let f = c .before .before .before in
     let a = f .before .before .before in

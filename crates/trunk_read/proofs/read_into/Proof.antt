@@ -1,5 +1,5 @@
 -- The length, then the component, then its answer.
-use Rattle.prelude.proofs.Prelude.{needs, refl, ap, sym, _∙_}
+use Rattle.prelude.proofs.Prelude.{arith, needs, refl, ap, sym, _∙_}
 use Rattle.coding.specs.Reader.{part}
 use Rattle.types.specs.Stored.{figureIn}
 use Rattle.trunks.specs.{Stored.bodyIn, Stored.trunkIn, Components.noTrunk, Components.trunkAccepted}
@@ -12,7 +12,7 @@ unfolding trunkIn bodyIn figureIn part
 read-into-spec =
     tie.close
     (tie.spec (λ c. (too-long _ (c .if1 .taken), refl))
-    (λ c κs. record { front-bare = refl; extension-bare = refl; charge-bare = record { figure-blank = refl; numbers-blank = refl; rows-blank = refl } })
+    (λ c κs. (omega arith, record { front-bare = refl; extension-bare = refl; charge-bare = record { figure-blank = refl; numbers-blank = refl; rows-blank = refl } }))
     (λ c.
     let r = c .before .before in
     let a = r .before .before .before in

@@ -7,7 +7,7 @@ value-at-spec =
     tie.close (tie.spec
     (omega arith) (omega arith) (omega arith) (λ c. omega (arith, c .before .before .before .tiny .ensures .1 .1 (omega arith) .inside))
     (λ c. let t = c .before .before .before in (
-      tiny-value _ _ _ _ (t .before .before .pre) (t .tiny .ensures .1 .1 (omega arith)) _ _ (c .before .before .if1 .taken)
+      tiny-value _ _ _ _ (t .before .before .pre .0) (t .tiny .ensures .1 .1 (omega arith)) _ _ (c .before .before .if1 .taken)
           (sym (c .before .is-known .ensures) ∙ c .if2 .taken),
       omega arith,
     ))
