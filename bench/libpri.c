@@ -12,7 +12,7 @@ unsigned char *rose_encode(struct pri *, unsigned char *from, unsigned char *end
 enum { USER_SIDE = 2, ETSI = 5, QSIG = 10 };
 
 static struct pri *control;
-static uint64_t record[2048];
+static uint64_t record[2048], records[8][2048];
 
 static int no_line(struct pri *p, void *octets, int n)
 {
@@ -34,6 +34,8 @@ void start_side(void)
 #else
     control = pri_new_cb(0, USER_SIDE, ETSI, no_line, no_line, NULL);
 #endif
+    for (int i = 0; i < 8; i++)
+        rose_decode(control, row[i].octets, row[i].octets + row[i].length, records[i]);
 }
 
 int rewrite(const uint8_t *octets, size_t length, uint8_t *buffer, size_t room)
@@ -56,4 +58,11 @@ static unsigned rewrite_one(long i)
     return (unsigned)rewrite(row[i & 7].octets, row[i & 7].length, buffer, sizeof buffer);
 }
 
-const struct job jobs[] = {{"read", read_one, 9, 1}, {"rewrite", rewrite_one, 9, 1}, {0}};
+static unsigned write_one(long i)
+{
+    uint8_t buffer[254];
+    unsigned char *end = rose_encode(control, buffer, buffer + sizeof buffer, records[i & 7]);
+    return end ? (unsigned)(end - buffer) : 0;
+}
+
+const struct job jobs[] = {{"read", read_one, 9, 1}, {"rewrite", rewrite_one, 9, 1}, {"write", write_one, 1, 1}, {0}};

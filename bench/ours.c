@@ -2,20 +2,31 @@
 #include "aoc.h"
 #include "side.h"
 
-/* A Facility element of the row's eight components. */
-static uint8_t element[257];
-static size_t element_length;
+/* A Facility element of the row's eight components, one of C1 alone, and the row as records. */
+static struct element {
+    uint8_t octets[257];
+    size_t length;
+} eight, one;
+static aoc_answer records[8];
+
+static void lay(struct element *e, int components)
+{
+    size_t n = 3;
+    for (int i = 0; i < components; i++)
+        for (size_t k = 0; k < row[i].length; k++)
+            e->octets[n++] = row[i].octets[k];
+    e->octets[0] = 0x1C;
+    e->octets[1] = (uint8_t)(n - 2);
+    e->octets[2] = 0x91;
+    e->length = n;
+}
 
 void start_side(void)
 {
-    size_t n = 3;
+    lay(&eight, 8);
+    lay(&one, 1);
     for (int i = 0; i < 8; i++)
-        for (size_t k = 0; k < row[i].length; k++)
-            element[n++] = row[i].octets[k];
-    element[0] = 0x1C;
-    element[1] = (uint8_t)(n - 2);
-    element[2] = 0x91;
-    element_length = n;
+        aoc_read(row[i].octets, row[i].length, &records[i]);
 }
 
 int rewrite(const uint8_t *octets, size_t length, uint8_t *buffer, size_t room)
@@ -40,15 +51,36 @@ static unsigned rewrite_one(long i)
     return (unsigned)rewrite(row[i & 7].octets, row[i & 7].length, buffer, sizeof buffer);
 }
 
-static unsigned element_one(long i)
+static unsigned write_one(long i)
 {
-    (void)i;
+    uint8_t buffer[254];
+    return aoc_write(&records[i & 7].record, buffer, sizeof buffer).count;
+}
+
+/* Goes through an element up to its last component: where the place is the length there is no further one. */
+static unsigned through(const struct element *e)
+{
     aoc_answer a;
     unsigned frames = 0;
     size_t place = AOC_FIRST_PLACE;
-    while (aoc_next(element, element_length, &place, &a))
+    while (aoc_next(e->octets, e->length, &place, &a)) {
         frames += a.record.frame;
+        if (place == e->length)
+            break;
+    }
     return frames;
+}
+
+static unsigned element_one(long i)
+{
+    (void)i;
+    return through(&eight);
+}
+
+static unsigned single_one(long i)
+{
+    (void)i;
+    return through(&one);
 }
 
 /* A call of nine events: Setup that asks for D, Connect, C1 (ignored), C4 (granted), C1, Clear, C2, C2 again, Released. */
@@ -75,4 +107,5 @@ static unsigned step_one(long i)
 }
 
 const struct job jobs[] = {
-    {"read", read_one, 9, 1}, {"rewrite", rewrite_one, 9, 1}, {"element", element_one, 1, 8}, {"step", step_one, 1, 1}, {0}};
+    {"read", read_one, 9, 1},       {"rewrite", rewrite_one, 9, 1}, {"write", write_one, 1, 1}, {"element", element_one, 1, 8},
+    {"single", single_one, 1, 1}, {"step", step_one, 1, 1},       {0}};

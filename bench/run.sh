@@ -78,10 +78,10 @@ fi
 of() { awk -v job="$3" -v choice="$4" '$1 == job && $2 == choice { print $3 }' "$work/$1.$2" 2>/dev/null; } # SIDE WHAT JOB CHOICE
 part() { echo "$1 $2" | awk 'NF == 2 && $2 > 0 { printf "%.2f", $1 / $2 }'; }
 round() { echo "$1" | awk 'NF { s = sprintf($1 < 10 ? "%.1f" : "%.0f", $1); if (length(s) > 3 && s !~ /\./) s = substr(s, 1, length(s) - 3) "," substr(s, length(s) - 2); print s }'; }
-line() { # NAME JOB PEER
+line() { # NAME JOB PEER [CHOICE]
     row="| $1 |"
     for what in instructions ns; do
-        a=$(of ours $what "$2" 0) b=$(of "$3" $what "$2" 0)
+        a=$(of ours $what "$2" "${4:-0}") b=$(of "$3" $what "$2" "${4:-0}")
         if [ $what = ns ] || [ "$2" = lines ]; then row="$row $a | $b | $(part "$a" "$b") |"; else row="$row $(round "$a") | $(round "$b") | $(part "$a" "$b") |"; fi
     done
     echo "$row"
@@ -100,8 +100,11 @@ tables() {
     echo '| for each | instructions | libpri | part | ns | libpri | part |'
     echo '|---|---|---|---|---|---|---|'
     line 'component read' read libpri
+    line 'component with an amount (C1) read' read libpri 1
     line 'component read and written' rewrite libpri
-    line 'element of eight components, gone through' element libpri
+    line 'component written alone' write libpri
+    line 'element of eight components, gone through up to its length' element libpri
+    line 'element of one component (C1), likewise' single libpri
     line 'event of an account' step libpri
     line 'character of the line program (beside a bare hex echo)' lines echo
     echo

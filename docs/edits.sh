@@ -6,7 +6,8 @@ cd "$(dirname "$0")/.." || exit 2
 page=docs/EDITS.md
 
 # fact LOG: what the log's first error says that does not follow from another one. It fails where that shows no fact: an edit that the
-# proof does not fit by its shape (a name or a field that is not there), or a rewriting that finds nothing.
+# proof does not fit by its shape (a name or a field that is not there, an argument where the need has none, a pointer for a number, another
+# loan's lifetimes), a rewriting that finds nothing, a search that met its own bound, or words that are none of those below.
 fact() {
     python3 - "$1" <<'PYTHON'
 import re, sys
@@ -30,10 +31,16 @@ place = re.sub(r"^proofs/(?:(\w+)/)?(\w+)/Proof\.antt$", lambda m: (m[1] + "::" 
 head = says.split("\n")[0]
 if "no occurrence" in head or "no equation of the list" in head:
     sys.exit(f"{sys.argv[1]}: {place}, {need}: the proof's rewriting finds nothing, which shows nothing")
+HINTS = ("list the missing equation", "met a bound of its own", "replace that `_`", "does not unfold here", "took more than")
+if any(words in head for words in HINTS):
+    sys.exit(f"{sys.argv[1]}: {place}, {need}: the prover gives a hint and no fact: {head}")
 sides = re.findall(r"one has `([^`]*)`\s*\(expected\)(?:, [^`]*`[^`]*`)?,?\s*and the other has `([^`]*)`", says)
 sides = [s for s in sides if max(map(len, s)) <= 40 and "𝓤" not in s[0]]  # 𝓤 differs in print alone
 ends = re.search(r"the two types are `Path \S+ (\S+) (\S+)` \(expected\)", says)  # the equality that was to be proved, computed
 values = re.search(r"(?:goal|part) fails, at ((?:[^.]|\.(?=\S)){1,160})\. ", says)
+shape = "is expected here" in head and head or sides and re.search(r"mir\.Syntax\.ty\w*|\.lifetimes", " ".join(sides[-1]))
+if shape:
+    sys.exit(f"{sys.argv[1]}: {place}, {need}: refused by its shape ({shape if isinstance(shape, str) else shape[0]}), which shows nothing")
 if sides:
     what = f"`{sides[-1][0]}` against `{sides[-1][1]}`"
 elif ends:
@@ -47,7 +54,7 @@ elif "two ends are equal" in says or "last argument" in head:
 elif "differ" in head or "expected type" in says:
     what = ""  # two types that differ, too long to tell
 else:
-    what = head[:80].replace("|", "\\|")
+    sys.exit(f"{sys.argv[1]}: {place}, {need}: no fact that this script knows: {head}")
 print(f"`{place}`: `{need}`" + (f"; {what}" if what else ""))
 PYTHON
 }

@@ -3,8 +3,8 @@
 #                           docs/HOST.md: its return address, its own frame and the deepest of what it calls; those of the C library apart (memcpy, memmove, memset).
 # sh docs/stack.sh write    puts that table into docs/HOST.md.
 # The frames are read off the machine code (objdump or llvm-objdump): pushes and what is taken off the stack pointer. After a jump or a
-# return the depth counts as the function's deepest so far, so a figure may be too high and not too low. A function that calls itself
-# is counted as often as DEEP says.
+# return the depth counts as the function's deepest so far, so a figure may be too high and not too low. Functions that call themselves
+# by the octets are counted together as often as the octets allow, another one as often as DEEP says.
 cd "$(dirname "$0")/.." || exit 2
 page=docs/HOST.md
 sh tools/archive || exit 1
@@ -15,13 +15,16 @@ for tool in objdump llvm-objdump; do
 done
 grep -q '%rsp' "$work/code" 2>/dev/null || { echo "stack: no objdump that reads x86-64"; exit 1; }
 python3 - "$work/code" >"$work/table" <<'END' || exit 1
-import re, sys
+import functools, re, sys
 
 APART = {"memcpy", "memmove", "memset"}
-# The search for an end marker goes on past two octets or more at each call, up to an end that the proofs bound; one more call finds
-# nothing left.
+# These go on past two octets or more at each call, of themselves or of one another, up to an end that the proofs bound: so all of them
+# together are called so often, one more finding nothing left.
+BY_OCTETS = {"read_lengths::find_end", "any_elements::forms_size", "any_elements::put_forms"}
 bound = int(re.search(r"\(end ≤ (\d+)\)", open("crates/read_lengths/specs/Bounds.antt", encoding="utf-8").read())[1])
-DEEP = {"read_lengths::find_end": (bound + 1) // 2 + 1, "write_elements::put_digits": 5}
+CALLS = (bound + 1) // 2 + 1
+DEEP = {"write_elements::put_digits": 5}
+sys.setrecursionlimit(10000)
 frames, calls, name, at_call = {}, {}, None, None
 depth = deepest = 0
 for line in open(sys.argv[1]):
@@ -65,13 +68,21 @@ for line in open(sys.argv[1]):
         depth = deepest
 
 
-def most(name, above=()):
+@functools.cache
+def most(name, left=CALLS, above=()):
+    """What a call takes where that many calls by the octets may come yet; above: the functions on the way that may not come again."""
     if name in above:
         sys.exit(f"stack: {name} is called from what it calls")
-    itself = [at for callee, at in calls[name] if callee == name]
-    if itself and name not in DEEP:
-        sys.exit(f"stack: {name} calls itself, and DEEP does not say how often")
-    below = [at + most(callee, above + (name,)) for callee, at in calls[name] if callee not in APART and callee != name]
+    if name in BY_OCTETS:
+        if left == 0:
+            return 0
+        left, above, itself = left - 1, (), []
+    else:
+        above += (name,)
+        itself = [at for callee, at in calls[name] if callee == name]
+        if itself and name not in DEEP:
+            sys.exit(f"stack: {name} calls itself, and neither BY_OCTETS nor DEEP says how often")
+    below = [at + most(callee, left, above) for callee, at in calls[name] if callee not in APART and not (itself and callee == name)]
     return max([frames[name]] + below) + (max(itself) * (DEEP[name] - 1) if itself else 0)
 
 

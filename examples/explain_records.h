@@ -1,7 +1,6 @@
 /* Of explain.c: what it prints of a record of either family, by the element names of ETS 300 182-1 and of ECMA-212; whole, or in one
  * line. */
-#include "aoc_text.h"
-#include <stdio.h>
+#include "common.h"
 
 #define NAME(names, number) ((number) < sizeof (names) / sizeof *(names) ? (names)[number] : "?")
 

@@ -63,8 +63,13 @@ static size_t requests(aoc_services asked, aoc_identifiers ids, uint8_t *element
 static void facility(struct call *call, const uint8_t *octets, size_t length)
 {
     aoc_answer answer;
-    size_t place = AOC_FIRST_PLACE, from = place;
-    for (; aoc_next(octets, length, &place, &answer); from = place) {
+    size_t place = AOC_FIRST_PLACE;
+    do {
+        size_t from = place;
+        if (!aoc_next(octets, length, &place, &answer)) {
+            printf("%s\n", aoc_refusal_text(answer.refusal));
+            return;
+        }
         if (answer.refusal == AOC_REFUSED_OTHER_PROFILE)
             continue;           /* of a trunk, which no account takes */
         aoc_outcome outcome = take(call, aoc_event_of(AOC_EVENT_COMPONENT), octets + from, place - from);
@@ -72,9 +77,7 @@ static void facility(struct call *call, const uint8_t *octets, size_t length)
             uint8_t reject[AOC_LIMIT_REPLY_OCTETS];
             print_octets("to send back", reject, aoc_reply(octets + from, place - from, reject, sizeof reject).count);
         }
-    }
-    if (answer.refusal)
-        printf("%s\n", aoc_refusal_text(answer.refusal));
+    } while (place < length);
 }
 
 int main(void)

@@ -4,9 +4,8 @@
  * line that is no octets, or has not even a profile octet.
  *
  * Reading and writing are the library's; the lines are tested by tests/trunks.sh and not proved.
- * Status: 0; 2 where the input cannot be read or the output cannot be written. */
-#include <stdio.h>
-#include "aoc.h"
+ * Status: 0, whatever the answers are; 1 where something could not be read or written; 2 for usage. */
+#include "common.h"
 
 /* One octet past the longest component is kept, which is enough to be told that it is too long. */
 enum { KEPT = AOC_LIMIT_COMPONENT_OCTETS + 1 };
@@ -20,11 +19,6 @@ struct line {
     bool bad;
 };
 
-static int digit(int c)
-{
-    return c >= '0' && c <= '9' ? c - '0' : c >= 'A' && c <= 'F' ? c - 'A' + 10 : c >= 'a' && c <= 'f' ? c - 'a' + 10 : -1;
-}
-
 static void keep(struct line *line, uint8_t octet)
 {
     if (line->count == 0)
@@ -35,7 +29,7 @@ static void keep(struct line *line, uint8_t octet)
 }
 
 /* One character of a line: digits in pairs, and one space between two pairs. */
-static void take(struct line *line, int c)
+static void take(struct line *line, char c)
 {
     int value = digit(c);
     if (line->first >= 0 && value >= 0) {
@@ -51,13 +45,6 @@ static void take(struct line *line, int c)
     }
 }
 
-static void put_octets(const uint8_t *octets, size_t count)
-{
-    for (size_t i = 0; i < count; i++)
-        printf(i ? " %02X" : "%02X", octets[i]);
-    puts("");
-}
-
 static void answer(const struct line *line)
 {
     aoc_either found;
@@ -69,33 +56,28 @@ static void answer(const struct line *line)
         printf("refused %u\n", (unsigned)found.refusal);
     } else {
         aoc_written again = aoc_write_by(line->profile, &found, written, sizeof written);
-        put_octets(written, again.count);
+        put_octets(stdout, written, again.count);
+        puts("");
     }
 }
 
-static int fail(const char *why)
-{
-    fprintf(stderr, "trunks: %s\n", why);
-    return 2;
-}
+static const char help[] =
+    "usage: trunks [FILE..]\n"
+    "\n"
+    "Components of both families, from FILE.. or standard input, read and written again in their shortest form: each line is\n"
+    "octets in hex with one space between them, the profile octet of the component's element first, 91 or 9F.\n"
+    "Status: 0, whatever the answers are; 1 where something could not be read or written; 2 for usage.\n";
 
-int main(void)
+int main(int arguments, char **argument)
 {
-    static const struct line fresh = {.first = -1};
-    struct line line = fresh;
-    bool begun = false;         /* something stands on the line */
-    for (int c = getchar(); c != EOF; c = getchar()) {
-        begun = c != '\n';
-        if (begun) {
-            take(&line, c);
-        } else {
-            answer(&line);
-            line = fresh;
-        }
-    }
-    if (ferror(stdin))
-        return fail("the input cannot be read");
-    if (begun)
+    const char *why;
+    take_arguments("trunks", help, arguments, argument, NULL);
+    input.as_is = true;
+    while (next_line(&why)) {
+        struct line line = {.first = -1, .bad = why != NULL};
+        for (const char *c = input.text; *c; c++)
+            take(&line, *c);
         answer(&line);
-    return fflush(stdout) || ferror(stdout) ? fail("the output cannot be written") : 0;
+    }
+    return ended();
 }

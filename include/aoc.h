@@ -1,17 +1,19 @@
 /* Advice of Charge (ETS 300 182-1) for a host in C or C++: the library libaoc.a, for x86-64. The library for aarch64 is the same
  * proved module under another back end: tested, and not the proof's target (docs/TRUST.md).
  *
- * A function marked "Proved." is an export of the library. It is proved to return, for whatever octets, records and accounts
- * it is handed, the one answer that its words fix (docs/CONTRACTS.md). It allocates nothing, keeps nothing between calls and
- * touches no memory but its arguments', so calls on different memory may run in different threads.
- * A function marked "Inline." is C in this header: it is tested, not proved.
+ * A function marked "Proved." is an export of the library. For any octets, records and accounts it is proved to return the one
+ * answer that its comment describes (docs/CONTRACTS.md). It allocates nothing, stores nothing between calls and touches no memory
+ * but that of its arguments, so calls on different memory may run in different threads.
+ * A function marked "Inline" is C in this header, and the mark says which kind: it passes its arguments to a proved function; it
+ * looks into a struct, whatever that holds; it computes; or it prints. A static analysis shows that no octets, records, accounts,
+ * numbers or buffer sizes give it undefined behaviour; that it does what its comment says is tested (docs/TRUST.md).
  *
- * What the host owes: a pointer is good for the length beside it (with length 0 it may be null), an account's pointer is good
- * for one account, and what is lent to be written overlaps nothing else lent to the same call.
+ * What the host owes: a pointer is valid for the length beside it (with length 0 it may be null), an account's pointer is valid
+ * for one account, and memory that a call writes overlaps nothing else that is passed to the same call.
  *
  * The numbers of refusals and outcomes, and what each means, are those of document 01 (docs/READINGS.md). Where a function
- * refuses, every other field of its answer is zero. docs/HOST.md goes through the life of a call; aoc_text.h has words for
- * the numbers. */
+ * refuses, every other field of its answer is zero. docs/HOST.md describes the life of a call; aoc_text.h has words for the
+ * numbers. */
 #ifndef AOC_H
 #define AOC_H
 
@@ -20,8 +22,8 @@
 #include <stdint.h>
 #include <string.h>
 
-#define AOC_VERSION 30001       /* 3.0.1: ten thousand times the first number, a hundred times the second, the third */
-#define AOC_VERSION_TEXT "3.0.1"
+#define AOC_VERSION 40000       /* 4.0.0: ten thousand times the first number, a hundred times the second, the third */
+#define AOC_VERSION_TEXT "4.0.0"
 
 #ifdef __cplusplus
 extern "C" {
@@ -33,9 +35,23 @@ extern "C" {
 #define AOC_INLINE static inline
 #endif
 
+/* A result that must be looked at: a compiler that can do it warns where one is dropped. (void) silences that, with every compiler
+ * here; it would not silence gcc's warn_unused_result, and so gcc has the attribute of C23 in older C too. */
+#ifndef AOC_MUST_USE
+#if (defined(__cplusplus) && __cplusplus >= 201703L) || (defined(__STDC_VERSION__) && __STDC_VERSION__ >= 202311L)
+#define AOC_MUST_USE [[nodiscard]]
+#elif defined(__clang__)
+#define AOC_MUST_USE __attribute__((warn_unused_result))
+#elif defined(__GNUC__) && __GNUC__ >= 10
+#define AOC_MUST_USE __extension__ [[nodiscard]]
+#else
+#define AOC_MUST_USE
+#endif
+#endif
+
 /* ------------------------------------------------------------------ numbers */
 
-/* A field that holds one of these numbers has a fixed width. Cast it to the type that is named here, and the compiler tells
+/* A field that holds one of these numbers has a fixed width. Cast it to the type that is named here, and the compiler warns
  * of a switch that leaves a case out: switch ((aoc_phase)aoc_phase_of(&call)) { .. }
  *
  * The families with words in aoc_text.h are tables: a row is a number's name, the number, and its words. */
@@ -227,7 +243,7 @@ typedef enum {
 
 /* A charge's `kind`. */
 typedef enum {
-    AOC_CHARGE_NONE = 0,        /* of a component: told not available; of an account: there is none */
+    AOC_CHARGE_NONE = 0,        /* of a component: reported not available; of an account: there is none */
     AOC_CHARGE_FREE = 1,
     AOC_CHARGE_MONEY = 2,
     AOC_CHARGE_UNITS = 3,
@@ -339,6 +355,20 @@ typedef enum {
 typedef enum { AOC_ENTITY_END = 0, AOC_ENTITY_ANY = 1 } aoc_entity;
 typedef enum { AOC_EXTENDED_NOT = 0, AOC_EXTENDED_ONCE = 1, AOC_EXTENDED_LIST = 2 } aoc_extended;
 
+/* First octets of components of a trunk that are for the exchange and not for its users: the network facility extension, the
+ * interpretation and the network protocol profile. */
+enum { AOC_FIRST_EXTENSION = 0xAA, AOC_FIRST_INTERPRETATION = 0x8B, AOC_FIRST_PROTOCOL_PROFILE = 0x92 };
+
+/* The value of an interpretation: what an exchange does with an invoke of the same element that no service of it knows. Without
+ * an interpretation it is rejected. The words are the names of ECMA-165, which has the numbers too. */
+#define AOC_INTERPRETATIONS(ROW)                                                                       \
+    ROW(AOC_INTERPRETATION_DISCARD, 0, "discardAnyUnrecognisedInvokePdu")                              \
+    ROW(AOC_INTERPRETATION_CLEAR, 1, "clearCallIfAnyInvokePduNotRecognised")                           \
+    ROW(AOC_INTERPRETATION_REJECT, 2, "rejectAnyUnrecognisedInvokePdu")                                \
+    ROW(AOC_INTERPRETATION_NONE, 255, "no interpretation")
+
+typedef enum { AOC_INTERPRETATIONS(AOC_ROW_NAME) } aoc_interpretation;
+
 /* Limits. */
 enum {
     AOC_LIMIT_COMPONENT_OCTETS = 254,
@@ -353,6 +383,9 @@ enum {
     AOC_LIMIT_MODES = 7,
     AOC_LIMIT_EXTENSION_OCTETS = 242,
     AOC_LIMIT_CHARGE_TEXT = 1200,       /* room for the whole text of any charge: see aoc_print_charge */
+    AOC_LIMIT_MESSAGE_OCTETS = 260,     /* what the data link of a D channel carries in one message, */
+    AOC_LIMIT_MESSAGE_NUMBERS = 1560,   /* and six numbers for each: the buffers for aoc_message_events */
+    AOC_LIMIT_FRONT_OCTETS = 11,        /* of what aoc_write_front writes */
     AOC_LIMIT_NUMBER = 16777215,        /* of an amount, units, a time */
     AOC_LIMIT_MONTH_FIGURES = 4096,
     AOC_LIMIT_MONTH_CURRENCIES = 16,
@@ -385,13 +418,13 @@ typedef struct {
     uint8_t digits[AOC_LIMIT_DIGITS];
 } aoc_association;
 
-/* An entry of a list of units; its number stands apart, in the charge's unit_numbers. aoc_unit_at has both. */
+/* An entry of a list of units; its number is apart, in the charge's unit_numbers. aoc_unit_at has both. */
 typedef struct {
     uint8_t known;              /* 1: the number is given; 0: not available */
     uint8_t type;               /* 1 to 16, or 0 for none */
 } aoc_unit;
 
-/* An entry of a list of rates; its numbers stand apart, in the charge's rate_numbers. aoc_rate_at has both. */
+/* An entry of a list of rates; its numbers are apart, in the charge's rate_numbers. aoc_rate_at has both. */
 typedef struct {
     uint8_t item;
     uint8_t kind;
@@ -445,7 +478,8 @@ typedef struct {
     uint8_t operation;
     uint8_t error;
     uint8_t problem;
-    uint8_t detail;             /* of an AOC_OPERATION_CHARGING_REQUEST invoke, or of a reject's problem */
+    uint8_t detail;             /* an AOC_OPERATION_CHARGING_REQUEST invoke: aoc_charging_case, which is no aoc_service;
+                                 * a reject: aoc_general_problem and its neighbours, by `problem`; else 0 */
     aoc_charge charge;
 } aoc_record;
 
@@ -460,7 +494,8 @@ typedef struct {
  * AOC_FRAME_EXTENSION: no AOC_ASSOCIATION_IDENTIFIER. charge: AOC_CHARGE_NONE, AOC_CHARGE_FREE or AOC_CHARGE_MONEY of
  * AOC_OPERATION_FINAL and AOC_OPERATION_INTERIM, AOC_CHARGE_NONE or AOC_CHARGE_RATES of AOC_OPERATION_RATE; its association is that
  * of AOC_OPERATION_FINAL, AOC_OPERATION_COMPLETE and AOC_OPERATION_DIVERSION, and the destination address of an
- * AOC_FRAME_EXTENSION. An extension's contents are kept octet for octet as they were received. */
+ * AOC_FRAME_EXTENSION. extension: the contents of a manufacturer's extension in their normal form, every length in its shortest
+ * octets. Others are no record: aoc_write_by refuses them, AOC_REFUSED_BAD_RECORD. */
 typedef struct {
     uint8_t frame;
     uint8_t unnamed;            /* 1: a reject with NULL in place of the identifier */
@@ -471,8 +506,10 @@ typedef struct {
     uint8_t asked;              /* how many modes */
     uint8_t modes[AOC_LIMIT_MODES];
     aoc_association user;
-    uint8_t detail;             /* see aoc_mode and its neighbours; or of a reject's problem */
-    uint8_t entity;
+    uint8_t detail;             /* an AOC_OPERATION_CHARGE_REQUEST result: aoc_mode; an AOC_OPERATION_COMPLETE result: aoc_option;
+                                 * an AOC_OPERATION_DIVERSION invoke: aoc_diversion; an AOC_FRAME_EXTENSION: aoc_entity of the
+                                 * source; a reject: aoc_general_problem and its neighbours, by `problem`; else 0 */
+    uint8_t entity;             /* an AOC_FRAME_EXTENSION: aoc_entity of the destination */
     uint8_t zero[4];
     uint8_t extended;           /* aoc_extended */
     uint8_t extent;             /* how many octets of extension */
@@ -544,7 +581,7 @@ typedef struct {
 } aoc_closing;
 
 typedef struct {
-    aoc_services absent;        /* told not available */
+    aoc_services absent;        /* reported not available */
     aoc_services conflict;      /* had a final that differs from the first */
 } aoc_marks;
 
@@ -563,42 +600,55 @@ uint32_t aoc_version(void);
 
 /* ------------------------------------------------------------------ components */
 
-/* Inline, over a proved function. Reads one component into an answer, whatever it holds. The record is what the octets mean,
- * each length in any of its forms; or the refusal is that of the first failure, and the record is zero. It returns the refusal.
- * With AOC_REFUSED_MISSING the offset is where the enclosing element's contents end, with 41 to 45 the place of the failing
- * element's tag: at least 8, and at most the length. A refusal writes the answer too, zeros for its record: what a refusal leaves
- * untouched is the buffer that a component is written to. */
+/* Inline, over a proved function. Reads one component into an answer, whatever the answer held. The record is what the octets
+ * mean, each length in any of its forms; or the refusal is that of the first failure, and the record is zero. It returns the
+ * refusal. With AOC_REFUSED_MISSING the offset is where the contents of the enclosing element end, with 41 to 45 the offset of the
+ * failing element's tag: at least 8, and at most the length. The answer is written on a refusal too. */
 AOC_INLINE aoc_refusal aoc_read(const uint8_t *octets, size_t length, aoc_answer *answer);
 
 /* Inline, over a proved function. Writes a record's shortest form: its octets are the first `count` of the buffer, at most
- * 254, and the others are as they were. Or AOC_REFUSED_BAD_RECORD, AOC_REFUSED_LONG_RECORD, AOC_REFUSED_NO_ROOM, the first
- * that fits, with the whole buffer as it was. A record that was read is never refused AOC_REFUSED_BAD_RECORD or
- * AOC_REFUSED_LONG_RECORD, and what is written reads back as the record. */
+ * 254, and the others are unchanged. Or it refuses, with the first of AOC_REFUSED_BAD_RECORD, AOC_REFUSED_LONG_RECORD and
+ * AOC_REFUSED_NO_ROOM that applies, and the whole buffer is unchanged. A record that was read is never refused
+ * AOC_REFUSED_BAD_RECORD or AOC_REFUSED_LONG_RECORD, and what is written reads back as the record. */
+AOC_MUST_USE
 AOC_INLINE aoc_written aoc_write(const aoc_record *record, uint8_t *buffer, size_t room);
 
 /* Proved. The reject to send for the octets of a component, written as aoc_write writes: for one that is refused and does not
  * begin with A4. Otherwise the count is 0: there is nothing to send. Refusal: AOC_REFUSED_NO_ROOM. */
+AOC_MUST_USE
 aoc_written aoc_reply(const uint8_t *octets, size_t length, uint8_t *buffer, size_t room);
 
-/* Inline, over a proved function. Goes through a whole Facility element, from its first octet (1C), which is place 0: reads the
- * component that begins at the place into an answer, as aoc_read does, moves the place to the one after it, and returns true; a
- * component that is refused does not stop the pass. The first begins at AOC_FIRST_PLACE.
- * It returns false, with the place as it was and a zero record, at the end (AOC_ACCEPTED), for a malformed element
+/* Inline, over a proved function. Iterates over the components of a whole Facility element. A place is an offset from its first
+ * octet (1C); the first component begins at AOC_FIRST_PLACE. The function reads the component at the place into an answer, as
+ * aoc_read does, moves the place to the offset after it, and returns true. A component that is refused does not end the iteration.
+ * It returns false, with the place unchanged and a zero record, at the end (AOC_ACCEPTED), for a malformed element
  * (AOC_REFUSED_BAD_ELEMENT, whatever the place) and for a place where no component begins (AOC_REFUSED_BAD_PLACE).
  * Each component of an element of a trunk (profile octet 9F) is AOC_REFUSED_OTHER_PROFILE: aoc_next_by reads both families.
  *
  *     size_t place = AOC_FIRST_PLACE, from = place;
- *     for (; aoc_next(element, length, &place, &answer); from = place) { .. element + from, place - from are its octets .. } */
+ *     for (; aoc_next(element, length, &place, &answer); from = place) { .. element + from, place - from are its octets .. }
+ *
+ * The last call, which finds the end, checks the whole element once more. A loop may stop where the place is the length:
+ * while (place < length && aoc_next(..)). Its first call reports a malformed element; with three octets or fewer it makes none. */
+AOC_MUST_USE
 AOC_INLINE bool aoc_next(const uint8_t *octets, size_t length, size_t *place, aoc_answer *answer);
 
-/* Proved. Writes the Facility element that holds components, laid end to end: 1C, its length, 91 and the octets as they are,
- * three more than they were. The components may be such as aoc_next goes through, read or refused: aoc_next gives the same ones
- * back in their order. AOC_REFUSED_BAD_ELEMENT for octets that no element holds: none, over 254, or no components laid end to
- * end; then AOC_REFUSED_NO_ROOM. A refusal leaves the buffer as it was, and else the rest of it is as it was. */
+/* Proved. Writes the Facility element round components that are end to end: 1C, its length, 91 and the octets unchanged, three
+ * octets more. The components may be any that aoc_next iterates over, read or refused: aoc_next returns the same ones in the same
+ * order. AOC_REFUSED_BAD_ELEMENT for octets that no element can have: none, over 254, or no components end to end; then
+ * AOC_REFUSED_NO_ROOM. A refusal leaves the buffer unchanged; otherwise the octets behind the element are unchanged. */
+AOC_MUST_USE
 aoc_written aoc_write_element(const uint8_t *octets, size_t length, uint8_t *buffer, size_t room);
 
-/* Inline. Writes the request for a service, with its identifier, as aoc_write does: an AOC_OPERATION_CHARGING_REQUEST invoke.
- * AOC_REFUSED_BAD_RECORD for a number that is no service. */
+/* Proved. The same by the profile octet, which is written in place of 91: AOC_REFUSED_OTHER_PROFILE, before all else, for another
+ * octet than AOC_PROFILE_LINE and AOC_PROFILE_TRUNK. aoc_next_by returns the same components. What is in front of a trunk's
+ * components (aoc_write_front) is passed together with them. */
+AOC_MUST_USE
+aoc_written aoc_write_element_by(uint8_t profile, const uint8_t *octets, size_t length, uint8_t *buffer, size_t room);
+
+/* Inline, over a proved function. Writes the request for a service, with its identifier, as aoc_write does: an
+ * AOC_OPERATION_CHARGING_REQUEST invoke. AOC_REFUSED_BAD_RECORD for a number that is no service. */
+AOC_MUST_USE
 AOC_INLINE aoc_written aoc_request(uint8_t service, uint16_t id, uint8_t *buffer, size_t room);
 
 /* ------------------------------------------------------------------ components of trunks, by their profile octet */
@@ -611,31 +661,81 @@ AOC_INLINE aoc_written aoc_request(uint8_t service, uint16_t id, uint8_t *buffer
 AOC_INLINE aoc_refusal aoc_read_by(uint8_t profile, const uint8_t *octets, size_t length, aoc_either *answer);
 
 /* Inline, over a proved function. As aoc_next, with the family that the element's own third octet names. */
+AOC_MUST_USE
 AOC_INLINE bool aoc_next_by(const uint8_t *octets, size_t length, size_t *place, aoc_either *answer);
 
 /* Inline, over a proved function. As aoc_write, of the record of the family that the profile octet names; the other record is not
  * looked at. AOC_REFUSED_OTHER_PROFILE, before all else, for another octet. */
+AOC_MUST_USE
 AOC_INLINE aoc_written aoc_write_by(uint8_t profile, const aoc_either *either, uint8_t *buffer, size_t room);
 
 /* Proved. As aoc_reply: AOC_REFUSED_OTHER_PROFILE and nothing written for another profile octet, before all else; and with
- * AOC_PROFILE_TRUNK nothing to send for a network facility extension (first octet AA) that is AOC_REFUSED_BAD_FRAME. The reject goes
- * back behind 1C, its length and the profile octet that was received.
- * Two kinds of component speak to the exchange and not to its users: those whose first octet is 8B (interpretation) or 92 (network
- * protocol profile), both AOC_REFUSED_UNKNOWN_COMPONENT. A HOST PASSES OVER THEM AND SENDS NO REJECT FOR THEM, though this
- * function, which goes by the letter, gives one. And where 8B 01 00 (discard) stands in an element, no reject is sent for
- * AOC_REFUSED_UNKNOWN_OPERATION in it either. */
+ * AOC_PROFILE_TRUNK nothing to send for a network facility extension (first octet AA) that is AOC_REFUSED_BAD_FRAME. The reject
+ * goes back in an element with the profile octet that was received (aoc_write_element_by).
+ * Two kinds of component are for the exchange and not for its users: those whose first octet is 8B (interpretation) or 92
+ * (network protocol profile), both AOC_REFUSED_UNKNOWN_COMPONENT. A HOST SKIPS THEM AND SENDS NO REJECT FOR THEM, though this
+ * function, which follows the documents literally, writes one. aoc_is_for_exchange finds them, and operations of other services. */
+AOC_MUST_USE
 aoc_written aoc_reply_by(uint8_t profile, const uint8_t *octets, size_t length, uint8_t *buffer, size_t room);
+
+/* Inline, looks into an answer. Whether a component, whose octets got this answer, is for the exchange and not for the charge
+ * client: the host sends no reject for it and passes it on. On a trunk these are the extension, the interpretation and the network
+ * protocol profile (AOC_FIRST_EXTENSION and its neighbours), and what another service of the exchange may know:
+ * AOC_REFUSED_UNKNOWN_OPERATION, AOC_REFUSED_UNKNOWN_ERROR, an invoke with a linked identifier, and a result with nothing but its
+ * identifier, which no operation of the charge client has. Where no service knows an invoke, aoc_interpretation_in says what to
+ * do. Results, errors and rejects that are read may answer another service's invoke too: their `id` says so. On a public line it
+ * is false. */
+AOC_INLINE bool aoc_is_for_exchange(const aoc_either *answer, const uint8_t *octets, size_t length);
+
+/* Inline, computes. What the sender of a whole Facility element wants done with an invoke in it that nobody knows: the
+ * aoc_interpretation of the element's first interpretation; AOC_INTERPRETATION_NONE where there is none, its value is none of
+ * ECMA-165's, or the element is not a trunk's. AOC_INTERPRETATION_DISCARD: send nothing. AOC_INTERPRETATION_CLEAR: clear the
+ * call.
+ * AOC_INTERPRETATION_REJECT and AOC_INTERPRETATION_NONE: send aoc_reply_by's reject. */
+AOC_INLINE uint8_t aoc_interpretation_in(const uint8_t *octets, size_t length);
+
+/* Inline, computes. The interpretation that ECMA-212 wants in front of an invoke of an operation: AOC_INTERPRETATION_DISCARD for
+ * AOC_OPERATION_FINAL, AOC_OPERATION_INTERIM, AOC_OPERATION_RATE and AOC_OPERATION_DIVERSION, AOC_INTERPRETATION_CLEAR for
+ * AOC_OPERATION_GET_FINAL_CHARGE, else AOC_INTERPRETATION_NONE. */
+AOC_INLINE uint8_t aoc_interpretation_of(uint8_t operation);
+
+/* Inline, computes. Writes what comes in front of a trunk's components, as aoc_write does: the network facility extension from
+ * an end exchange to an end exchange, and the interpretation, unless that is AOC_INTERPRETATION_NONE. AOC_REFUSED_BAD_RECORD for
+ * a number that is no aoc_interpretation, then AOC_REFUSED_NO_ROOM. An extension with addresses is written by aoc_write_by
+ * (AOC_FRAME_EXTENSION). */
+AOC_MUST_USE
+AOC_INLINE aoc_written aoc_write_front(uint8_t interpretation, uint8_t *buffer, size_t room);
+
+/* Inline, over a proved function. Writes a trunk's Facility element in one call: 1C, its length, 9F, what aoc_write_front writes,
+ * and the components as they are. Refusals are those of aoc_write_front, then those of aoc_write_element_by. */
+AOC_MUST_USE
+AOC_INLINE aoc_written aoc_write_trunk_element(uint8_t interpretation, const uint8_t *octets, size_t length, uint8_t *buffer,
+                                               size_t room);
+
+/* Inline, over a proved function. Write a trunk's requests with their identifier, as aoc_write_by does, without an extension or
+ * an association: an AOC_OPERATION_CHARGE_REQUEST invoke with so many modes (aoc_mode; AOC_REFUSED_BAD_RECORD for more than
+ * seven, or for a number that is no mode); an AOC_OPERATION_GET_FINAL_CHARGE invoke; an AOC_OPERATION_COMPLETE invoke with the
+ * charged user's number; an AOC_OPERATION_DIVERSION invoke with the diverting user's number and an aoc_diversion. */
+AOC_MUST_USE
+AOC_INLINE aoc_written aoc_charge_request(uint16_t id, const uint8_t *modes, size_t count, uint8_t *buffer, size_t room);
+AOC_MUST_USE
+AOC_INLINE aoc_written aoc_final_charge_request(uint16_t id, uint8_t *buffer, size_t room);
+AOC_MUST_USE
+AOC_INLINE aoc_written aoc_complete_request(uint16_t id, const aoc_association *user, uint8_t *buffer, size_t room);
+AOC_MUST_USE
+AOC_INLINE aoc_written aoc_diversion_request(uint16_t id, const aoc_association *user, uint8_t diversion, uint8_t *buffer,
+                                             size_t room);
 
 /* ------------------------------------------------------------------ values */
 
-/* Inline. Whether a number is a refusal: of an outcome, `number`; of any other answer, `refusal`. */
+/* Inline, computes. Whether a number is a refusal: of an outcome, `number`; of any other answer, `refusal`. */
 AOC_INLINE bool aoc_is_refusal(uint32_t number);
 
 /* Proved. An amount in thousandths: the number times 1, 10, .. 1,000,000 by its multiplier 0 to 6; 0 for a multiplier over 6.
  * Of an amount that was read it is at most 16,777,215,000,000. */
 uint64_t aoc_thousandths(uint32_t number, uint8_t multiplier);
 
-/* Inline. An entry of a charge's list, whole; all zero where the list has no such entry. */
+/* Inline, looks into a charge. An entry of its list, whole; all zero where the list has no such entry. */
 typedef struct {
     uint8_t known;              /* 1: the number is given; 0: not available */
     uint8_t type;               /* 1 to 16, or 0 for none */
@@ -666,12 +766,15 @@ aoc_identifiers aoc_three_identifiers(uint16_t last);
 /* Proved. The empty set of services; a set with one service more; whether a service is in a set. A number that is no service
  * adds nothing and is in no set. */
 aoc_services aoc_no_services(void);
+AOC_MUST_USE
 aoc_services aoc_with_service(aoc_services set, uint8_t service);
 bool aoc_has_service(aoc_services set, uint8_t service);
 
-/* Inline. The identifier of a service among three; 0 for a number that is no service. What a request for a service asks for, an
- * aoc_charging_case: not the service's own number. It is 255, with which no record is written, for a number that is no service. */
+/* Inline, looks into a struct. The identifier of a service among three; 0 for a number that is no service. */
 AOC_INLINE uint16_t aoc_identifier_of(aoc_identifiers ids, uint8_t service);
+
+/* Inline, computes. What a request for a service asks for, an aoc_charging_case: not the service's own number. It is 255, with
+ * which no record is written, for a number that is no service. */
 AOC_INLINE uint8_t aoc_case_of(uint8_t service);
 
 /* ------------------------------------------------------------------ one call's account */
@@ -680,29 +783,37 @@ AOC_INLINE uint8_t aoc_case_of(uint8_t service);
 aoc_account aoc_fresh(void);
 
 /* Proved. Takes one event and updates the account. The octets are those of AOC_EVENT_COMPONENT; other events leave them
- * unread. A refused event (aoc_is_refusal) leaves the account as it was. Of an account that started fresh and went through
- * any list of events, the outcome and all that can be read off are what the specification picks out of that list. */
+ * unread. A refused event (aoc_is_refusal) leaves the account unchanged. For an account that started fresh and was given any list
+ * of events, the outcome and all that can be read from the account are what the specification picks out of that list. */
+AOC_MUST_USE
 aoc_outcome aoc_step(aoc_account *account, aoc_event event, const uint8_t *octets, size_t length);
 
-/* Inline. The event of a kind, with nothing beside it; that of a Setup. */
+/* Inline, computes. The event of a kind, with nothing beside it; that of a Setup. */
 AOC_INLINE aoc_event aoc_event_of(uint8_t kind);
 AOC_INLINE aoc_event aoc_event_of_setup(aoc_services asked, aoc_identifiers ids);
 
 /* Proved. The events, one function for each, each as aoc_step takes it. A CONNECT's components are given before aoc_connect, a
  * clearing message's after aoc_clear. A Setup has a request for each service asked for; the identifier of another service is
  * not looked at. */
+AOC_MUST_USE
 aoc_outcome aoc_setup(aoc_account *account, aoc_services asked, aoc_identifiers ids);
+AOC_MUST_USE
 aoc_outcome aoc_connect(aoc_account *account);
+AOC_MUST_USE
 aoc_outcome aoc_clear(aoc_account *account);
+AOC_MUST_USE
 aoc_outcome aoc_released(aoc_account *account);
+AOC_MUST_USE
 aoc_outcome aoc_component(aoc_account *account, const uint8_t *octets, size_t length);
 
-/* Proved. A call in AOC_PHASE_ACTIVE is parked and taken up again, as often as wanted. While it is parked every
- * component that can be read has AOC_OUTCOME_OUT_OF_PHASE and changes nothing; aoc_clear works from there too. */
+/* Proved. A call in AOC_PHASE_ACTIVE is parked and resumed, as often as wanted. While it is parked, every component that can be
+ * read has AOC_OUTCOME_OUT_OF_PHASE and changes nothing; aoc_clear works from there too. */
+AOC_MUST_USE
 aoc_outcome aoc_suspend(aoc_account *account);
+AOC_MUST_USE
 aoc_outcome aoc_resume(aoc_account *account);
 
-/* Proved. They read the account where it stands. The rate of the last AOC_OUTCOME_NEW_RATE or granted S request, the running
+/* Proved. They read the account without a copy of it. The rate of the last AOC_OUTCOME_NEW_RATE or granted S request, the running
  * figure of the last AOC_OUTCOME_NEW_RUNNING: kind AOC_CHARGE_NONE where there is none. */
 aoc_charge aoc_rate_of(const aoc_account *account);
 aoc_charge aoc_running_of(const aoc_account *account);
@@ -721,18 +832,23 @@ uint8_t aoc_phase_of(const aoc_account *account);
  * asked for, 1 S, 2 D, 4 E added up; the identifiers of S, D and E; how many of the octets are the event's. */
 enum { AOC_ROW_NUMBERS = 6 };
 
-/* Inline. The row of an event that has so many octets: at most 65,535, which a longer length must not be cut down to. An event of
- * more, which aoc_component refuses, can stand in no list. */
+/* Inline, computes. The row of an event that has `count` octets. Do not cut a longer length down to 65,535: an event of more octets,
+ * which aoc_component refuses, can be in no list. */
 AOC_INLINE void aoc_row_of(aoc_event event, uint16_t count, uint16_t *row);
 
-/* Inline. Takes one event as aoc_step does, and fills the row of what was done. The list of the call is this row behind its
- * earlier rows, and the first row[5] of the octets behind its earlier octets: all of an event's octets, but none where the event
- * is no AOC_EVENT_COMPONENT, and 65,535 at most, the rest of which changes no outcome. */
+/* Inline, computes. The event of a row, without its octets: the inverse of aoc_row_of, whatever the row's six numbers are. */
+AOC_INLINE aoc_event aoc_event_at(const uint16_t *row);
+
+/* Inline, over a proved function. Takes one event as aoc_step does, and fills its row. To extend the call's list, append this row
+ * to the rows, and the first row[5] of the octets to the octets: all of an event's octets, but none where the event is no
+ * AOC_EVENT_COMPONENT, and 65,535 at most, since further ones change no outcome. */
+AOC_MUST_USE
 AOC_INLINE aoc_outcome aoc_take(aoc_account *account, aoc_event event, const uint8_t *octets, size_t length, uint16_t *row);
 
-/* Inline. The account of a call that starts with no event and goes through the list: what a host stores over a restart is the
- * list, and this makes the account of it again. AOC_REFUSED_LENGTHS for slices that are no event list, and then it is aoc_fresh's.
- * `numbers` is six times the rows. */
+/* Inline, computes: it cuts the list into its events and passes each to aoc_step. The account of a call that starts with no event
+ * and has the events of the list: a host stores the list over a restart, and this makes the account from it again.
+ * AOC_REFUSED_LENGTHS for arrays that are no event list; the account is then aoc_fresh's. `numbers` is six times the rows. */
+AOC_MUST_USE
 AOC_INLINE aoc_refusal aoc_replay(const uint16_t *rows, size_t numbers, const uint8_t *octets, size_t length, aoc_account *account);
 
 /* Why a call has no price. */
@@ -748,13 +864,13 @@ AOC_INLINE aoc_refusal aoc_replay(const uint16_t *rows, size_t numbers, const ui
 typedef enum { AOC_REASONS(AOC_ROW_NAME) } aoc_reason;
 
 typedef struct {
-    uint32_t refusal;           /* AOC_REFUSED_LENGTHS for slices that are no event list, and then the rest is 0 */
+    uint32_t refusal;           /* AOC_REFUSED_LENGTHS for arrays that are no event list, and then the rest is 0 */
     uint32_t reason;            /* aoc_reason */
     uint64_t event;             /* the event's number, from 1; 0 for none */
 } aoc_why_answer;
 
-/* Proved. Of a call that starts with no event and goes through the list: the first reason, in the order above, that holds, and
- * its earliest event; of AOC_REASON_PRICED the event that gave the closing figure. `numbers` is six times the rows. */
+/* Proved. For a call that starts with no event and has the events of the list: the first reason, in the order above, that holds,
+ * and its earliest event; for AOC_REASON_PRICED the event that gave the closing figure. `numbers` is six times the rows. */
 aoc_why_answer aoc_why(const uint16_t *rows, size_t numbers, const uint8_t *octets, size_t length);
 
 /* ------------------------------------------------------------------ whole messages from the line */
@@ -770,18 +886,55 @@ typedef struct {
     uint64_t octets;            /* and how many octets the event list has; 0 where the trace is refused */
 } aoc_trace_answer;
 
-/* Proved. The events of a trace, laid as an event list: the rows in front of `rows`, the octets in front of `out`, and what
- * was behind them is left. AOC_REFUSED_LENGTHS where the lengths do not add up to the octets, or a pair is not whole; then
- * AOC_REFUSED_FRAMING; then AOC_REFUSED_NO_ROOM where the list needs more than `row_room` numbers or `out_room` octets. Both
- * are then as they were. Six numbers and one octet for each octet of the trace are always enough. Any direction but
+/* Proved. The events of a trace, written as an event list: the rows at the front of `rows`, the octets at the front of `out`; what
+ * is behind them is unchanged. AOC_REFUSED_LENGTHS where the lengths do not add up to the octets, or a pair is not whole; then
+ * AOC_REFUSED_FRAMING; then AOC_REFUSED_NO_ROOM where `row_room` is less than six numbers (AOC_ROW_NUMBERS), or `out_room` less
+ * than one octet, for each octet of the trace: no list needs more. A refusal leaves both buffers unchanged. Any direction but
  * AOC_FROM_USER is the network. Messages with another reference than the first one's give no event. */
+AOC_MUST_USE
 aoc_trace_answer aoc_trace_events(const uint32_t *pairs, size_t numbers, const uint8_t *octets, size_t length, uint16_t *rows,
                                   size_t row_room, uint8_t *out, size_t out_room);
 
+/* Inline, over a proved function. The same for one message as it goes out or comes in, while the call goes on: its events in the
+ * right order, which the host gives to the call's account or board (aoc_event_at). `direction` is AOC_FROM_USER for what the
+ * host's own side sends. Pass buffers of six numbers and one octet for each octet of the message: on a D channel
+ * AOC_LIMIT_MESSAGE_NUMBERS and AOC_LIMIT_MESSAGE_OCTETS.
+ * What differs from the trace of a whole call:
+ *   Each DISCONNECT, RELEASE and RELEASE COMPLETE gives a Clear, not only the first of the call. A second one is
+ *   AOC_REFUSED_WRONG_PHASE and changes nothing.
+ *   The reference is compared with no other: aoc_call_key says which call the message belongs to.
+ *   The Setup has the requests of the SETUP that is passed: pass it as it is sent, with its Facility element.
+ *   AOC_REFUSED_FRAMING concerns this message alone; the call goes on.
+ * No message gives a Suspend or a Resume: the host gives those. */
+AOC_MUST_USE
+AOC_INLINE aoc_trace_answer aoc_message_events(uint32_t direction, const uint8_t *octets, size_t length, uint16_t *rows,
+                                               size_t row_room, uint8_t *out, size_t out_room);
+
+/* Inline, computes. The key under which a board holds the call of a message: the value of the message's call reference, and 8000
+ * (hex) more where the network began the call. The reference's flag and the direction say which side did: it sends flag 0. So both
+ * directions have one key, and a call that the network began is never confused with one of the user's with the same value. Such a
+ * call has no Setup, so that each event of it is AOC_REFUSED_NOT_HELD. A reference of one octet and one of two octets with the same
+ * value are the same. False, and the key unchanged, for a message of no call: without a reference (the dummy), with the value 0
+ * (the global one), or whose octets end before the reference does or do not begin as a message.
+ * Each line (a D channel, and a terminal on it) has references of its own: a host with several lines keeps a board for each, or a
+ * map from line and key to numbers of its own. */
+AOC_MUST_USE
+AOC_INLINE bool aoc_call_key(uint32_t direction, const uint8_t *octets, size_t length, uint16_t *key);
+
+/* Inline, computes. Iterates over the Facility elements of a message that is framed, of both families and malformed ones too: it
+ * finds the first that begins at or after the place and is under no shift. True, with the offset where it begins and the place after
+ * it; or false, with both unchanged. Begin with place 0. aoc_message_events already has the components of public lines; this is for
+ * those of trunks.
+ *
+ *     size_t place = 0, from = 0;
+ *     while (aoc_next_facility(message, length, &place, &from)) { .. message + from, place - from are its octets .. } */
+AOC_MUST_USE
+AOC_INLINE bool aoc_next_facility(const uint8_t *octets, size_t length, size_t *place, size_t *from);
+
 /* ------------------------------------------------------------------ the plain engine */
 
-/* What each of these answers about an event list is found by going over the list again; no account is kept. `refusal` is
- * AOC_REFUSED_LENGTHS for slices that are no event list, and then the rest is zero. */
+/* Each of these answers is found by reading the event list again; no account is used. `refusal` is AOC_REFUSED_LENGTHS for arrays
+ * that are no event list, and then the rest is zero. */
 typedef struct {
     uint16_t refusal;
     aoc_outcome outcome;
@@ -814,8 +967,8 @@ typedef struct {
 
 /* Proved. Each is what an account answers that starts fresh and takes the events of the list in turn: the outcome of event
  * `event`, from 1 (zero for a number that is no event's); and after the last one the phase, the pending requests, the rate,
- * the running and the closing figure, and the marks. `numbers` is six times the rows. The time taken grows with the square of
- * the events, that of an outcome with the events before it. */
+ * the running and the closing figure, and the marks. `numbers` is six times the rows. The time grows with the square of the
+ * events; for an outcome it grows with the events before it. */
 aoc_plain_outcome_answer aoc_plain_outcome(const uint16_t *rows, size_t numbers, const uint8_t *octets, size_t length, size_t event);
 aoc_plain_phase_answer aoc_plain_phase(const uint16_t *rows, size_t numbers, const uint8_t *octets, size_t length);
 aoc_plain_pending_answer aoc_plain_pending(const uint16_t *rows, size_t numbers, const uint8_t *octets, size_t length);
@@ -836,15 +989,16 @@ typedef struct {
 
 /* Proved. A closing figure for a screen that takes doubles. AOC_REFUSED_NO_CLOSING where its service is AOC_SERVICE_NONE, then
  * AOC_REFUSED_BAD_RECORD where the service is not D's or E's, or the charge is none or could not be written under that service,
- * then AOC_REFUSED_UNIT_LIST. */
+ * then AOC_REFUSED_UNIT_LIST. So a trunk's figure in the private network's own currency, which has no octets, is
+ * AOC_REFUSED_BAD_RECORD: what that currency is, the host has to know. */
 aoc_priced aoc_price(aoc_closing closing);
 
 /* ------------------------------------------------------------------ a switchboard */
 
-/* A table of up to 64 calls, each kept by its call reference, a number of 16 bits. A reference is held from its accepted Setup
- * until what the call closed with has been collected. The host owns the table (95,488 octets: static or from the heap rather
- * than on a stack) and lends it; a new one is all zeros. No answer shows in which place of the table a call is kept, and what
- * other calls do changes no answer but AOC_REFUSED_FULL. Any octets are a table, and each call has its one answer on them. */
+/* A table of up to 64 calls by call reference, a number of 16 bits (aoc_call_key makes it). A reference is held from its accepted
+ * Setup until the closing figure of the call has been collected. The table is the host's memory (95,488 octets: static or from the
+ * heap rather than on a stack); a new one is all zeros. No answer depends on the slot in which a call is stored, and what other
+ * calls do changes no answer but AOC_REFUSED_FULL. Any octets are a table, and each call of a function has one answer on them. */
 enum { AOC_LIMIT_CALLS = 64 };
 
 typedef struct {
@@ -852,14 +1006,28 @@ typedef struct {
     aoc_account calls[AOC_LIMIT_CALLS]; /* zeros where the place is free */
 } aoc_board;
 
-/* Inline. A table with no call: all zeros, as `static aoc_board board;` and calloc give it too. */
+/* Inline, computes. A table with no call: all zeros, as `static aoc_board board;` and calloc give it too. */
 AOC_INLINE void aoc_board_clear(aoc_board *board);
 
 /* Proved. An event of a reference; `octets` are those of a component, none with another event. A Setup is AOC_REFUSED_IN_USE,
  * then AOC_REFUSED_FULL, then as on a fresh account: accepted, or AOC_REFUSED_BAD_SETUP. Any other event is
- * AOC_REFUSED_NOT_HELD, or what aoc_step answers on the call's own account. Refused, the table is as it was; else no other
- * call's octets are touched. */
+ * AOC_REFUSED_NOT_HELD, or what aoc_step answers on the call's own account. A refusal leaves the table unchanged; otherwise the
+ * octets of other calls are unchanged. */
+AOC_MUST_USE
 aoc_outcome aoc_board_event(aoc_board *board, uint16_t reference, aoc_event event, const uint8_t *octets, size_t length);
+
+/* Inline, over a proved function. Takes one event as aoc_board_event does, and fills its row, as aoc_take does. */
+AOC_MUST_USE
+AOC_INLINE aoc_outcome aoc_board_take(aoc_board *board, uint16_t reference, aoc_event event, const uint8_t *octets, size_t length,
+                                      uint16_t *row);
+
+/* Inline, computes: it cuts the list into its events and passes each to aoc_board_event. Gives a board the events of a call's list
+ * in turn: a host stores the list of each call over a restart, and this puts one list after another on a new board. The account
+ * is then aoc_replay's; after a list whose Setup was not accepted nothing is held. AOC_REFUSED_LENGTHS for arrays that are no
+ * event list, then AOC_REFUSED_IN_USE where the reference is held, then AOC_REFUSED_FULL: the board is then unchanged. */
+AOC_MUST_USE
+AOC_INLINE aoc_refusal aoc_board_replay(aoc_board *board, uint16_t reference, const uint16_t *rows, size_t numbers,
+                                        const uint8_t *octets, size_t length);
 
 typedef struct {
     uint32_t refusal;    /* AOC_ACCEPTED, AOC_REFUSED_NOT_HELD or AOC_REFUSED_WRONG_PHASE */
@@ -867,7 +1035,8 @@ typedef struct {
 } aoc_collected;
 
 /* Proved. The closing figure of a call that has ended, or its lack; the reference is then free for another call. Before the end
- * AOC_REFUSED_WRONG_PHASE, and the table is as it was. */
+ * AOC_REFUSED_WRONG_PHASE, and the table is unchanged. */
+AOC_MUST_USE
 aoc_collected aoc_board_collect(aoc_board *board, uint16_t reference);
 
 typedef struct {
@@ -880,8 +1049,8 @@ aoc_viewed aoc_board_view(const aoc_board *board, uint16_t reference);
 
 /* ------------------------------------------------------------------ whether the exchange kept the rules */
 
-/* The rules that an exchange has to keep. 1 to 3 are of the charges during the call (D's), 1 and 3 of those that were not
- * counted too; counted is outcome AOC_OUTCOME_NEW_RUNNING or AOC_OUTCOME_FINAL. */
+/* The rules that an exchange has to keep. 1 to 3 concern the charges during the call (D's); 1 and 3 also those that were not
+ * counted. Counted means outcome AOC_OUTCOME_NEW_RUNNING or AOC_OUTCOME_FINAL. */
 #define AOC_RULES(ROW)                                                                                 \
     ROW(AOC_RULE_KEPT, 0, "all rules kept")                                                            \
     ROW(AOC_RULE_PLACE, 1, "an amount out of place: subtotals while connected, totals while clearing") \
@@ -892,15 +1061,35 @@ aoc_viewed aoc_board_view(const aoc_board *board, uint16_t reference);
 typedef enum { AOC_RULES(AOC_ROW_NAME) } aoc_rule;
 
 typedef struct {
-    uint32_t refusal;           /* AOC_REFUSED_LENGTHS for slices that are no event list, and then the rest is 0;
+    uint32_t refusal;           /* AOC_REFUSED_LENGTHS for arrays that are no event list, and then the rest is 0;
                                  * AOC_REFUSED_IN_LIST with the first event that the account refuses, and no rule */
     uint32_t rule;              /* aoc_rule: the first, in the order above, that the event breaks */
     uint64_t event;             /* the first event that breaks a rule, from 1; 0 for none */
 } aoc_fault_answer;
 
-/* Proved. Of a call that starts with no event and goes through the list: whether the exchange kept the rules. A list with a
- * refused event is not judged. At most quadratic in the list: linear while its amounts are in one currency. */
+/* Proved. For a call that starts with no event and has the events of the list: whether the exchange kept the rules. A list with a
+ * refused event is not checked: aoc_fault_of_accepted leaves such events out. The time is at most quadratic in the list: linear
+ * while its amounts are in one or two currencies. With three or more it reads the list again for each amount, and the sender
+ * chooses the currencies.
+ * THE LIST IS THE HOST'S, AND SO ARE ITS MISTAKES. A DISCONNECT's components that were given before aoc_clear break AOC_RULE_PLACE
+ * here, though the exchange kept it: take a call's events from aoc_message_events or aoc_trace_events, which have the right order.
+ * An event that was dropped from a list is not checked: an amount out of phase that is left out is evidence lost.
+ * AOC_RULE_FALL also applies to a total of zero that follows a free mark: EUR 500, free, a total of EUR 0 literally breaks it,
+ * though ETS 300 182-1 has the network send that zero. */
 aoc_fault_answer aoc_fault(const uint16_t *rows, size_t numbers, const uint8_t *octets, size_t length);
+
+/* Inline, computes: it cuts the list into its events and passes each to aoc_step. The list without its refused events, written as
+ * aoc_trace_events writes one; the others have the outcomes that they had. AOC_REFUSED_LENGTHS for arrays that are no event list,
+ * then AOC_REFUSED_NO_ROOM for less room than the list's `numbers` and `length`; the buffers are then unchanged. `message` is 0. */
+AOC_MUST_USE
+AOC_INLINE aoc_trace_answer aoc_accepted_events(const uint16_t *rows, size_t numbers, const uint8_t *octets, size_t length,
+                                                uint16_t *kept, size_t row_room, uint8_t *out, size_t out_room);
+
+/* Inline, computes, over aoc_accepted_events and aoc_fault. As aoc_fault, for a list that may have refused events: they are left
+ * out, but `event` counts them. The buffers are filled as aoc_accepted_events fills them, with the same refusals. */
+AOC_MUST_USE
+AOC_INLINE aoc_fault_answer aoc_fault_of_accepted(const uint16_t *rows, size_t numbers, const uint8_t *octets, size_t length,
+                                                  uint16_t *kept, size_t row_room, uint8_t *out, size_t out_room);
 
 /* ------------------------------------------------------------------ a month's figures */
 
@@ -924,22 +1113,25 @@ typedef struct {
 } aoc_month;
 
 typedef struct {
-    uint64_t refusal;           /* AOC_ACCEPTED, or a refusal: then the month is as it was */
+    uint64_t refusal;           /* AOC_ACCEPTED, or a refusal: then the month is unchanged */
     aoc_month month;
 } aoc_month_added;
 
 /* Proved. A month without figures. */
 aoc_month aoc_month_empty(void);
 
-/* Proved. One closing figure more. AOC_REFUSED_BAD_RECORD where it is none or out of range, as for aoc_price, then
- * AOC_REFUSED_MONTH_FULL, then AOC_REFUSED_CURRENCIES_FULL for money in a seventeenth currency: such a figure is not added. */
+/* Proved. Adds one closing figure. AOC_REFUSED_BAD_RECORD where it is none or out of range, as for aoc_price (a currency of no
+ * octets too), then AOC_REFUSED_MONTH_FULL, then AOC_REFUSED_CURRENCIES_FULL for money in a seventeenth currency: such a figure
+ * is not added. */
+AOC_MUST_USE
 aoc_month_added aoc_month_add(aoc_month month, aoc_closing closing);
 
-/* Inline. The same on a month where it lies; the refusal. */
+/* Inline, over a proved function. The same on a month in the host's memory. It returns the refusal. */
+AOC_MUST_USE
 AOC_INLINE aoc_refusal aoc_month_post(aoc_month *month, const aoc_closing *closing);
 
-/* Inline. What a month holds, whatever that is: how many rows there are to be read; the row at an index, zeros past them; the
- * sum of a type of units; the figures of a service and a billing. 0 for a type, service or billing that has no place. */
+/* Inline, looks into a month, whatever it holds: how many rows there are to be read; the row at an index, zeros past them; the sum
+ * of a type of units; the figures of a service and a billing. 0 for a type, service or billing that has no place. */
 AOC_INLINE size_t aoc_month_rows(const aoc_month *month);
 AOC_INLINE aoc_month_currency aoc_month_row(const aoc_month *month, size_t index);
 AOC_INLINE uint64_t aoc_month_units(const aoc_month *month, size_t type);

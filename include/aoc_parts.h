@@ -1,4 +1,4 @@
-/* What stands behind aoc.h, which includes it and which hosts read instead: the functions of the library over the parts of a
+/* The inner part of aoc.h, which includes it; hosts read aoc.h instead. It has the functions of the library over the parts of a
  * record, the bodies of the inline functions, and the layout that the library has. */
 #ifndef AOC_PARTS_H
 #define AOC_PARTS_H
@@ -11,9 +11,12 @@
 #ifdef __cplusplus
 #define AOC_TO(type, value) static_cast<type>(value)
 #define AOC_POINT_TO(type, pointer) reinterpret_cast<type>(pointer)
+#define AOC_LOOK_AT(type, pointer) reinterpret_cast<type>(pointer)
 #else
 #define AOC_TO(type, value) ((type)(value))
 #define AOC_POINT_TO(type, pointer) ((type)(pointer))
+/* To an array of const: before C23 such an array is not const itself, and gcc would warn of a const that is lost. */
+#define AOC_LOOK_AT(type, pointer) ((type)(uintptr_t)(pointer))
 #endif
 
 /* ------------------------------------------------------------------ the layout's number */
@@ -25,21 +28,21 @@ uint32_t aoc_layout_2(void);
 static inline void aoc_mention_layout(void)
 {
     uint32_t (*volatile layout)(void) = aoc_layout_2;
-    (void)layout;
+    (void)&layout;
 }
 
 /* ------------------------------------------------------------------ a record in parts */
 
-/* A record lies in four parts: its front, the first 8 octets; its figure, the charge's first 48; and the charge's two arrays,
- * which hold its list. Reading is lent all four and stores each octet where it is to lie. Writing is lent the arrays and takes
- * the numbers by value. So no part is copied. */
+/* A record has four parts: its front, the first 8 octets; its figure, the charge's first 48; and the charge's two arrays,
+ * which hold its list. Reading gets pointers to all four and stores each octet directly in its place. Writing gets pointers to the
+ * arrays and the numbers by value. So no part is copied. */
 
 /* A refusal and its offset, as an answer begins. */
 typedef struct {
     uint32_t refusal, offset;
 } aoc_refusal_at;
 
-/* What stands at a place of an element: a component's refusal or none, with the place after it; or the end. */
+/* What is at a place of an element: a component's refusal or none, with the place after it; or the end. */
 typedef struct {
     size_t after, ended;
     aoc_refusal_at answer;
@@ -168,11 +171,13 @@ AOC_INLINE aoc_written aoc_write_by(uint8_t profile, const aoc_either *either, u
 {
     aoc_mention_layout();
     const aoc_charge *c = &either->record.charge, *t = &either->trunk.charge;
-    return aoc_write_by_from(profile, AOC_POINT_TO(const uint8_t(*)[8], &either->record), AOC_POINT_TO(const uint8_t(*)[48], c),
-                             &c->numbers, &c->octets, AOC_POINT_TO(const uint8_t(*)[48], &either->trunk),
-                             AOC_POINT_TO(const uint8_t(*)[244], &either->trunk.extended), AOC_POINT_TO(const uint8_t(*)[48], t),
+    return aoc_write_by_from(profile, AOC_LOOK_AT(const uint8_t(*)[8], &either->record), AOC_LOOK_AT(const uint8_t(*)[48], c),
+                             &c->numbers, &c->octets, AOC_LOOK_AT(const uint8_t(*)[48], &either->trunk),
+                             AOC_LOOK_AT(const uint8_t(*)[244], &either->trunk.extended), AOC_LOOK_AT(const uint8_t(*)[48], t),
                              &t->numbers, &t->octets, buffer, room);
 }
+
+/* ------------------------------------------------------------------ requests, and what is for the exchange */
 
 AOC_INLINE aoc_written aoc_request(uint8_t service, uint16_t id, uint8_t *buffer, size_t room)
 {
@@ -183,6 +188,150 @@ AOC_INLINE aoc_written aoc_request(uint8_t service, uint16_t id, uint8_t *buffer
     record.operation = AOC_OPERATION_CHARGING_REQUEST;
     record.detail = aoc_case_of(service);
     return aoc_write(&record, buffer, room);
+}
+
+/* An invoke of a trunk, but for its argument. */
+static inline void aoc_set_invoke(aoc_either *either, uint16_t id, uint8_t operation)
+{
+    memset(either, 0, sizeof *either);
+    either->trunk.frame = AOC_FRAME_INVOKE;
+    either->trunk.id = id;
+    either->trunk.operation = operation;
+}
+
+AOC_INLINE aoc_written aoc_charge_request(uint16_t id, const uint8_t *modes, size_t count, uint8_t *buffer, size_t room)
+{
+    aoc_either either;
+    aoc_set_invoke(&either, id, AOC_OPERATION_CHARGE_REQUEST);
+    either.trunk.asked = AOC_TO(uint8_t, count <= AOC_LIMIT_MODES ? count : 255);      /* 255: more than a record may have */
+    for (size_t i = 0; i < AOC_LIMIT_MODES && i < count; i++)
+        either.trunk.modes[i] = modes[i];
+    return aoc_write_by(AOC_PROFILE_TRUNK, &either, buffer, room);
+}
+
+AOC_INLINE aoc_written aoc_final_charge_request(uint16_t id, uint8_t *buffer, size_t room)
+{
+    aoc_either either;
+    aoc_set_invoke(&either, id, AOC_OPERATION_GET_FINAL_CHARGE);
+    return aoc_write_by(AOC_PROFILE_TRUNK, &either, buffer, room);
+}
+
+AOC_INLINE aoc_written aoc_complete_request(uint16_t id, const aoc_association *user, uint8_t *buffer, size_t room)
+{
+    aoc_either either;
+    aoc_set_invoke(&either, id, AOC_OPERATION_COMPLETE);
+    either.trunk.user = *user;
+    return aoc_write_by(AOC_PROFILE_TRUNK, &either, buffer, room);
+}
+
+AOC_INLINE aoc_written aoc_diversion_request(uint16_t id, const aoc_association *user, uint8_t diversion, uint8_t *buffer,
+                                             size_t room)
+{
+    aoc_either either;
+    aoc_set_invoke(&either, id, AOC_OPERATION_DIVERSION);
+    either.trunk.user = *user;
+    either.trunk.detail = diversion;
+    return aoc_write_by(AOC_PROFILE_TRUNK, &either, buffer, room);
+}
+
+/* The place behind the length octets that follow a tag, whatever they say. */
+static inline size_t aoc_behind_length(const uint8_t *octets, size_t length, size_t tag)
+{
+    uint8_t first = tag + 1 < length ? octets[tag + 1] : 0;
+    return tag + (first == 0x82 ? 4 : first == 0x81 ? 3 : 2);
+}
+
+/* The tag that follows a component's identifier, 0 where none does; 1 where there is no identifier. */
+static inline uint8_t aoc_tag_behind_identifier(const uint8_t *octets, size_t length)
+{
+    size_t at = aoc_behind_length(octets, length, 0), in = aoc_behind_length(octets, length, at);
+    if (in >= length || octets[at] != 0x02 || octets[in - 1] < 1 || octets[in - 1] > 2)
+        return 1;
+    in += octets[in - 1];
+    return AOC_TO(uint8_t, in < length ? octets[in] : 0);
+}
+
+AOC_INLINE bool aoc_is_for_exchange(const aoc_either *answer, const uint8_t *octets, size_t length)
+{
+    if (answer->family != AOC_FAMILY_TRUNK || length == 0)
+        return false;
+    switch (answer->refusal) {
+    case AOC_REFUSED_UNKNOWN_OPERATION:
+    case AOC_REFUSED_UNKNOWN_ERROR:
+        return true;
+    case AOC_REFUSED_BAD_FRAME:
+        if ((octets[0] == 0xA1 && aoc_tag_behind_identifier(octets, length) == 0x80) ||
+            (octets[0] == 0xA2 && aoc_tag_behind_identifier(octets, length) == 0))
+            return true;
+        break;
+    default:
+        break;
+    }
+    return octets[0] == AOC_FIRST_EXTENSION || octets[0] == AOC_FIRST_INTERPRETATION || octets[0] == AOC_FIRST_PROTOCOL_PROFILE;
+}
+
+AOC_INLINE uint8_t aoc_interpretation_in(const uint8_t *octets, size_t length)
+{
+    aoc_either answer;
+    size_t place = AOC_FIRST_PLACE, from = place;
+    while (aoc_next_by(octets, length, &place, &answer)) {
+        size_t start = from, count = place - from;
+        from = place;
+        if (start + 2 >= length || answer.family != AOC_FAMILY_TRUNK || octets[start] != AOC_FIRST_INTERPRETATION)
+            continue;
+        /* one octet of contents, its length in any of the three forms */
+        if (count <= 5 && octets[start + 1] == (count == 3 ? 0x01 : count == 4 ? 0x81 : 0x82) &&
+            octets[place - 1] <= AOC_INTERPRETATION_REJECT)
+            return octets[place - 1];
+        break;
+    }
+    return AOC_INTERPRETATION_NONE;
+}
+
+AOC_INLINE uint8_t aoc_interpretation_of(uint8_t operation)
+{
+    switch (operation) {
+    case AOC_OPERATION_FINAL:
+    case AOC_OPERATION_INTERIM:
+    case AOC_OPERATION_RATE:
+    case AOC_OPERATION_DIVERSION: return AOC_INTERPRETATION_DISCARD;
+    case AOC_OPERATION_GET_FINAL_CHARGE: return AOC_INTERPRETATION_CLEAR;
+    default: return AOC_INTERPRETATION_NONE;
+    }
+}
+
+AOC_INLINE aoc_written aoc_write_front(uint8_t interpretation, uint8_t *buffer, size_t room)
+{
+    const uint8_t front[AOC_LIMIT_FRONT_OCTETS] = {AOC_FIRST_EXTENSION, 6, 0x80, 1, AOC_ENTITY_END, 0x82, 1, AOC_ENTITY_END,
+                                                   AOC_FIRST_INTERPRETATION, 1, interpretation};
+    aoc_written written = {AOC_ACCEPTED, 0};
+    bool none = interpretation == AOC_INTERPRETATION_NONE;
+    uint32_t count = none ? 8 : AOC_LIMIT_FRONT_OCTETS;
+    if (!none && interpretation > AOC_INTERPRETATION_REJECT) {
+        written.refusal = AOC_REFUSED_BAD_RECORD;
+    } else if (room < count) {
+        written.refusal = AOC_REFUSED_NO_ROOM;
+    } else {
+        memcpy(buffer, front, count);
+        written.count = count;
+    }
+    return written;
+}
+
+AOC_INLINE aoc_written aoc_write_trunk_element(uint8_t interpretation, const uint8_t *octets, size_t length, uint8_t *buffer,
+                                               size_t room)
+{
+    uint8_t components[AOC_LIMIT_FRONT_OCTETS + AOC_LIMIT_COMPONENT_OCTETS] = {0};
+    aoc_written front = aoc_write_front(interpretation, components, sizeof components);
+    if (front.refusal != AOC_ACCEPTED)
+        return front;
+    if (length == 0 || length > AOC_LIMIT_COMPONENT_OCTETS) {
+        front.refusal = AOC_REFUSED_BAD_ELEMENT;
+        front.count = 0;
+        return front;
+    }
+    memcpy(components + front.count, octets, length);
+    return aoc_write_element_by(AOC_PROFILE_TRUNK, components, front.count + length, buffer, room);
 }
 
 /* ------------------------------------------------------------------ values */
@@ -277,35 +426,201 @@ AOC_INLINE void aoc_row_of(aoc_event event, uint16_t count, uint16_t *row)
     row[5] = count;
 }
 
-AOC_INLINE aoc_outcome aoc_take(aoc_account *account, aoc_event event, const uint8_t *octets, size_t length, uint16_t *row)
+AOC_INLINE aoc_event aoc_event_at(const uint16_t *row)
+{
+    /* a kind that is no octet is that of no event */
+    aoc_event event = {AOC_TO(uint8_t, row[0] < 256 ? row[0] : 0),
+                       {AOC_TO(uint8_t, row[1] & 1), AOC_TO(uint8_t, row[1] >> 1 & 1), AOC_TO(uint8_t, row[1] >> 2 & 1)},
+                       row[2], row[3], row[4]};
+    return event;
+}
+
+/* The row of an event with octets of any length. */
+static inline void aoc_put_row(aoc_event event, size_t length, uint16_t *row)
 {
     size_t count = event.kind != AOC_EVENT_COMPONENT ? 0 : length < 65535 ? length : 65535;
     aoc_row_of(event, AOC_TO(uint16_t, count), row);
+}
+
+/* Whether the lengths of whole rows add up. */
+static inline bool aoc_adds_up(const uint16_t *rows, size_t numbers, size_t length)
+{
+    for (size_t i = 0; i < numbers; i += AOC_ROW_NUMBERS) {
+        if (rows[i + 5] > length)
+            return false;
+        length -= rows[i + 5];
+    }
+    return length == 0;
+}
+
+AOC_INLINE aoc_outcome aoc_take(aoc_account *account, aoc_event event, const uint8_t *octets, size_t length, uint16_t *row)
+{
+    aoc_put_row(event, length, row);
     return aoc_step(account, event, octets, length);
 }
 
 AOC_INLINE aoc_refusal aoc_replay(const uint16_t *rows, size_t numbers, const uint8_t *octets, size_t length, aoc_account *account)
 {
-    size_t left = length;
+    size_t left;
     *account = aoc_fresh();
-    if (numbers % AOC_ROW_NUMBERS != 0)
+    if (numbers % AOC_ROW_NUMBERS != 0 || !aoc_adds_up(rows, numbers, length))
         return AOC_REFUSED_LENGTHS;
+    left = length;
     for (size_t i = 0; i < numbers; i += AOC_ROW_NUMBERS) {
-        if (rows[i + 5] > left)
+        aoc_event event = aoc_event_at(rows + i);
+        size_t count = rows[i + 5];
+        if (count > left)       /* never: the lengths add up */
             return AOC_REFUSED_LENGTHS;
-        left -= rows[i + 5];
-    }
-    if (left != 0)
-        return AOC_REFUSED_LENGTHS;
-    for (size_t i = 0, at = 0; i < numbers; at += rows[i + 5], i += AOC_ROW_NUMBERS) {
-        const uint16_t *row = rows + i;
-        /* a kind that is no octet is that of no event */
-        aoc_event event = {AOC_TO(uint8_t, row[0] < 256 ? row[0] : 0),
-                           {AOC_TO(uint8_t, row[1] & 1), AOC_TO(uint8_t, row[1] >> 1 & 1), AOC_TO(uint8_t, row[1] >> 2 & 1)},
-                           row[2], row[3], row[4]};
-        aoc_step(account, event, row[5] ? octets + at : NULL, row[5]);
+        if (count != 0)
+            (void)aoc_step(account, event, octets + (length - left), count);
+        else
+            (void)aoc_step(account, event, NULL, 0);
+        left -= count;
     }
     return AOC_ACCEPTED;
+}
+
+AOC_INLINE aoc_trace_answer aoc_accepted_events(const uint16_t *rows, size_t numbers, const uint8_t *octets, size_t length,
+                                                uint16_t *kept, size_t row_room, uint8_t *out, size_t out_room)
+{
+    aoc_trace_answer answer = {AOC_ACCEPTED, 0, 0, 0};
+    aoc_account account = aoc_fresh();
+    size_t at, used, put;       /* octets of the list that are done, octets that were copied, numbers that were copied */
+    if (numbers % AOC_ROW_NUMBERS != 0 || !aoc_adds_up(rows, numbers, length)) {
+        answer.refusal = AOC_REFUSED_LENGTHS;
+        return answer;
+    }
+    if (row_room < numbers || out_room < length) {
+        answer.refusal = AOC_REFUSED_NO_ROOM;
+        return answer;
+    }
+    put = 0;
+    at = 0;
+    used = 0;
+    for (size_t i = 0; i < numbers; i += AOC_ROW_NUMBERS) {
+        aoc_event event = aoc_event_at(rows + i);
+        aoc_outcome outcome;
+        size_t count = rows[i + 5];
+        /* never: the lengths add up, and there is room for the whole list */
+        if (count > length - at || count > out_room - used || put + AOC_ROW_NUMBERS > row_room)
+            break;
+        if (count != 0)
+            outcome = aoc_step(&account, event, octets + at, count);
+        else
+            outcome = aoc_step(&account, event, NULL, 0);
+        if (!aoc_is_refusal(outcome.number)) {
+            memcpy(kept + put, rows + i, AOC_ROW_NUMBERS * sizeof *rows);
+            if (count != 0)
+                memcpy(out + used, octets + at, count);
+            put += AOC_ROW_NUMBERS;
+            used += count;
+        }
+        at += count;
+    }
+    answer.events = put / AOC_ROW_NUMBERS;
+    answer.octets = used;
+    return answer;
+}
+
+/* Whether two events of lists are the same: their rows, and so many octets. */
+static inline bool aoc_same_row(const uint16_t *row, const uint16_t *other)
+{
+    for (size_t i = 0; i < AOC_ROW_NUMBERS; i++)
+        if (row[i] != other[i])
+            return false;
+    return true;
+}
+
+static inline bool aoc_same_octets(const uint8_t *octets, const uint8_t *others, size_t count)
+{
+    for (size_t i = 0; i < count; i++)
+        if (octets[i] != others[i])
+            return false;
+    return true;
+}
+
+AOC_INLINE aoc_fault_answer aoc_fault_of_accepted(const uint16_t *rows, size_t numbers, const uint8_t *octets, size_t length,
+                                                  uint16_t *kept, size_t row_room, uint8_t *out, size_t out_room)
+{
+    /* by a pointer, so that no compiler has its account lie on the stack while aoc_fault runs */
+    aoc_trace_answer (*volatile accepted)(const uint16_t *, size_t, const uint8_t *, size_t, uint16_t *, size_t, uint8_t *,
+                                          size_t) = aoc_accepted_events;
+    aoc_trace_answer list = accepted(rows, numbers, octets, length, kept, row_room, out, out_room);
+    aoc_fault_answer fault = {AOC_TO(uint32_t, list.refusal), AOC_RULE_KEPT, 0};
+    size_t at, used, put = 0;
+    uint64_t to_find;
+    if (list.refusal != AOC_ACCEPTED || list.events > numbers / AOC_ROW_NUMBERS)        /* the second never */
+        return fault;
+    fault = aoc_fault(kept, AOC_ROW_NUMBERS * list.events, out, list.octets);
+    /* Its number among all events. An accepted event is the first that equals it after the accepted event before: between the two
+     * nothing changes the account, so an equal one there would have been accepted itself. */
+    to_find = fault.event;
+    at = 0;
+    used = 0;
+    for (size_t i = 0; i + 5 < numbers && to_find > 0; i += AOC_ROW_NUMBERS) {
+        size_t count = rows[i + 5];
+        if (count > length - at || count > length - used || put + AOC_ROW_NUMBERS > row_room)   /* never, as above */
+            break;
+        if (aoc_same_row(rows + i, kept + put) && (count == 0 || aoc_same_octets(octets + at, out + used, count))) {
+            put += AOC_ROW_NUMBERS;
+            used += count;
+            to_find--;
+            fault.event = i / AOC_ROW_NUMBERS + 1;
+        }
+        at += count;
+    }
+    return fault;
+}
+
+/* ------------------------------------------------------------------ messages as they come */
+
+AOC_INLINE aoc_trace_answer aoc_message_events(uint32_t direction, const uint8_t *octets, size_t length, uint16_t *rows,
+                                               size_t row_room, uint8_t *out, size_t out_room)
+{
+    /* a length that a pair cannot hold becomes another one there, and does not add up */
+    const uint32_t pair[AOC_PAIR_NUMBERS] = {AOC_TO(uint32_t, length), direction};
+    return aoc_trace_events(pair, AOC_PAIR_NUMBERS, octets, length, rows, row_room, out, out_room);
+}
+
+AOC_INLINE bool aoc_call_key(uint32_t direction, const uint8_t *octets, size_t length, uint16_t *key)
+{
+    uint32_t value, began;
+    if (length < 3 || octets[0] != 0x08 || octets[1] < 1 || octets[1] > 2 || length - 2 < octets[1])
+        return false;
+    value = octets[1] == 1 ? octets[2] & 0x7Fu : (octets[2] & 0x7Fu) << 8 | octets[3];
+    began = (direction != AOC_FROM_USER) != (octets[2] >= 0x80) ? 0x8000u : 0;
+    if (value == 0)
+        return false;
+    *key = AOC_TO(uint16_t, began | value);
+    return true;
+}
+
+AOC_INLINE bool aoc_next_facility(const uint8_t *octets, size_t length, size_t *place, size_t *from)
+{
+    bool locked = false, once = false;
+    if (length < 3 || octets[0] != 0x08 || octets[1] > 2 || length - 3 < octets[1])
+        return false;
+    for (size_t at = AOC_TO(size_t, 3) + octets[1]; at < length;) {
+        bool hidden = locked || once;
+        size_t end;
+        once = false;
+        if (octets[at] >= 0x80) {       /* one octet; 90 to 97 lock a shift, 98 to 9F shift the next element */
+            locked = locked || (octets[at] >= 0x90 && octets[at] <= 0x97);
+            once = octets[at] >= 0x98 && octets[at] <= 0x9F;
+            at++;
+            continue;
+        }
+        if (at + 1 >= length || length - at - 2 < octets[at + 1])
+            return false;
+        end = at + 2 + octets[at + 1];
+        if (octets[at] == 0x1C && !hidden && at >= *place) {
+            *from = at;
+            *place = end;
+            return true;
+        }
+        at = end;
+    }
+    return false;
 }
 
 /* ------------------------------------------------------------------ a switchboard */
@@ -313,6 +628,39 @@ AOC_INLINE aoc_refusal aoc_replay(const uint16_t *rows, size_t numbers, const ui
 AOC_INLINE void aoc_board_clear(aoc_board *board)
 {
     memset(board, 0, sizeof *board);
+}
+
+AOC_INLINE aoc_outcome aoc_board_take(aoc_board *board, uint16_t reference, aoc_event event, const uint8_t *octets, size_t length,
+                                      uint16_t *row)
+{
+    aoc_put_row(event, length, row);
+    return aoc_board_event(board, reference, event, octets, length);
+}
+
+AOC_INLINE aoc_refusal aoc_board_replay(aoc_board *board, uint16_t reference, const uint16_t *rows, size_t numbers,
+                                        const uint8_t *octets, size_t length)
+{
+    size_t rest;
+    if (numbers % AOC_ROW_NUMBERS != 0 || !aoc_adds_up(rows, numbers, length))
+        return AOC_REFUSED_LENGTHS;
+    if (aoc_board_view(board, reference).refusal == AOC_ACCEPTED)
+        return AOC_REFUSED_IN_USE;
+    rest = length;
+    for (size_t i = 0; i < numbers; i += AOC_ROW_NUMBERS) {
+        aoc_event event = aoc_event_at(rows + i);
+        aoc_outcome outcome;
+        size_t count = rows[i + 5];
+        if (count > rest)       /* never: the lengths add up */
+            return AOC_REFUSED_LENGTHS;
+        if (count != 0)
+            outcome = aoc_board_event(board, reference, event, octets + (length - rest), count);
+        else
+            outcome = aoc_board_event(board, reference, event, NULL, 0);
+        if (outcome.number == AOC_REFUSED_FULL)
+            return AOC_REFUSED_FULL;
+        rest -= count;
+    }
+    return AOC_ACCEPTED;
 }
 
 /* ------------------------------------------------------------------ a month's figures */

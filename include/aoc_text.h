@@ -1,4 +1,4 @@
-/* Words for the numbers of aoc.h, and a charge as a person reads it. All of it is inline C: tested, not proved. It allocates
+/* Words for the numbers of aoc.h, and a charge as readable text. All of it is inline C; aoc.h says what that means. It allocates
  * nothing, uses no locale and none of <stdio.h>, and reads no further than a charge's arrays, whatever the charge holds. */
 #ifndef AOC_TEXT_H
 #define AOC_TEXT_H
@@ -9,7 +9,7 @@
 extern "C" {
 #endif
 
-/* The words of a number's row in aoc.h; for a number that has no row there, words that say so. Never null. */
+/* Inline, computes. The words of a number's row in aoc.h; for a number that has no row there, words that say so. Never null. */
 AOC_INLINE const char *aoc_refusal_text(uint32_t refusal)
 {
     switch (refusal) {
@@ -132,20 +132,32 @@ AOC_INLINE const char *aoc_error_text(uint32_t error)
     }
 }
 
-/* Writes a charge into the buffer as a person reads it, with a null at its end, and never past the room. Where the room is too
- * short, as much as fits, with ".." as its last two characters: a figure that is cut is never taken for a whole one. It returns
- * the length of the whole text without the null, so room must be more: AOC_LIMIT_CHARGE_TEXT is, for any charge. Examples:
+AOC_INLINE const char *aoc_interpretation_text(uint32_t interpretation)
+{
+    switch (interpretation) {
+        AOC_INTERPRETATIONS(AOC_ROW_WORDS)
+    default: return "no interpretation of this library";
+    }
+}
+
+/* Inline, prints. Writes a charge into the buffer as a person reads it, with a null at its end, and never past the room. Where the
+ * room is too short, as much as fits, with ".." as its last two characters, so that a cut figure does not look like a whole one. It
+ * returns the length of the whole text without the null, so room must be more: AOC_LIMIT_CHARGE_TEXT is, for any charge. Examples:
  *   EUR 1.500, total, normal billing
  *   30 units of type 1, units not available of type 2
  *   free, of call 7
  *   communication EUR 0.060 per 1 min; call set-up EUR 0.100
  *   special arrangement 3
- *   no charge
+ *   own currency 0.500
+ *   not available
  * A subtotal has no word: a charge of the end of a call has the same mark. In a currency, `?` is an octet that is no printed
- * character of ASCII. */
+ * character of ASCII; spaces at its end are not printed, since they make no other currency (the record has them). "own
+ * currency" is a trunk's currency of no octets: the private network's own, whose name is not sent. "not available" is
+ * AOC_CHARGE_NONE, of a component and of an account without such a figure: it does not say that a call costs nothing. */
 AOC_INLINE size_t aoc_print_charge(char *buffer, size_t room, const aoc_charge *charge);
 
-/* The same of a currency, and of an amount: EUR, and EUR 1.500. A host that knows the type of its figure needs no more. */
+/* The same of a currency, and of an amount: EUR, and EUR 1.500, or own currency 0.500. A host that knows the type of its figure
+ * needs no more. */
 AOC_INLINE size_t aoc_print_currency(char *buffer, size_t room, const aoc_currency *currency);
 AOC_INLINE size_t aoc_print_money(char *buffer, size_t room, const aoc_money *money);
 
@@ -157,9 +169,10 @@ typedef struct {
     size_t length;              /* of the whole text so far */
 } aoc_text;
 
+/* The last place of the room is aoc_end_text's, whatever was put there. */
 static inline void aoc_put_character(aoc_text *text, char c)
 {
-    if (text->length + 1 < text->room)
+    if (text->length < text->room)
         text->to[text->length] = c;
     text->length++;
 }
@@ -175,8 +188,10 @@ static inline size_t aoc_end_text(aoc_text *text)
 {
     if (text->room)
         text->to[text->length < text->room ? text->length : text->room - 1] = 0;
-    for (size_t i = 2; text->length >= text->room && i <= 3 && i <= text->room; i++)
-        text->to[text->room - i] = '.';
+    if (text->length >= text->room && text->room >= 2)
+        text->to[text->room - 2] = '.';
+    if (text->length >= text->room && text->room >= 3)
+        text->to[text->room - 3] = '.';
     return text->length;
 }
 
@@ -186,15 +201,15 @@ static inline void aoc_put_octets(aoc_text *text, const uint8_t *octets, size_t 
         aoc_put_character(text, octets[i] >= 0x20 && octets[i] < 0x7F ? AOC_TO(char, octets[i]) : '?');
 }
 
-/* The last `places` digits stand after a point. */
+/* The last `places` digits come after a point. */
 static inline void aoc_put_number(aoc_text *text, uint64_t number, unsigned places)
 {
-    char digits[24];
+    char digits[24] = {0};
     unsigned count = 0;
     do {
         digits[count++] = AOC_TO(char, '0' + AOC_TO(char, number % 10));
         number /= 10;
-    } while (number || count <= places);
+    } while ((number || count <= places) && count < sizeof digits);
     while (count > 0) {
         if (count == places)
             aoc_put_character(text, '.');
@@ -212,10 +227,23 @@ static inline void aoc_put_signed(aoc_text *text, uint16_t id)
     }
 }
 
+/* A currency without the spaces at its end, and whether there is any of it. That of no octets is the private network's own. */
+static inline bool aoc_put_currency(aoc_text *text, const aoc_currency *currency)
+{
+    size_t most = AOC_LIMIT_CURRENCY_OCTETS, count = currency->count < most ? currency->count : most;
+    if (count == 0) {
+        aoc_put_words(text, "own currency");
+        return true;
+    }
+    while (count > 0 && currency->octets[count - 1] == ' ')
+        count--;
+    aoc_put_octets(text, currency->octets, count, AOC_LIMIT_CURRENCY_OCTETS);
+    return count > 0;
+}
+
 static inline void aoc_put_money(aoc_text *text, const aoc_money *money)
 {
-    aoc_put_octets(text, money->currency.octets, money->currency.count, AOC_LIMIT_CURRENCY_OCTETS);
-    if (money->currency.count)
+    if (aoc_put_currency(text, &money->currency))
         aoc_put_character(text, ' ');
     aoc_put_number(text, aoc_thousandths(money->number, money->multiplier), 3);
 }
@@ -354,8 +382,11 @@ AOC_INLINE size_t aoc_print_charge(char *buffer, size_t room, const aoc_charge *
         aoc_put_words(&text, "special arrangement ");
         aoc_put_number(&text, charge->arrangement, 0);
         break;
+    case AOC_CHARGE_NONE:
+        aoc_put_words(&text, "not available");
+        break;
     default:
-        aoc_put_words(&text, "no charge");
+        aoc_put_words(&text, "a charge of no known kind");
         break;
     }
     if (charge->total)
@@ -371,7 +402,7 @@ AOC_INLINE size_t aoc_print_charge(char *buffer, size_t room, const aoc_charge *
 AOC_INLINE size_t aoc_print_currency(char *buffer, size_t room, const aoc_currency *currency)
 {
     aoc_text text = {buffer, room, 0};
-    aoc_put_octets(&text, currency->octets, currency->count, AOC_LIMIT_CURRENCY_OCTETS);
+    aoc_put_currency(&text, currency);
     return aoc_end_text(&text);
 }
 

@@ -24,6 +24,7 @@ Q <profile> <hex>        read by profile  <number> <offset> <family> <packed rec
 K <place> <hex>          a place of an element of either family <number> <offset> <family> <the place after> <1 at the end> <packed record of it>
 U <profile> <room> <hex> reject by profile <number> <count> <hex>
 O <profile> <room> <packed record of its family> write by profile <number> <count> <hex>
+V <profile> <room> <hex> element written by profile <number> <count> <hex>
 X <room> <room> <pairs> <hex> a trace     <number> <message> <rows> <hex>, then the plain engine's answers on them as G has them
 
 Events: S <id>,<id>,<id> Setup, C Connect, X Clear, L Released, P Suspend, U Resume, M<hex> Component. On a switchboard also
@@ -73,6 +74,12 @@ def answer_element(rest):
 def answer_write_element(rest):
     room, _, octets = rest.partition(" ")
     number, octets = aoc.write_element(bytes.fromhex(octets), int(room))
+    return f"{number} {len(octets)} {octets.hex()}"
+
+
+def answer_write_element_by(rest):
+    profile, room, octets = rest.split(" ")
+    number, octets = aoc.write_element(bytes.fromhex(octets), int(room), int(profile, 16))
     return f"{number} {len(octets)} {octets.hex()}"
 
 
@@ -261,7 +268,8 @@ ANSWERS = {"R": answer_read, "W": answer_write, "E": answer_element, "J": answer
            "T": answer_thousandths, "N": answer_next, "A": answer_account, "D": answer_account, "Y": answer_why,
            "F": answer_fault, "P": answer_price, "M": answer_month, "Z": answer_held, "B": answer_board,
            "G": answer_plain, "X": answer_trace, "L": answer_write_element,
-           "Q": answer_read_by, "K": answer_next_by, "U": answer_reply_by, "O": answer_write_by}
+           "Q": answer_read_by, "K": answer_next_by, "U": answer_reply_by, "O": answer_write_by,
+           "V": answer_write_element_by}
 
 
 def answer(line):

@@ -43,9 +43,11 @@ def step_through(octets, place):
     return (*found, after, False)
 
 
-def write_element(octets, room):
-    """The element that holds components, laid end to end: (0, octets), (15, b"") or (12, b"")."""
-    whole = bytes((0x1C, (len(octets) + 1) & 0xFF, 0x91)) + octets
+def write_element(octets, room, profile=LINE):
+    """The element that holds components, laid end to end: (0, octets), (17, b"") for another profile octet, (15, b"") or (12, b"")."""
+    if profile not in PROFILES:
+        return OTHER_PROFILE, b""
+    whole = bytes((0x1C, (len(octets) + 1) & 0xFF, profile)) + octets
     if len(octets) > 254 or element(whole)[0]:
         return BAD_ELEMENT, b""
     if len(whole) > room:

@@ -1,6 +1,7 @@
 """Test inputs for the comparison, the same for the same seed.
 
-python3 inputs.py SEED COUNT prints COUNT lines of the text protocol (see answer.py); with `trunks` behind it, lines of the trunks' family.
+python3 inputs.py SEED COUNT prints COUNT lines of the text protocol (see answer.py); with `trunks` behind it, lines of the trunks' family; with
+`extensions`, lines of such as have a manufacturer's extension.
 
 The files make_*.py make them; here is the mix.
 """
@@ -77,7 +78,7 @@ def trunk_lines(seed, count):
     rng = random.Random(seed)
     octets, records = make_trunks.octet_source(rng), make_trunks.fields_in_turn(rng)
     for _ in range(count):
-        kind = rng.choices("QKUO", (50, 10, 12, 40))[0]
+        kind = rng.choices("QKUOV", (50, 10, 12, 40, 4))[0]
         if kind == "Q":
             yield f"Q {make_trunks.any_profile(rng):02x} {next(octets).hex()}"
         elif kind == "K":
@@ -85,15 +86,34 @@ def trunk_lines(seed, count):
             yield f"K {make_trunks.place_in(rng, element)} {element.hex()}"
         elif kind == "U":
             yield f"U {make_trunks.any_profile(rng):02x} {rng.choice((254, 254, rng.randint(0, 10)))} {next(octets).hex()}"
+        elif kind == "V":
+            element = make_trunks.trunk_element(rng)
+            yield f"V {make_trunks.any_profile(rng):02x} {rng.choice((257, 300, max(0, len(element) + rng.randint(-2, 4))))} {element[3:].hex()}"
         else:
             yield make_trunks.writer_input(rng, records)
 
 
+def extension_lines(seed, count):
+    rng = random.Random(seed)
+    for _ in range(count):
+        kind = rng.choices("QUO", (60, 6, 34))[0]
+        if kind == "Q":
+            yield f"Q {make_trunks.PRIVATE:02x} {make_trunks.extension_octets(rng).hex()}"
+        elif kind == "U":
+            yield f"U {make_trunks.PRIVATE:02x} 254 {make_trunks.extension_octets(rng).hex()}"
+        else:
+            yield make_trunks.extension_input(rng)
+
+
+FAMILIES = {"": lines, "trunks": trunk_lines, "extensions": extension_lines}
+
+
 def main():
-    if len(sys.argv) not in (3, 4) or sys.argv[3:] not in ([], ["trunks"]):
-        sys.exit("usage: python3 inputs.py SEED COUNT [trunks]")
+    family = FAMILIES.get("".join(sys.argv[3:]))
+    if len(sys.argv) not in (3, 4) or family is None:
+        sys.exit("usage: python3 inputs.py SEED COUNT [trunks | extensions]")
     try:
-        for line in (trunk_lines if sys.argv[3:] else lines)(int(sys.argv[1]), int(sys.argv[2])):
+        for line in family(int(sys.argv[1]), int(sys.argv[2])):
             sys.stdout.write(line + "\n")
     except BrokenPipeError:
         sys.stderr.close()

@@ -1,7 +1,6 @@
 """Test inputs: traces of messages."""
 
 import aoc
-import trace
 from make_calls import account_input
 from make_damage import add, change, cut, nudge, remove, spoil, trail
 from make_records import any_id, loosely, valid_component
@@ -42,7 +41,7 @@ def message_of(rng, reference, kind, components):
 
 
 def trace_input(rng, length):
-    """The messages of a call, and among them others; room that is enough, or just so, or not."""
+    """The messages of a call, and among them others; room that is more than enough, or just so, or not."""
     number = rng.choice((5, 5, 0, 127, 300, None))
 
     def reference(flag):
@@ -98,6 +97,5 @@ def trace_input(rng, length):
         pairs += [0, 0]
     rooms = 6 * len(octets), len(octets)
     if rng.random() < 0.3:
-        _, _, rows, out = trace.lay(pairs, octets, *rooms)
-        rooms = max(0, len(rows) - rng.choice((0, 0, 1, 6))), max(0, len(out) - rng.choice((0, 0, 1)))
+        rooms = max(0, rooms[0] - rng.choice((-1, 0, 0, 1, 6))), max(0, rooms[1] - rng.choice((-1, 0, 0, 1)))
     return f"X {rooms[0]} {rooms[1]} {''.join(f'{n:08x}' for n in pairs)} {octets.hex()}"

@@ -34,13 +34,23 @@ def identifier(rng):
     return octets
 
 
+def any_tree(rng, most, depth):
+    """One element of any tag: primitive with any octets, or constructed with elements, to some depth."""
+    if depth == 0 or rng.random() < (0.4 if depth < 10 else 0.03):
+        tag = rng.choice((rng.randrange(1, 256), 0x04, 0x05)) & ~aoc.CONSTRUCTED or 0x04
+        return Node(tag, body=rng.randbytes(rng.choice((0, 0, 1, 3, rng.randint(0, most)))))
+    tag = rng.choice((rng.randrange(1, 256) | aoc.CONSTRUCTED, 0x30, 0xA1))
+    parts = 1 if depth > 10 else rng.choice((0, 1, 1, 1, 2, 3))
+    return Node(tag, [any_tree(rng, most // max(parts, 1), depth - 1) for _ in range(parts)])
+
+
 def any_extension(rng, most):
-    """06 identifier, then one element of any tag; its octets may be any."""
-    return [Node(0x06, body=identifier(rng)), Node(rng.randrange(256), body=rng.randbytes(rng.choice((0, 0, 1, 3, rng.randint(0, most)))))]
+    """06 identifier, then one element of any tag."""
+    return [Node(0x06, body=identifier(rng)), any_tree(rng, most, rng.choice((0, 0, 1, 2, 3, 8, rng.randrange(110))))]
 
 
 def extensions(rng, t):
-    """The record gets an extension, or a list of them, as received; its element."""
+    """The record gets an extension, or a list of them; its element."""
     kind = rng.choice((0, 0, 1, 2)) if t.frame != ERROR else 1
     if kind == 0:
         return []
@@ -49,11 +59,7 @@ def extensions(rng, t):
         parts = any_extension(rng, most)
     else:
         parts = [Node(0x30, any_extension(rng, most // 4)) for _ in range(rng.choice((0, 1, 1, 2, 5)))]
-    t.extended = kind
-    t.extension = b"".join(lay(part, rng, rng.choice((0.0, 0.5))) for part in parts)
-    if rng.random() < 0.6:
-        # As it was received; else its own elements, so that damage reaches them and their lengths change.
-        return [Node(0xA0 + kind, body=t.extension)]
+    t.extended, t.extension = kind, b"".join(map(lay, parts))
     return [Node(0xA0 + kind, parts)]
 
 
@@ -295,6 +301,68 @@ def past_limit(rng):
 def strange_first(rng):
     """Another first octet: those of the network's own tiles, and any."""
     return bytes((rng.choice((0x8B, 0x92, 0xAA, 0xA5, 0xA0, rng.randrange(256))),)) + valid_trunk(rng)[1:]
+
+
+# ---------------------------------------------------------------- extensions
+
+EXTENDED = [(INVOKE, GET_FINAL, 0), (INVOKE, FINAL, 1), (INVOKE, COMPLETE, 0), (RESULT, 59, 0), (ERROR, trunks.UNSPECIFIED, 0)]
+
+
+def extended(rng):
+    """A record with an extension, its tree, and the element that holds the extension."""
+    while True:
+        t, root = fitting(rng, rng.choice(EXTENDED))
+        if t.extended:
+            return t, root, next(node for node, _ in walk(root) if node.tag in (0xA0 + t.extended, 0x30) and lay(node).endswith(t.extension)
+                                 and len(lay(node)) - len(t.extension) in (2, 3))
+
+
+def zero_tag(rng, node, parent):
+    """00 for a tag."""
+    node.tag = 0
+
+
+def fresh_80(rng, node, parent):
+    """A number of the identifier that begins with 80, or one that does not end."""
+    if node.tag == 0x06:
+        at = rng.randint(0, len(node.body))
+        node.body = node.body[:at] + rng.choice((b"\x80", b"\x80\x01", b"\xff")) + node.body[at:]
+
+
+EXTENSION_DAMAGE = TREE_DAMAGE + (zero_tag, zero_tag, fresh_80, fresh_80, stray)
+
+
+def extension_octets(rng):
+    """A component with an extension whose lengths have any form at every depth, often damaged inside it."""
+    _, root, holder = extended(rng)
+    kind = rng.random()
+    if kind < 0.5:
+        for _ in range(rng.choice((1, 1, 2))):
+            inside = list(walk(holder))[1:]
+            if inside:
+                rng.choice(EXTENSION_DAMAGE)(rng, *rng.choice(inside))
+    shortest = lay(root)
+    for loose, unnumbered in ((rng.random(), rng.random()), (rng.choice((0.0, 0.2, 1.0)), rng.choice((0.0, 0.2))), (0.0, 0.0)):
+        laid = lay(root, rng, loose, unnumbered)
+        if len(laid) <= 254:
+            break
+    if kind > 0.9:
+        at = rng.randrange(len(laid))
+        laid = laid[:at] + bytes((rng.choice((0, 0x80, 0x81, 0x30, any_octet(rng))),)) + laid[at + 1:]
+    return laid if len(shortest) <= 254 else shortest
+
+
+def extension_input(rng):
+    """A record whose extension is its normal form, another form of it, or spoilt."""
+    t, _, holder = extended(rng)
+    kind = rng.random()
+    if kind < 0.5:
+        form = b"".join(lay(part, rng, rng.choice((0.0, 0.1, 0.5)), rng.choice((0.0, 0.1, 0.5))) for part in holder.parts)
+        t.extension = form if len(form) <= KEPT_MAX else t.extension
+    elif kind < 0.8 and t.extension:
+        at = rng.randrange(len(t.extension))
+        t.extension = t.extension[:at] + bytes((rng.choice((0, 1, 0x80, 0x81, 0x30, any_octet(rng))),)) + t.extension[at + 1:]
+    return f"O {PRIVATE:02x} {rng.choice((254, 254, 255, 30))} {trunks.pack(t).hex()}"
 
 
 def octet_source(rng):

@@ -123,4 +123,4 @@ def lay(pairs, octets, row_room, out_room):
     if number:
         return number, message, [], b""
     numbers, out = rows(events)
-    return (NO_ROOM, 0, [], b"") if len(numbers) > row_room or len(out) > out_room else (0, 0, numbers, out)
+    return (NO_ROOM, 0, [], b"") if row_room < 6 * len(octets) or out_room < len(octets) else (0, 0, numbers, out)

@@ -25,7 +25,7 @@ BILLINGS = {FINAL: (0, 2, 3, 4, 5, 6, 7), INTERIM: (0, 2)}
 
 @dataclass(slots=True)
 class Trunk:
-    """extended: 0 no extension, 1 one, 2 a list; extension: its contents as received."""
+    """extended: 0 no extension, 1 one, 2 a list; extension: its contents, as they are written."""
     frame: int = 0
     unnamed: int = 0
     id: int = 0
@@ -129,54 +129,69 @@ def currency(octets, place, end):
     return text, after
 
 
-# ---- extensions: what is in them is kept, and judged by itself, with lengths that have a number
+# ---- extensions. "coding and shortest form stay those of 01" (02, 1): any length form is read and the shortest is written, inside them too;
+# "Accept it there, nested or mixed" (02, 3): 80 on what is constructed, at any depth. So an extension is read as elements to the bottom, and the
+# record has the octets that are written of them.
 
-def numbered(octets, place, end):
-    """An element that stands, its tag not judged, at place: its contents' start and end."""
-    start, size = aoc.length(octets, place + 1, end, of_argument, place)
-    if size is None:
-        raise Refused(aoc.LENGTH_FORM)
-    if start + size > end:
-        raise of_argument(aoc.LACKING, place)
-    return start, start + size
+def any_element(octets, place, end):
+    """One element of any tag: what is written of it, and the place after it. 00 is the end marker's and no tag."""
+    if place >= end:
+        raise of_argument(MISSING, end)
+    tag = octets[place]
+    if tag == 0:
+        raise of_argument(UNEXPECTED, place)
+    start, stop, after = contents(octets, place, end, of_argument)
+    if not tag & aoc.CONSTRUCTED:
+        return put(tag, octets[start:stop]), after
+    body = b""
+    while start < stop:
+        part, start = any_element(octets, start, stop)
+        body += part
+    return put(tag, body), after
+
+
+def object_identifier(octets, place, end):
+    """06: numbers in octets of seven bits, the last octet of each below 80, each in the fewest octets (X.209)."""
+    start, stop, after = expect(octets, place, end, 0x06, of_argument)
+    body = octets[start:stop]
+    if not body or any(octet == 0x80 and (i == 0 or body[i - 1] < 0x80) for i, octet in enumerate(body)):
+        raise of_argument(NOT_SHORTEST, place)
+    if body[-1] >= 0x80:
+        raise of_argument(BAD_CONTENTS, place)
+    return put(0x06, body), after
 
 
 def one_extension(octets, place, end):
-    """06 identifier, then one element of any tag."""
-    start, stop, after = expect(octets, place, end, 0x06, of_argument)
-    if start == stop:
-        raise of_argument(NOT_SHORTEST, place)
-    fresh = True
-    for octet in octets[start:stop]:
-        if fresh and octet == 0x80:
-            raise of_argument(BAD_CONTENTS, place)
-        fresh = octet < 0x80
-    if not fresh:
-        raise of_argument(BAD_CONTENTS, place)
-    if after >= end:
-        raise of_argument(MISSING, end)
-    return numbered(octets, after, end)[1]
+    """06 identifier, then one element of any tag: what is written of it, and the place after it."""
+    named, place = object_identifier(octets, place, end)
+    argument, place = any_element(octets, place, end)
+    return named + argument, place
 
 
 def extension_list(octets, place, end):
+    """30 with one, any number of times."""
+    body = b""
     while place < end:
-        if octets[place] != 0x30:
-            raise of_argument(UNEXPECTED, place)
-        start, stop = numbered(octets, place, end)
-        finish(one_extension(octets, start, stop), stop)
-        place = stop
-    return place
+        start, stop, place = expect(octets, place, end, 0x30, of_argument)
+        part, last = one_extension(octets, start, stop)
+        finish(last, stop)
+        body += put(0x30, part)
+    return body, place
+
+
+def in_extension(octets, start, stop, kind):
+    """The contents of an extension of this kind: what is written of them."""
+    body, last = (one_extension if kind == 1 else extension_list)(octets, start, stop)
+    if len(body) > KEPT_MAX:
+        raise of_argument(BAD_CONTENTS, start)
+    finish(last, stop)
+    return body
 
 
 def kept(octets, place, end, t, kind):
-    """The element at place holds one extension, or a list of them: the record keeps its contents."""
+    """The element at place holds one extension, or a list of them."""
     start, stop, after = contents(octets, place, end, of_argument)
-    try:
-        body = octets[start:stop]
-        finish((one_extension if kind == 1 else extension_list)(body, 0, len(body)), len(body))
-    except Refused as refusal:
-        raise refusal if refusal.number < MISSING else Refused(refusal.number, start + refusal.offset)
-    t.extended, t.extension = kind, body
+    t.extended, t.extension = kind, in_extension(octets, start, stop, kind)
     return after
 
 
@@ -434,10 +449,10 @@ def put_currency(count, places):
 
 
 def put_kept(tag, t):
-    """The writer takes what the reader would take."""
+    """The writer takes what the reader would leave in the record, and nothing else: the shortest form of what it is."""
     need(len(t.extension) <= KEPT_MAX)
     try:
-        finish((one_extension if t.extended == 1 else extension_list)(t.extension, 0, len(t.extension)), len(t.extension))
+        need(in_extension(t.extension, 0, len(t.extension), t.extended) == t.extension)
     except Refused:
         need(False)
     return put(tag, t.extension)

@@ -860,7 +860,7 @@ def trunk_cases():
         profile, given = given[0], given[1:]
         number, offset, found = trunks.locate(profile, given)
         if number:
-            answer = str(9 if number in range(40, 46) else number)
+            answer = f"{number}@{offset}" if "@" in wanted else str(9 if number in range(40, 46) else number)
         else:
             write = trunks.write if profile == trunks.PRIVATE else lambda record: aoc.write(record, 254)
             written = write(found)[1]

@@ -89,8 +89,8 @@ static void test_lists(void)
     /* a final, the same again, another */
     start();
     setup(-1, -1, -1);
-    aoc_connect(&call.account);
-    aoc_clear(&call.account);
+    (void)aoc_connect(&call.account);
+    (void)aoc_clear(&call.account);
     STEP(component(C2), AOC_OUTCOME_FINAL, AOC_SERVICE_E);
     STEP(component(C2), AOC_OUTCOME_REPEATED, AOC_SERVICE_E);
     STEP(component(C2_13), AOC_OUTCOME_CONFLICT, AOC_SERVICE_E);
@@ -109,7 +109,7 @@ static void test_lists(void)
         static const char *const answers[] = {C4, C5, REJECT_5};
         start();
         setup(-1, 5, -1);
-        aoc_connect(&call.account);
+        (void)aoc_connect(&call.account);
         STEP(component(C1), AOC_OUTCOME_IGNORED, AOC_SERVICE_D);
         STEP(component(REJECT_NULL), AOC_OUTCOME_NO_REQUEST, 0);
         STEP(component(S_RESULT), AOC_OUTCOME_MISFIT, AOC_SERVICE_D);
@@ -141,17 +141,17 @@ static void test_lists(void)
     STEP(component(C1), AOC_OUTCOME_OUT_OF_PHASE, AOC_SERVICE_D);
     STEP(component(TOTAL), AOC_OUTCOME_OUT_OF_PHASE, AOC_SERVICE_D);
     STEP(component(C7), AOC_OUTCOME_OUT_OF_PHASE, AOC_SERVICE_E);
-    aoc_clear(&call.account);
+    (void)aoc_clear(&call.account);
     STEP(component(C1), AOC_OUTCOME_OUT_OF_PHASE, AOC_SERVICE_D);
     STEP(component(TOTAL), AOC_OUTCOME_FINAL, AOC_SERVICE_D);
     STEP(component(SAME_TOTAL), AOC_OUTCOME_REPEATED, AOC_SERVICE_D);
     STEP(component(C6), AOC_OUTCOME_CONFLICT, AOC_SERVICE_D);
     aoc_account before_e = call.account;
-    aoc_released(&call.account);
+    (void)aoc_released(&call.account);
     CHECK(aoc_closing_of(&call.account).service == AOC_SERVICE_D, "closing of D");
     call.account = before_e;
     STEP(component(C7), AOC_OUTCOME_FINAL, AOC_SERVICE_E);
-    aoc_released(&call.account);
+    (void)aoc_released(&call.account);
     closing = aoc_closing_of(&call.account);
     CHECK(closing.service == AOC_SERVICE_E && closing.charge.kind == AOC_CHARGE_FREE, "closing of E");
 }
@@ -204,11 +204,11 @@ static void test_padded(void)
         size_t n = final_in(cases[i].text, cases[i].number, cases[i].multiplier, octets);
         start();
         setup(-1, -1, -1);
-        aoc_clear(&call.account);
+        (void)aoc_clear(&call.account);
         STEP(aoc_component(&call.account, lend(octets, n), n), AOC_OUTCOME_FINAL, AOC_SERVICE_E);
         n = final_in(cases[i].second_text, cases[i].second_number, cases[i].second_multiplier, octets);
         STEP(aoc_component(&call.account, lend(octets, n), n), cases[i].outcome, AOC_SERVICE_E);
-        aoc_released(&call.account);
+        (void)aoc_released(&call.account);
         aoc_closing closing = aoc_closing_of(&call.account);
         n = unhex(cases[i].text, text);
         CHECK(closing.charge.money.currency.count == n && !memcmp(closing.charge.money.currency.octets, text, n), "as received");
@@ -222,7 +222,7 @@ static void test_parked(void)
     /* what comes while it is parked is read and changes nothing; the service is an invoke's */
     start();
     setup(-1, 5, -1);
-    aoc_connect(&call.account);
+    (void)aoc_connect(&call.account);
     STEP(aoc_resume(&call.account), AOC_REFUSED_WRONG_PHASE, 0);
     STEP(aoc_suspend(&call.account), 0, 0);
     aoc_account before = call.account;
@@ -260,13 +260,13 @@ static void to_phase(int phase)
     if (phase >= AOC_PHASE_ESTABLISHMENT)
         setup(1, 2, 3);
     if (phase >= AOC_PHASE_ACTIVE)
-        aoc_connect(&call.account);
+        (void)aoc_connect(&call.account);
     if (phase == AOC_PHASE_SUSPENDED)
-        aoc_suspend(&call.account);
+        (void)aoc_suspend(&call.account);
     if (phase == AOC_PHASE_CLEARING || phase == AOC_PHASE_ENDED)
-        aoc_clear(&call.account);
+        (void)aoc_clear(&call.account);
     if (phase == AOC_PHASE_ENDED)
-        aoc_released(&call.account);
+        (void)aoc_released(&call.account);
     CHECK(aoc_phase_of(&call.account) == phase, "phase");
 }
 

@@ -131,3 +131,15 @@ static inline uint64_t chance(void)
     seed ^= seed >> 7;
     return seed ^= seed << 17;
 }
+
+/* An event of a made-up call: a Setup first, and then mostly components, which have their octets from elsewhere. */
+static inline aoc_event any_event(size_t i)
+{
+    uint64_t c = chance();
+    if (i == 0 || c % 16 == 0) {
+        aoc_identifiers ids = {(uint16_t)(c >> 8 & 3), (uint16_t)(c >> 10 & 3), (uint16_t)(c >> 12 & 3)};
+        aoc_services asked = {(uint8_t)(c >> 20 & 1), (uint8_t)(c >> 21 & 1), (uint8_t)(c >> 22 & 1)};
+        return aoc_event_of_setup(asked, ids);
+    }
+    return aoc_event_of((uint8_t)(c % 16 < 10 ? AOC_EVENT_COMPONENT : c / 16 % 9));
+}

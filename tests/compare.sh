@@ -1,9 +1,9 @@
 #!/bin/sh
 # Compares the proved library and the line program with the second program: sh tests/compare.sh [SEED [COUNT]], with COUNT inputs of each
-# family, 200,000 where none is said.
+# family, 200,000 where none is said, and half as many with extensions.
 # A differing answer is printed with its input and both answers, of an account with the octets that differ, and fails.
 cd "$(dirname "$0")/.." || exit 2
-seed=${1:-1} count=${2:-200000}
+seed=${1:-1} whole=${2:-200000}
 work=$(mktemp -d) || exit 2
 trap 'rm -rf "$work"' EXIT
 
@@ -14,16 +14,19 @@ differences() {
     python3 tests/differences.py "$@"
     return 1
 }
-# library NAME [FAMILY]: COUNT answers of the library are the second program's
+# library COUNT NAME [FAMILY]: so many answers of the library are the second program's
 library() {
+    count=$1
+    shift
     # shellcheck disable=SC2086
     python3 second/inputs.py "$seed" "$count" $2 | tee "$work/$1" | python3 second/answer.py >"$work/second"
     [ "$(wc -l <"$work/second")" -eq "$count" ] || { echo "compare: the second program did not answer"; exit 1; }
     sh tools/exec "$work/driver" <"$work/$1" >"$work/library" || exit 1
     differences "the library" "$work/$1" "$work/second" "$work/library" "$work/driver" || exit 1
 }
-library inputs
-library trunks trunks
+library "$whole" inputs
+library "$whole" trunks trunks
+library $((whole / 2)) extensions extensions
 
 sh tools/prove lines || exit 1
 python3 tests/line_inputs.py "$seed" "$work/inputs" "$work/text" "$work/second" || exit 1
@@ -34,4 +37,4 @@ sh tools/cc "$work/lines" examples/trunks.c || exit 1
 python3 tests/line_inputs.py "$seed" "$work/trunks" "$work/text" "$work/second" trunks || exit 1
 sh tools/exec "$work/lines" <"$work/text" >"$work/both" || exit 1
 differences "the line program of both families" "$work/text" "$work/second" "$work/both" || exit 1
-echo "compare: seed $seed: $count answers of the library, as many on trunks, and $(wc -l <"$work/ours") lines of the line program and $(wc -l <"$work/both") of that for both families are those of the second program"
+echo "compare: seed $seed: $whole answers of the library, as many on trunks, half as many on extensions, and $(wc -l <"$work/ours") lines of the line program and $(wc -l <"$work/both") of that for both families are those of the second program"

@@ -114,6 +114,16 @@ static void answer_write_element(const char *rest)
     answer_written(aoc_write_element(octets, n, buffer + GUARD, room), room);
 }
 
+static void answer_write_element_by(const char *rest)
+{
+    char *next;
+    uint8_t profile = (uint8_t)strtoul(rest, &next, 16);
+    size_t room = strtoul(next, &next, 10);
+    size_t n = unhex(next + 1, octets);
+    memset(buffer, MARK, room + 2 * GUARD);
+    answer_written(aoc_write_element_by(profile, octets, n, buffer + GUARD, room), room);
+}
+
 static void answer_next(const char *rest)
 {
     char *next;
@@ -639,6 +649,9 @@ int main(int count, char **arguments)
             break;
         case 'O':
             answer_write_by(line + 2);
+            break;
+        case 'V':
+            answer_write_element_by(line + 2);
             break;
         default:
             fputs("not a line", stdout);

@@ -39,17 +39,6 @@ struct list {
     size_t numbers, length;
 };
 
-static aoc_event any_event(size_t i)
-{
-    uint64_t c = chance();
-    if (i == 0 || c % 16 == 0) {
-        aoc_identifiers ids = {(uint16_t)(c >> 8 & 3), (uint16_t)(c >> 10 & 3), (uint16_t)(c >> 12 & 3)};
-        aoc_services asked = {(uint8_t)(c >> 20 & 1), (uint8_t)(c >> 21 & 1), (uint8_t)(c >> 22 & 1)};
-        return aoc_event_of_setup(asked, ids);
-    }
-    return aoc_event_of((uint8_t)(c % 16 < 10 ? AOC_EVENT_COMPONENT : c / 16 % 9));
-}
-
 /* A random call, taken event by event; its list, replayed, gives the same account, and so does each shorter list. */
 static void test_replay(void)
 {
@@ -121,7 +110,7 @@ static void test_long_component(void)
         octets[0] = firsts[i];
         octets[1] = 0x82;
         octets[2] = octets[3] = 0xFF;
-        aoc_take(&call, aoc_event_of_setup(aoc_no_services(), aoc_three_identifiers(0)), NULL, 0, rows);
+        (void)aoc_take(&call, aoc_event_of_setup(aoc_no_services(), aoc_three_identifiers(0)), NULL, 0, rows);
         aoc_outcome outcome = aoc_take(&call, aoc_event_of(AOC_EVENT_COMPONENT), octets, sizeof octets, rows + AOC_ROW_NUMBERS);
         CHECK(outcome.number == AOC_REFUSED_TOO_LONG && rows[11] == 65535, "a long component");
         CHECK(aoc_replay(rows, 12, octets, rows[11], &again) == AOC_ACCEPTED && !memcmp(&again, &call, sizeof call), "its replay");
@@ -254,9 +243,50 @@ static void test_amounts(void)
         buffer = (char *)make_room(room);
         CHECK(aoc_print_currency(buffer, room, &money.currency) == 10 && printed(buffer, room, text, 10), "a currency");
     }
+    /* spaces at the end of a currency are not printed: all ten of them, some, those in its middle not */
+    static const struct {
+        aoc_money money;
+        const char *text;
+    } padded[] = {{{{6, {'E', 'U', 'R', ' ', ' ', ' '}}, AOC_MULTIPLIER_TENTH, 15}, "EUR 1.500"},
+                  {{{10, {' ', ' ', ' ', ' ', ' ', ' ', ' ', ' ', ' ', ' '}}, AOC_MULTIPLIER_TENTH, 15}, "1.500"},
+                  {{{4, {' ', 'E', ' ', 'R'}}, AOC_MULTIPLIER_TENTH, 15}, " E R 1.500"}};
+    for (size_t i = 0; i < sizeof padded / sizeof *padded; i++) {
+        char line[32];
+        aoc_charge charge;
+        size_t n = strlen(padded[i].text), currency = n < 6 ? 0 : n - 6;
+        memset(&charge, 0, sizeof charge);
+        charge.kind = AOC_CHARGE_MONEY;
+        charge.money = padded[i].money;
+        CHECK(aoc_print_money(line, sizeof line, &padded[i].money) == n && !strcmp(line, padded[i].text), "a padded currency");
+        CHECK(aoc_print_charge(line, sizeof line, &charge) == n && !strcmp(line, padded[i].text), "a padded currency");
+        CHECK(aoc_print_currency(line, sizeof line, &padded[i].money.currency) == currency && !strncmp(line, padded[i].text, currency) && !line[currency], "a padded currency");
+    }
     aoc_currency hostile;
     memset(&hostile, 0xFF, sizeof hostile);
     CHECK(aoc_print_currency(NULL, 0, &hostile) == AOC_LIMIT_CURRENCY_OCTETS, "a currency of any octets");
+}
+
+/* What a currency of no octets, one with spaces at its end and one of spaces alone are printed as. */
+static void test_currencies(void)
+{
+    static const struct {
+        aoc_money money;
+        const char *currency, *amount;
+    } cases[] = {
+        {{{0, {0}}, AOC_MULTIPLIER_TENTH, 5}, "own currency", "own currency 0.500"},
+        {{{6, {'E', 'U', 'R', ' ', ' ', ' '}}, AOC_MULTIPLIER_TENTH, 15}, "EUR", "EUR 1.500"},
+        {{{4, {' ', 'E', ' ', 'R'}}, AOC_MULTIPLIER_ONE, 15}, " E R", " E R 15.000"},
+        {{{2, {' ', ' '}}, AOC_MULTIPLIER_ONE, 1}, "", "1.000"},
+    };
+    for (size_t i = 0; i < sizeof cases / sizeof *cases; i++) {
+        size_t name = strlen(cases[i].currency), whole = strlen(cases[i].amount);
+        for (size_t room = 0; room < 22; room++) {
+            char *buffer = (char *)make_room(room);
+            CHECK(aoc_print_money(buffer, room, &cases[i].money) == whole && printed(buffer, room, cases[i].amount, whole), cases[i].amount);
+            buffer = (char *)make_room(room);
+            CHECK(aoc_print_currency(buffer, room, &cases[i].money.currency) == name && printed(buffer, room, cases[i].currency, name), cases[i].amount);
+        }
+    }
 }
 
 int main(void)
@@ -270,5 +300,6 @@ int main(void)
     test_elements();
     test_words();
     test_amounts();
+    test_currencies();
     return report("events");
 }

@@ -14,6 +14,8 @@
 #define SUB_EUR_600 "A1 1B 02 01 01 02 01 21 30 13 A1 0E 81 03 45 55 52 A2 07 81 02 02 58 82 01 01 82 01 00"
 #define SUB_DM_3 "A1 19 02 01 01 02 01 21 30 11 A1 0C 81 02 44 4D A2 06 81 01 03 82 01 01 82 01 00"
 #define SUB_DM_4 "A1 19 02 01 01 02 01 21 30 11 A1 0C 81 02 44 4D A2 06 81 01 04 82 01 01 82 01 00"
+#define SUB_FF_2 "A1 19 02 01 01 02 01 21 30 11 A1 0C 81 02 46 46 A2 06 81 01 02 82 01 01 82 01 00"
+#define SUB_FF_3 "A1 19 02 01 01 02 01 21 30 11 A1 0C 81 02 46 46 A2 06 81 01 03 82 01 01 82 01 00"
 #define TOT_EUR_0 "A1 1A 02 01 01 02 01 21 30 12 A1 0D 81 03 45 55 52 A2 06 81 01 00 82 01 01 82 01 01"
 #define TOT_EUR_400 "A1 1B 02 01 01 02 01 21 30 13 A1 0E 81 03 45 55 52 A2 07 81 02 01 90 82 01 01 82 01 01"
 #define TOT_EUR__499 "A1 1C 02 01 01 02 01 21 30 14 A1 0F 81 04 45 55 52 20 A2 07 81 02 01 F3 82 01 01 82 01 01"
@@ -78,6 +80,14 @@ static const struct {
     {"11.w", 0, 2, 6, {ASKS(2, 0, 5, 0), PLAIN(CONNECT), SAYS(SUB_EUR_500), SAYS(YES_5), SAYS(SUB_EUR_300), SAYS(SUB_EUR_299)}},
     {"11.x", 0, 4, 7, {ASKS(0, 0, 0, 0), SAYS(D_FREE), PLAIN(CONNECT), SAYS(SUB_EUR_0), PLAIN(CLEAR), SAYS(D_FREE),
                        SAYS(TOT_EUR_0), PLAIN(RELEASED)}},
+    /* two currencies are remembered, and a third one is looked for in the list */
+    {"the first of three", 0, 2, 6, {ASKS(0, 0, 0, 0), PLAIN(CONNECT), SAYS(SUB_EUR_5), SAYS(SUB_DM_3), SAYS(SUB_FF_3), SAYS(SUB_EUR__4)}},
+    {"the second of three", 0, 2, 8, {ASKS(0, 0, 0, 0), PLAIN(CONNECT), SAYS(SUB_DM_4), SAYS(SUB_EUR_5), SAYS(SUB_EUR_300), SAYS(SUB_FF_3),
+                                      SAYS(SUB_EUR_500), SAYS(SUB_DM_3)}},
+    {"the third of three", 0, 2, 9, {ASKS(0, 0, 0, 0), PLAIN(CONNECT), SAYS(SUB_FF_3), SAYS(SUB_DM_3), SAYS(SUB_EUR_5), SAYS(SUB_FF_3),
+                                     SAYS(SUB_DM_4), SAYS(SUB_EUR_500), SAYS(SUB_FF_2)}},
+    {"three in order", 0, 0, 0, {ASKS(0, 0, 0, 0), PLAIN(CONNECT), SAYS(SUB_FF_2), SAYS(SUB_DM_3), SAYS(SUB_EUR_5), SAYS(SUB_EUR__500),
+                                 SAYS(SUB_DM_4), SAYS(SUB_FF_3)}},
 };
 
 static aoc_fault_answer ask(size_t numbers, size_t n)
@@ -137,7 +147,7 @@ static void test_slices(void)
 /* A long list: the last amount in each currency is found, however far back. */
 enum { LONG = 1000 };
 
-static double seconds(const char *first, const char *second, size_t more)
+static double seconds(const char *const *turns, size_t currencies, size_t more)
 {
     static uint16_t many[LONG][AOC_ROW_NUMBERS];
     static uint8_t all_octets[LONG * 32];
@@ -146,7 +156,7 @@ static double seconds(const char *first, const char *second, size_t more)
     many[0][0] = SETUP;
     many[1][0] = CONNECT;
     for (size_t i = 2; i < LONG; i++) {
-        size_t k = unhex(i + more < LONG ? (i % 2 ? second : first) : SUB_EUR_299, all_octets + n);
+        size_t k = unhex(i + more < LONG ? turns[i % currencies] : SUB_EUR_299, all_octets + n);
         many[i][0] = COMPONENT;
         many[i][5] = (uint16_t)k;
         n += k;
@@ -170,10 +180,11 @@ int main(int count, char **arguments)
     test_cases();
     test_slices();
     test_words();
-    double one = seconds(SUB_EUR_500, SUB_EUR_500, 0), two = seconds(SUB_EUR_500, SUB_DM_3, 0);
-    seconds(SUB_EUR_500, SUB_EUR_500, 1);
-    seconds(SUB_EUR_500, SUB_DM_3, 1);
+    static const char *const turns[] = {SUB_EUR_500, SUB_DM_3, SUB_FF_3};
+    double one = seconds(turns, 1, 0), two = seconds(turns, 2, 0), three = seconds(turns, 3, 0);
+    for (size_t currencies = 1; currencies <= 3; currencies++)
+        seconds(turns, currencies, 1);
     if (count > 1 && !strcmp(arguments[1], "seconds"))
-        printf("%d events in one currency: %.6f s; in two that alternate: %.6f s\n", LONG, one, two);
+        printf("%d events in one currency: %.6f s; in two by turns: %.6f s; in three: %.6f s\n", LONG, one, two, three);
     return report("fault");
 }

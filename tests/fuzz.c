@@ -117,6 +117,9 @@ static void element(const uint8_t *octets, size_t length)
         /* what is written is a public line's */
         MUST(written.refusal == AOC_ACCEPTED && written.count == length && !memcmp(buffer, octets, 2) && buffer[2] == AOC_PROFILE_LINE);
         MUST(!memcmp(buffer + 3, octets + 3, length - 3));
+        written = aoc_write_element_by(octets[2], octets + 3, length - 3, buffer, AOC_LIMIT_ELEMENT_OCTETS);
+        MUST(written.refusal == AOC_ACCEPTED && written.count == length && !memcmp(buffer, octets, length));
+        MUST(aoc_interpretation_in(octets, length) <= AOC_INTERPRETATION_NONE);
     }
     aoc_written written = aoc_write_element(octets, length, buffer, AOC_LIMIT_ELEMENT_OCTETS);
     MUST(written.refusal ? written.refusal == AOC_REFUSED_BAD_ELEMENT && written.count == 0 : written.count == length + 3);
@@ -158,6 +161,47 @@ static void events(const uint8_t *octets, size_t length)
     free(rest);
 }
 
+/* The octets as elements of a DISCONNECT of the network: its events are a Clear and the components of its Facility elements. */
+static void message(const uint8_t *octets, size_t length)
+{
+    static const uint8_t head[] = {0x08, 0x01, 0x81, 0x45};
+    size_t n = sizeof head + length, place = 0, from = 0, count = 0, at = 0;
+    uint16_t key = 0;
+    uint8_t *whole = malloc(n), *out = malloc(n);
+    uint16_t *rows = malloc(AOC_ROW_NUMBERS * n * sizeof *rows);
+    MUST(whole != NULL && out != NULL && rows != NULL);
+    memcpy(whole, head, sizeof head);
+    if (length)
+        memcpy(whole + sizeof head, octets, length);
+    MUST(aoc_call_key(AOC_FROM_NETWORK, whole, n, &key) && key == 1);
+    aoc_trace_answer answer = aoc_message_events(AOC_FROM_NETWORK, whole, n, rows, AOC_ROW_NUMBERS * n, out, n);
+    MUST(answer.refusal == AOC_ACCEPTED || (answer.refusal == AOC_REFUSED_FRAMING && answer.message == 1 && answer.events == 0));
+    while (aoc_next_facility(whole, n, &place, &from)) {
+        size_t inside = AOC_FIRST_PLACE, start = inside;
+        aoc_either either;
+        MUST(place > from && place <= n && whole[from] == 0x1C);
+        for (; aoc_next_by(whole + from, place - from, &inside, &either); start = inside) {
+            bool exchange = aoc_is_for_exchange(&either, whole + from + start, inside - start);
+            MUST(!exchange || either.family == AOC_FAMILY_TRUNK);
+            if (either.family != AOC_FAMILY_LINE || answer.refusal != AOC_ACCEPTED)
+                continue;
+            count++;
+            MUST(count < answer.events && rows[AOC_ROW_NUMBERS * count] == AOC_EVENT_COMPONENT && rows[AOC_ROW_NUMBERS * count + 5] == inside - start);
+            MUST(!memcmp(out + at, whole + from + start, inside - start));
+            at += inside - start;
+        }
+    }
+    MUST(answer.refusal != AOC_ACCEPTED || (answer.events == count + 1 && answer.octets == at && rows[0] == AOC_EVENT_CLEAR));
+    answer = aoc_message_events(AOC_FROM_USER, octets, length, rows, AOC_ROW_NUMBERS * n, out, n);
+    MUST(answer.refusal == AOC_ACCEPTED || answer.refusal == AOC_REFUSED_FRAMING);
+    MUST(!aoc_call_key(AOC_FROM_USER, octets, length, &key) || (length > 2 && octets[0] == 0x08));
+    place = 0;
+    MUST(!aoc_next_facility(octets, length, &place, &from) || (length > 3 && octets[0] == 0x08));
+    free(whole);
+    free(out);
+    free(rows);
+}
+
 /* Any octets as memory: every function gives its answer. */
 static void memory(const uint8_t *octets, size_t length)
 {
@@ -177,7 +221,7 @@ static void memory(const uint8_t *octets, size_t length)
     MUST(strlen(text) == (printed < sizeof text ? printed : sizeof text - 1));
     aoc_priced priced = aoc_price(aoc_closing_of(&call));
     MUST(priced.refusal == AOC_ACCEPTED || aoc_is_refusal(priced.refusal));
-    aoc_component(&call, octets, length);
+    (void)aoc_component(&call, octets, length);
 }
 
 int LLVMFuzzerTestOneInput(const uint8_t *octets, size_t length)
@@ -190,6 +234,7 @@ int LLVMFuzzerTestOneInput(const uint8_t *octets, size_t length)
         by_profile(copy[0], copy + 1, length - 1);
     element(copy, length);
     events(copy, length);
+    message(copy, length);
     memory(copy, length);
     free(copy);
     return 0;

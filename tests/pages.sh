@@ -1,7 +1,7 @@
 #!/bin/sh
-# The pages say what the tree has: its crates, the lines of each file of definitions, which of them are to be believed,
-# the exports, the sizes, the must-fail edits, the theorems, the names in backticks and their files, what is quoted of definitions, what
-# public statements cite, the landings' notes, the links.
+# The pages say what the tree has: the lines of each file of definitions, which of them are to be believed,
+# the exports, the sizes, the must-fail edits, the theorems, the names in backticks with the crates and files that they are said to be in (in
+# comments of the code too), what is quoted of definitions, what public statements cite, the landings' notes, the links, what programs print.
 cd "$(dirname "$0")/.." || exit 2
 exec python3 - <<'PYTHON'
 import glob
@@ -41,16 +41,13 @@ def differ(page, what, said, true):
 
 ARCHITECTURE, TRUST, CONTRACTS, EDITS = "docs/ARCHITECTURE.md", "docs/TRUST.md", "docs/CONTRACTS.md", "docs/EDITS.md"
 
-# ---- each crate is told of once
 crates = [line.split(":")[0] for line in text("crates.txt").splitlines() if ":" in line.split("#")[0]]
-told = re.findall(r"^\|[^|]*\| `([a-z_]+)` \|[^|]*\|$", text(ARCHITECTURE).split("## Layers")[1].split("###")[0], re.M)
-differ(ARCHITECTURE, "crate", told, crates)
 
-# ---- the files of definitions: those to be believed, with their lines, and those that only help
+# ---- the files of definitions: those to be believed, with their lines and the minutes of reading, and those that only help
 files = {path[len("crates/"):] for path in glob.glob("crates/*/specs/*.antt") if not path.endswith("/Lib.antt")}
 rows = re.findall(r"^\| `([a-z_]+/specs/[A-Za-z]+\.antt)` \| (\d+) \|", text(TRUST), re.M)
 believed = {name: int(lines) for name, lines in rows}
-helping = re.findall(r"^- `([a-z_]+/specs/[A-Za-z]+\.antt)`", text(TRUST), re.M)
+helping = re.findall(r"`([a-z_]+/specs/[A-Za-z]+\.antt)`", text(TRUST).split("## The definitions that only help")[1].split("\n## ")[0])
 differ(TRUST, "file", set(believed) | set(helping), files)
 listed = [name for name, lines in rows] + helping
 for name in sorted({name for name in listed if listed.count(name) > 1}):
@@ -61,12 +58,21 @@ for name, lines in believed.items():
     body = text("crates/" + name)
     if body.count("\n") != lines:
         tell(TRUST, f"{name} has {body.count(chr(10))} lines, not {lines}")
-    for crate, file in re.findall(r"^use Rattle·([a-z_]+)(?:·specs)?\.specs\.([A-Za-z]+)\.\{", body, re.M):
+    for crate, file in re.findall(r"^(?:unfoldable )?(?:pub )?use Rattle·([a-z_]+)(?:·specs)?\.specs\.([A-Za-z]+)\.\{", body, re.M):
         if f"{crate}/specs/{file}.antt" in files - set(believed):
             tell(TRUST, f"{name} is to be believed and cites {crate}/specs/{file}.antt, which is not")
 
-audit = re.findall(r"^\| `([a-z_]+/specs/[A-Za-z]+\.antt)` \| \d+ \|", text("docs/AUDIT.md"), re.M)
-differ("docs/AUDIT.md", "file", audit, believed)
+# ---- the minutes of each step of reading, and of all of them
+minutes = 0
+for head, said, step in re.findall(r"(?m)^### (\d+\. .*?) \((\d+) minutes\)$((?:.|\n)*?)(?=^### )", text(TRUST)):
+    took = sum(map(int, re.findall(r"(?m)^\| `[a-z_]+/specs/\w+\.antt` \| \d+ \| (\d+) \|", step)))
+    minutes += took
+    if took != int(said):
+        tell(TRUST, f"{head}: its files take {took} minutes, not {said}")
+if f"All of it takes {minutes} minutes" not in text(TRUST):
+    tell(TRUST, f"all of it takes {minutes} minutes")
+order = re.findall(r"(?m)^\| `([a-z_]+/specs/\w+\.antt)` \| \d+ \| \d+ \| (.*) \|$", text(TRUST))
+differ(TRUST, "file with its minutes", [path for path, names in order], believed)
 
 # ---- the exports
 exports = re.findall(r'extern "C" fn (aoc_\w+)', text("crates/aoc/src/lib.rt"))
@@ -120,13 +126,13 @@ for line in text(CONTRACTS).split("## Theorems", 1)[1].splitlines():
 # ---- names in backticks
 code = {crate: "\n".join(text(path) for path in glob.glob(f"crates/{crate}/src/**/*.rt", recursive=True)) for crate in crates}
 words = set()
-for pattern in ("crates/**/*.rt", "crates/**/*.antt", "include/*", "tests/*", "second/*.py", "examples/*", "bench/*", "tools/*", "docs/*.sh"):
+for pattern in ("crates/**/*.rt", "crates/**/*.antt", "include/*", "tests/*", "second/*.py", "examples/*", "bench/*", "tools/*", "docs/*.sh", "docs/*.1", "bindings/**/*"):
     for path in glob.glob(pattern, recursive=True):
-        if os.path.isfile(path):
+        if os.path.isfile(path) and not path.endswith(".md"):
             words.update(re.findall(r"[^\W\d][\w'·-]*", text(path)))
             words.add(os.path.basename(path).split(".")[0])
 words.update(folder for path in glob.glob("crates/**/", recursive=True) for folder in path.split("/"))
-pages = sorted(glob.glob("docs/*.md")) + ["README.md", "second/README.md"]
+pages = sorted(glob.glob("docs/*.md")) + ["README.md", "CONTRIBUTING.md", "examples/README.md", "second/README.md"]
 for page in pages:
     if page == "docs/EDITS.md":
         continue
@@ -139,13 +145,50 @@ for page in pages:
         elif re.fullmatch(r"[^\W\d][\w-]{2,}", quoted) and quoted not in words:
             tell(page, f"no name {quoted}")
 
-# ---- `name` in `file`: the file has it; so has the file of a row of AUDIT's order of reading
+# ---- `name` in `file`: the file has it; so has the file of a row of TRUST's order of reading
 places = [(page, found) for page in pages for found in re.findall(r"((?:`[\w-]+`(?:, | and | to )?)+) in `([a-z_]+/(?:specs|proofs|src)/[\w/]+\.\w+)`", text(page))]
-places += [("docs/AUDIT.md", (names, path)) for path, names in re.findall(r"^\| `([a-z_]+/specs/\w+\.antt)` \| \d+ \| (.*) \|$", text("docs/AUDIT.md"), re.M)]
+places += [(TRUST, (names, path)) for path, names in order]
 for page, (names, path) in places:
     for name in re.findall(r"`([\w-]+)`", names):
         if os.path.exists("crates/" + path) and not re.search(rf"(?m)^(?!--|//).*(?<![\w-]){re.escape(name)}(?![\w-])", text("crates/" + path)):
             tell(page, f"no {name} in {path}")
+
+# ---- `name` (`file`): one of the files of that name, or path, defines it; so in comments of the code, where a path stands without its quotes
+def defines(path, name):
+    return bool(re.search(rf"(?m)^ *(?:(?:pub|abbrev|unfoldable|data|record|fn|struct|const|ruleset) )*{re.escape(name)}(?![\w·-])", text(path)))
+
+
+antt = glob.glob("crates/*/specs/*.antt") + glob.glob("crates/*/proofs/*.antt")
+comments = [(path, "\n".join(re.findall(r"(?m)^\s*(?:--|//) ?(.*)", text(path)))) for path in antt + glob.glob("crates/*/src/**/*.rt", recursive=True)]
+for page, said in [(page, text(page)) for page in pages if page != "docs/EDITS.md"] + comments:
+    for names, beside in re.findall(r"((?:`[^\W\d][\w-]*`(?:, | and )?)+) \(((?:`?(?:[a-z_]+/(?:specs|proofs)/)?\w+\.antt`?(?:, )?)+)\)", said):
+        standing = [path for file in re.findall(r"[\w/]+\.antt", beside) for path in antt if path.endswith("/" + file)]
+        for name in re.findall(r"`([^`]+)`", names):
+            if name not in crates and not any(defines(path, name) for path in standing):
+                tell(page, f"no {name} in {beside}")
+    for path in set(re.findall(r"(?<![\w/])[a-z_]+/(?:specs|proofs|src)/[\w/+]+\.(?:antt|rt)", said)):
+        if not os.path.exists("crates/" + path):
+            tell(page, f"no file {path}")
+
+# ---- `name` in `crate`, and `crate` (`file`, `name`): the crate is there and has them. A word after "in" that is no crate is a definition's or a function's
+called = set(re.findall(r"\b(?:fn|struct|const) (\w+)", "\n".join(code.values())))
+every = {crate: "\n".join(text(path) for path in glob.glob(f"crates/{crate}/**/*", recursive=True) if path.endswith((".antt", ".rt"))) for crate in crates}
+for page in pages:
+    for name, crate in re.findall(r"`([^`\n]+)` in `([a-z][a-z_]*)`", text(page)) if page != "docs/EDITS.md" else []:
+        if crate not in crates and crate not in called and not any(defines(path, crate) for path in antt) and not os.path.exists(crate):
+            tell(page, f"{name}: no crate and no definition {crate}")
+        elif crate in crates and re.fullmatch(r"[^\W\d][\w-]*", name) and not re.search(rf"(?<![\w-]){re.escape(name)}(?![\w-])", every[crate]):
+            tell(page, f"no {name} in the crate {crate}")
+for line in text("CONTRIBUTING.md").split("## The requests of document 02")[1].splitlines():
+    for crate, inside in re.findall(r"`([a-z_]+)` \(((?:`[^`]+`(?:, )?)+)\)", line):
+        for name in re.findall(r"`([^`]+)`", inside):
+            there = glob.glob(f"crates/{crate}/*/{name}") if name.endswith(".antt") else [crate for path in glob.glob(f"crates/{crate}/*/*") if os.path.isfile(path) and defines(path, name)]
+            if not there:
+                tell("CONTRIBUTING.md", f"no {name} in {crate}")
+trunks = re.search(r"(?m)^\| \[1 QSIG trunks\]\([^|]*\|([^|]*)\|", text("CONTRIBUTING.md"))[1]
+for crate in crates:
+    if re.match(r"trunk|profile", crate) and "fn " in code[crate] and f"`{crate}`" not in trunks:
+        tell("CONTRIBUTING.md", f"request 1: {crate} is not named")
 
 # ---- what READINGS quotes of a definition stands there, `..` for anything
 specs = " ".join(re.sub(r"\s+", " ", text(path)) for path in glob.glob("crates/*/specs/*.antt") + glob.glob("crates/*/proofs/*.antt"))
@@ -175,6 +218,8 @@ for line in text("docs/READINGS.md").splitlines():
     for piece in re.split(r"; |, (?=[A-Z]\w* `)", re.sub(r" \([^)]*\)", "", line.split(" | ")[1].split(": ")[0])) if line.startswith("| ") else []:
         at = re.match(r"(\w+) `", piece)
         path = {**general, **own}.get(at[1]) if at else None
+        if at and not path and re.fullmatch(r"[A-Z][a-z]+", at[1]):
+            tell("docs/READINGS.md", f"no file has the short name {at[1]}")
         for name in re.findall(r"`([^\W\d][\w·-]*)", piece) if path else []:
             if not os.path.exists("crates/" + path) or not re.search(rf"(?m)^ *(?:(?:pub|abbrev|unfoldable|data|record|struct) )*{re.escape(name)}(?![\w·-])", text("crates/" + path)):
                 tell("docs/READINGS.md", f"no {name} in {path}")
@@ -216,9 +261,28 @@ for page in pages:
     for path in set(re.findall(r"`([a-z_]+/(?:specs|proofs|src)/[\w/]+\.(?:antt|rt))`", text(page))):
         if not os.path.exists("crates/" + path):
             tell(page, f"no file {path}")
-    for path in set(re.findall(r"`((?:docs|tests|tools|second|examples|bench|include)/[\w./-]+\.\w+)`", text(page))):
+    for path in set(re.findall(r"`((?:docs|tests|tools|second|examples|bench|include|bindings)/[\w./-]+\.\w+)`", text(page))):
         if not os.path.exists(path):
             tell(page, f"no file {path}")
+
+# ---- what a page shows of a program's output stands in the file that the program's test compares, in this order
+shown = 0
+for page in pages:
+    blocks = re.findall(r"(?:^|\n)([^\n]+)\n\n((?:    [^\n]*\n)+)", text(page))
+    for (_, command), (words, output) in zip(blocks, blocks[1:]):
+        last = command.splitlines()[-1].strip()
+        given = re.search(r"\./run (\w+)[^<|]*(?:< (\S+))?$", last)
+        if not given or "print" not in words or not words.endswith(":"):
+            continue
+        kept = "examples/capture/night.out" if "|" in last else f"examples/{given[1]}.out" if not given[2] else \
+            given[2].replace("stdin", "stdout").replace(".txt", ".out")
+        left = iter(text(kept).splitlines())
+        for line in output.splitlines():
+            if line[4:] not in left:
+                tell(page, f"{kept} does not have, behind the lines before it: {line[4:]}")
+        shown += 1
+if shown < 8:
+    tell("README.md", f"{shown} outputs of programs are found on the pages, at least 8 are there")
 
 print("\n".join(wrong), end="\n" if wrong else "")
 print(f"pages: {len(pages)}, {len(crates)} crates, {len(files)} files of definitions, {len(edits)} edits, {len(exports)} exports; {len(wrong)} wrong")

@@ -30,9 +30,11 @@ static void call_read(void) { refusal = aoc_read(octets, length, &answer); }
 static void call_read_by(void) { refusal = aoc_read_by(profile, octets, length, &either); }
 static void call_reply(void) { written = aoc_reply(octets, length, buffer, sizeof buffer); }
 static void call_reply_by(void) { written = aoc_reply_by(profile, octets, length, buffer, sizeof buffer); }
+static void call_write_by(void) { written = aoc_write_by(profile, &either, buffer, sizeof buffer); }
 static void call_next(void) { place = AOC_FIRST_PLACE, (void)aoc_next(octets, length, &place, &answer); }
 static void call_next_by(void) { place = AOC_FIRST_PLACE, (void)aoc_next_by(octets, length, &place, &either); }
 static void call_write_element(void) { written = aoc_write_element(octets, length, buffer, sizeof buffer); }
+static void call_write_element_by(void) { written = aoc_write_element_by(profile, octets, length, buffer, sizeof buffer); }
 static void call_component(void) { refusal = aoc_component(&account, octets, length).number; }
 static void call_step(void) { refusal = aoc_step(&account, event, octets, length).number; }
 static void call_board_event(void) { refusal = aoc_board_event(&board, 1, event, octets, length).number; }
@@ -60,7 +62,7 @@ static struct function {
     {"aoc_read_into", call_read, 0},         {"aoc_read_by_into", call_read_by, 0},    {"aoc_reply", call_reply, 0},
     {"aoc_reply_by", call_reply_by, 0},      {"aoc_next_into", call_next, 0},          {"aoc_next_by_into", call_next_by, 0},
     {"aoc_write_element", call_write_element, 0}, {"aoc_component", call_component, 0}, {"aoc_step", call_step, 0},
-    {"aoc_board_event", call_board_event, 0}, {"aoc_trace_events", call_trace, 0},
+    {"aoc_board_event", call_board_event, 0}, {"aoc_trace_events", call_trace, 0}, {"aoc_write_element_by", call_write_element_by, 0},
 };
 static struct function listed[] = {
     {"aoc_why", call_why, 0},             {"aoc_fault", call_fault, 0},           {"aoc_plain_outcome", call_outcome, 0},
@@ -130,15 +132,42 @@ static void fill(const char *head, uint8_t first, uint8_t second, size_t n)
     length = n;
 }
 
+/* A trunk's component whose extension has elements in one another to as many octets as fit. Around what is innermost, so many have a
+ * number and the others none. Every number is in one octet, or two from 128 on, so that they are as deep as can be. */
+static void fill_extension(const char *innermost, size_t numbered, bool list, bool error)
+{
+    uint8_t inner[300];
+    size_t n = unhex(innermost, inner), most = 254 - (list ? 21 : error ? 18 : 17);
+    for (size_t depth = 0;; depth++) {
+        size_t head = depth < numbered ? (n < 128 ? 2 : 3) : 2, tail = depth < numbered ? 0 : 2;
+        if (n + head + tail > most)
+            break;
+        memmove(inner + head, inner, n);
+        inner[0] = 0x30;
+        inner[1] = (uint8_t)(tail ? 0x80 : n < 128 ? n : 0x81);
+        if (head == 3)
+            inner[2] = (uint8_t)n;
+        n += head;
+        memset(inner + n, 0, tail);
+        n += tail;
+    }
+    length = unhex(error ? "A3 80 02 01 05 02 02 03 F0 30 80" : list ? "A1 80 02 01 05 02 01 3C A2 80 30 80" : "A1 80 02 01 05 02 01 3C A1 80", octets);
+    length += unhex("06 01 2A", octets + length);
+    memcpy(octets + length, inner, n);
+    length += n;
+    for (int i = 0; i < (list && !error ? 6 : 4); i++)
+        octets[length++] = 0;
+}
+
 static void set_up(void)
 {
     static const uint8_t none;
     account = aoc_fresh();
     memset(&board, 0, sizeof board);
-    aoc_setup(&account, aoc_no_services(), aoc_three_identifiers(0));
-    aoc_connect(&account);
-    aoc_board_event(&board, 1, aoc_event_of_setup(aoc_no_services(), aoc_three_identifiers(0)), &none, 0);
-    aoc_board_event(&board, 1, aoc_event_of(AOC_EVENT_CONNECT), &none, 0);
+    (void)aoc_setup(&account, aoc_no_services(), aoc_three_identifiers(0));
+    (void)aoc_connect(&account);
+    (void)aoc_board_event(&board, 1, aoc_event_of_setup(aoc_no_services(), aoc_three_identifiers(0)), &none, 0);
+    (void)aoc_board_event(&board, 1, aoc_event_of(AOC_EVENT_CONNECT), &none, 0);
     event = aoc_event_of(AOC_EVENT_COMPONENT);
 }
 
@@ -179,6 +208,33 @@ static void test_octets(void)
                 fill(shapes[s].head, shapes[s].first, shapes[s].second, sizes[i]);
                 all_on(trunk ? AOC_PROFILE_TRUNK : AOC_PROFILE_LINE);
             }
+}
+
+/* Extensions, read, gone through in an element, replied to and written. */
+static void test_extensions(void)
+{
+    static struct function write_by = {"aoc_write_by_from", call_write_by, 0};
+    static const char *const innermost[] = {"", "05 00", "05 81 00", "30 80 00 00", "00 00", "04 80", "05 00 05 81 00", "05"};
+    for (size_t i = 0; i < sizeof innermost / sizeof *innermost; i++)
+        for (size_t numbered = 0; numbered <= 128; numbered += 8)
+            for (int shape = 0; shape < 3; shape++) {
+                uint8_t component[254];
+                set_up();
+                fill_extension(innermost[i], numbered, shape == 1, shape == 2);
+                all_on(AOC_PROFILE_TRUNK);
+                bool whole = i < 4 || i == 6;
+                call_on_stack(functions + 1);
+                CHECK(either.refusal == AOC_ACCEPTED ? whole : !whole, innermost[i]);
+                call_on_stack(&write_by);
+                CHECK(written.refusal == (whole ? AOC_ACCEPTED : AOC_REFUSED_BAD_RECORD), "written");
+                memcpy(component, octets, length);
+                octets[0] = 0x1C, octets[1] = (uint8_t)(length + 1), octets[2] = AOC_PROFILE_TRUNK;
+                memcpy(octets + 3, component, length);
+                length += 3;
+                call_on_stack(functions + 5);
+                CHECK(either.family == AOC_FAMILY_TRUNK || !whole, "gone through");
+            }
+    printf("used %s %zu\n", write_by.name, write_by.used);
 }
 
 /* A reply to over 254 octets is that to too long a component, whatever they are. */
@@ -246,6 +302,7 @@ int main(void)
         return 1;
     }
     test_octets();
+    test_extensions();
     test_replies();
     test_lists();
     for (size_t i = 0; i < FUNCTIONS; i++)

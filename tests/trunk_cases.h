@@ -8,7 +8,7 @@ struct trunk_case {
     size_t n;
 };
 
-static struct trunk_case trunk_cases[128];
+static struct trunk_case trunk_cases[160];
 static size_t trunk_case_count;
 
 /* The next field of a line, up to " | " or its end. */
@@ -38,8 +38,8 @@ static inline void load_trunk_cases(void)
         c->n = unhex(hex, c->octets);
         trunk_case_count++;
     }
-    if (!file || trunk_case_count != 111) {
-        printf("second/trunk_cases.txt has not the 99 components and 12 elements\n");
+    if (!file || trunk_case_count != 120) {
+        printf("second/trunk_cases.txt has not the 108 components and 12 elements\n");
         exit(1);
     }
     fclose(file);

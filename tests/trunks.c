@@ -29,8 +29,11 @@ static void check_component(const struct trunk_case *c)
     size_t n = c->n - 1;
     aoc_either a = read_by(profile, lend(octets, n), n, c->name);
     bool finer = a.refusal >= AOC_REFUSED_MISSING && a.refusal <= AOC_REFUSED_PAST_LIMIT;
+    const char *offset = strchr(c->wanted, '@');
     if (strchr(c->wanted, ' ') || !strcmp(c->wanted, "same"))
         CHECK(a.refusal == AOC_ACCEPTED, c->name);
+    else if (offset)
+        CHECK(a.refusal == (uint32_t)atoi(c->wanted) && a.offset == (uint32_t)atoi(offset + 1), c->name);
     else
         CHECK((finer ? 9 : a.refusal) == (uint32_t)atoi(c->wanted), c->name);
     check_reply(profile, octets, n, c->reply, c->name);
@@ -86,7 +89,6 @@ static int has_number(const aoc_association *a, uint8_t kind, uint8_t plan, cons
 static void test_records(void)
 {
     static const uint8_t modes[] = {0, 2, 4, 6, 1, 3, 5}, one[] = {0x06, 0x01, 0x2A, 0x05, 0x00};
-    static const uint8_t kept[] = {0x06, 0x81, 0x03, 0x2B, 0x0C, 0x02, 0x05, 0x00};
     const aoc_trunk *t = trunk_of("Q3");
     CHECK(t->frame == AOC_FRAME_INVOKE && t->operation == AOC_OPERATION_CHARGE_REQUEST && t->asked == 7 && !memcmp(t->modes, modes, 7), "modes");
     t = trunk_of("Q9");
@@ -102,8 +104,6 @@ static void test_records(void)
     t = trunk_of("Q30");
     CHECK(t->charge.kind == AOC_CHARGE_NONE && t->charge.association.kind == AOC_ASSOCIATION_IDENTIFIER, "identifier");
     CHECK(t->charge.association.id == 0xFFFF, "identifier");
-    t = trunk_of("Q37");
-    CHECK(t->extended == AOC_EXTENDED_ONCE && t->extent == sizeof kept && !memcmp(t->extension, kept, sizeof kept), "an extension as received");
     t = trunk_of("Q33");
     CHECK(t->extended == AOC_EXTENDED_LIST && t->extent == 0, "a list of no extensions");
     t = trunk_of("Q50");
@@ -131,6 +131,38 @@ static void test_records(void)
     CHECK(t->frame == AOC_FRAME_EXTENSION && t->detail == AOC_ENTITY_ANY && t->entity == AOC_ENTITY_END && t->id == 0, "network facility extension");
     CHECK(has_number(&t->user, AOC_ASSOCIATION_PLANNED_NUMBER, 1, "49"), "its source address");
     CHECK(has_number(&t->charge.association, AOC_ASSOCIATION_NUMBER, 0, "6001"), "its destination address");
+}
+
+/* The record keeps an extension's normal form, whatever form it came in. */
+static void check_extension(const char *name, aoc_extended extended, const char *hex)
+{
+    uint8_t wanted[AOC_LIMIT_EXTENSION_OCTETS];
+    size_t n = unhex(hex, wanted);
+    const aoc_trunk *t = trunk_of(name);
+    CHECK(t->extended == extended && t->extent == n && !memcmp(t->extension, wanted, n), name);
+    CHECK(all(t->extension + n, sizeof t->extension - n, 0), name);
+}
+
+/* A price in lengths without a number at every depth, an extension's too: it is read, and can be posted. */
+static void test_price(void)
+{
+    const aoc_trunk *t = trunk_of("X9");
+    aoc_closing closing = {AOC_SERVICE_E, t->charge};
+    aoc_month month = aoc_month_empty();
+    CHECK(t->charge.kind == AOC_CHARGE_MONEY && aoc_thousandths(t->charge.money.number, t->charge.money.multiplier) == 500, "a price");
+    CHECK(t->charge.money.currency.count == 3 && !memcmp(t->charge.money.currency.octets, "EUR", 3), "a price");
+    CHECK(aoc_month_post(&month, &closing) == AOC_ACCEPTED && month.added == 1 && month.rows[0].sum == 500, "a price posted");
+}
+
+static void test_extensions(void)
+{
+    check_extension("Q14", AOC_EXTENDED_ONCE, "06 03 2B 0C 02 05 00");
+    check_extension("Q37", AOC_EXTENDED_ONCE, "06 03 2B 0C 02 05 00");
+    check_extension("X1", AOC_EXTENDED_ONCE, "06 01 2A 30 00");
+    check_extension("X2", AOC_EXTENDED_ONCE, "06 01 2A 30 02 30 00");
+    check_extension("X3", AOC_EXTENDED_ONCE, "06 01 2A 05 00");
+    check_extension("X4", AOC_EXTENDED_LIST, "30 05 06 01 2A 05 00");
+    check_extension("X9", AOC_EXTENDED_LIST, "30 05 06 01 2A 05 00");
 }
 
 /* ------------------------------------------------------------------ damage, and other octets */
@@ -199,6 +231,8 @@ int main(void)
             check_damage(c);
     }
     test_records();
+    test_extensions();
+    test_price();
     test_profiles();
     return report("trunks");
 }

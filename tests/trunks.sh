@@ -3,7 +3,7 @@
 cd "$(dirname "$0")/.." || exit 2
 work=$(mktemp -d) || exit 2
 trap 'rm -rf "$work"' EXIT
-trunks() { sh tools/exec target/examples/trunks; }
+trunks() { sh tools/exec target/examples/trunks "$@"; }
 wrong() { echo "trunks: $*"; exit 1; }
 
 ./run trunks <examples/trunks.txt | cmp - examples/trunks.out || exit 1
@@ -26,6 +26,7 @@ says 'bad line' '9F\r'
 says 'bad line' '9F A'
 says 'bad line' '9G'
 says 'bad line' '9F \0000'
+says 'bad line' '\0357\0273\027791'
 says 'refused 1' '9f'
 says 'refused 1' '91'
 says 'refused 17' '00'
@@ -40,11 +41,16 @@ printf '' | trunks >"$work/out" || wrong 'a status for no input'
 [ ! -s "$work/out" ] || wrong 'no input'
 
 trunks </ >"$work/out" 2>"$work/err"
-[ $? = 2 ] || wrong 'a folder as input'
+[ $? = 1 ] || wrong 'a folder as input'
 grep -q 'cannot be read' "$work/err" || wrong 'a folder as input'
 if [ -w /dev/full ]; then
     trunks <examples/trunks.txt >/dev/full 2>"$work/err"
-    [ $? = 2 ] || wrong 'a full disk'
+    [ $? = 1 ] || wrong 'a full disk'
     grep -q 'cannot be written' "$work/err" || wrong 'a full disk'
 fi
+trunks examples/trunks.txt | cmp - examples/trunks.out || wrong 'a file'
+trunks --help | grep -q '^usage: trunks ' || wrong '--help'
+trunks --version | grep -q '^trunks [0-9.]*$' || wrong '--version'
+trunks --all >"$work/out" 2>"$work/err"
+[ $? = 2 ] || wrong 'an unknown option'
 echo "trunks: every line has its answer"

@@ -1,5 +1,5 @@
-/* Components of trunks written by their profile octet: the cases of the readings at every room, every field out of its range, and
- * every other profile octet. */
+/* Components of trunks written by their profile octet: the cases of the readings at every room, every field out of its range, extensions
+ * that are no normal form, and every other profile octet. */
 #include "trunk_cases.h"
 
 /* What is written of a record that was read, at every room. */
@@ -54,6 +54,53 @@ static void check_fields(const struct trunk_case *c)
     }
 }
 
+/* An extension's octets that are no normal form are no record's: 10, and nothing is written. The same read is written in its normal form. */
+static void test_forms(void)
+{
+    static const struct {
+        const char *octets;     /* of an extension; of a list behind L */
+        bool taken;
+    } forms[] = {
+        {"06 01 2A 05 00", true},
+        {"06 01 2A 30 00", true},
+        {"06 01 2A 30 02 30 00", true},
+        {"06 01 2A 04 04 30 80 00 00", true},
+        {"06 02 81 00 05 00", true},
+        {"L", true},
+        {"L30 05 06 01 2A 05 00", true},
+        {"06 01 2A 30 80 00 00", false},
+        {"06 01 2A 30 04 30 80 00 00", false},
+        {"06 01 2A 05 81 00", false},
+        {"06 81 01 2A 05 00", false},
+        {"06 01 2A 30 03 05 81 00", false},
+        {"06 01 2A 30 02 00 00", false},
+        {"06 01 2A 30 01 05", false},
+        {"06 01 2A", false},
+        {"06 01 2A 05 00 05 00", false},
+        {"06 01 80 05 00", false},
+        {"06 02 80 01 05 00", false},
+        {"06 00 05 00", false},
+        {"06 01 2A 00 00", false},
+        {"06 01 2A 04 80", false},
+        {"", false},
+        {"L30 80 06 01 2A 05 00 00 00", false},
+        {"L30 81 05 06 01 2A 05 00", false},
+        {"L30 06 06 01 2A 05 81 00", false},
+        {"L06 01 2A 05 00", false},
+    };
+    for (size_t i = 0; i < sizeof forms / sizeof *forms; i++) {
+        bool list = forms[i].octets[0] == 'L';
+        aoc_either a = read_by(AOC_PROFILE_TRUNK, (const uint8_t *)"\xA1\x08\x02\x01\x05\x02\x01\x3C\x05\x00", 10, "forms");
+        a.trunk.extended = list ? AOC_EXTENDED_LIST : AOC_EXTENDED_ONCE;
+        a.trunk.extent = (uint8_t)unhex(forms[i].octets + list, a.trunk.extension);
+        uint8_t *buffer = make_room(AOC_LIMIT_COMPONENT_OCTETS);
+        aoc_written w = aoc_write_by(AOC_PROFILE_TRUNK, &a, buffer, AOC_LIMIT_COMPONENT_OCTETS);
+        CHECK(w.refusal == (forms[i].taken ? AOC_ACCEPTED : AOC_REFUSED_BAD_RECORD), forms[i].octets);
+        CHECK(!forms[i].taken || (w.count == 10u + a.trunk.extent && !memcmp(buffer + 10, a.trunk.extension, a.trunk.extent)), forms[i].octets);
+        CHECK(forms[i].taken || (w.count == 0 && holds(buffer, AOC_LIMIT_COMPONENT_OCTETS, buffer, 0)), forms[i].octets);
+    }
+}
+
 int main(void)
 {
     make_edges();
@@ -66,5 +113,6 @@ int main(void)
         if (c->octets[0] == AOC_PROFILE_TRUNK)
             check_fields(c);
     }
+    test_forms();
     return report("trunks written");
 }

@@ -44,8 +44,8 @@ static void check_component(const char *name, const char *text)
 
 static void test_charges(void)
 {
-    check_component("request S", "no charge");
-    check_component("rates, not available", "no charge");
+    check_component("request S", "not available");
+    check_component("rates, not available", "not available");
     check_component("arrangement", "special arrangement 10");
     check_component("D amount, subtotal", "EUR 0.500");
     check_component("D amount, total, billed", "?UR 16777215000.000, total, credit card");
@@ -95,7 +95,14 @@ static void test_trunks(void)
     money.association.kind = AOC_ASSOCIATION_PRIVATE_NUMBER;
     money.association.count = 2;
     memcpy(money.association.digits, "67", 2);
-    check_printed(&money, "0.500, of private number 67", "the private network's currency, a private number");
+    check_printed(&money, "own currency 0.500, of private number 67", "the private network's currency, a private number");
+    memset(&rate.rates[0].currency, 0, sizeof rate.rates[0].currency);
+    check_printed(&rate, "communication own currency 0.100", "a rate in the private network's currency");
+    aoc_charge none = charge_of("request S");
+    none.association = money.association;
+    check_printed(&none, "not available, of private number 67", "a final that is not available");
+    none.kind = 6;
+    check_printed(&none, "a charge of no known kind, of private number 67", "no kind");
     rate.rates[0].kind = AOC_RATE_FREE_FROM_BEGINNING;
     check_printed(&rate, "communication free from the beginning", "free from the beginning");
     CHECK(!strcmp(aoc_family_text(AOC_FAMILY_TRUNK), "a trunk between private exchanges (ECMA-212)"), "families");
@@ -123,6 +130,7 @@ static void test_longest(void)
             charge.rates[i].detail = AOC_DURATION_STEPS;
             charge.rates[i].scale = charge.rates[i].step_scale = small % 8;
             charge.rates[i].multiplier = small / 8 % 8;
+            charge.rates[i].currency.count = turn & 2 ? 0 : 255;        /* the private network's own has the most words */
         }
         size_t length = aoc_print_charge(text, sizeof text, &charge);
         CHECK(length < AOC_LIMIT_CHARGE_TEXT, "the longest text");

@@ -1,7 +1,7 @@
 -- A bound of a table, by one test that antt computes, and of a number times an entry of it.
 use Rattle.prelude.proofs.Prelude.{ℕ, zero, suc, _*_, _≤_, zero-le, Bool, true, _&&_, List, [], _∷_, mul-le-mul-left, arith, T, leb, leb→le, getD}
 use mir.Facts.{and-yes}
-use Rattle.amounts.specs.Powers.{powers}
+use Rattle.types.specs.Thousandths.{powers}
 
 abbrev allUpTo : ℕ → List ℕ → Bool
 allUpTo b [] = true

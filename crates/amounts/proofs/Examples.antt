@@ -1,8 +1,8 @@
 -- Pairs of finals that differ in spaces and in little else: one statement over one table.
 use Rattle.prelude.proofs.Prelude.{ℕ, _≡_, refl, true, false, List, [], _∷_, map}
 use Rattle.coding.specs.Codec.{pad}
-use Rattle.types.specs.{declared.Money.Money, Charges.kept, Cases.Case, Cases.cases}
-use Rattle.amounts.specs.{Currency.trimmed, Currency.equalCurrency, Amounts.thousandths, Amounts.equalMoney}
+use Rattle.types.specs.{declared.Money.Money, Charges.kept}
+use Rattle.amounts.specs.{Currency.trimmed, Currency.equalCurrency, Amounts.equalMoney}
 
 abbrev pub inText : List ℕ → ℕ → ℕ → Money
 inText xs number multiplier = record { currency = kept xs; multiplier = multiplier; number = number }
@@ -40,8 +40,3 @@ pub cases-right : map (λ (p : Money × Money). equalMoney (p .0) (p .1)) pairs
     ≡ true ∷ true ∷ true ∷ true ∷ true ∷ true ∷ false ∷ false ∷ false ∷ false ∷ false ∷ false ∷ false ∷ false ∷ []
 unfolding pairs equalMoney equalCurrency trimmed pad
 cases-right = refl
-
--- the column of thousandths in the table of octets to try, C1's 500 in it: those of the amount that each answer shows
-pub amounts-right : map (λ (c : Case). thousandths (c .answer .value .charge .figure .money)) cases ≡ map (λ (c : Case). c .thousandths) cases
-unfolding cases
-amounts-right = refl

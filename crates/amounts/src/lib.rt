@@ -4,7 +4,7 @@ use types::Money;
 ghost use mathlib.Core.Path.{_≡_};
 ghost use Prim.Native.Nat.{_*_, _≤_, _<_};
 ghost use lib.ListN.{getD};
-ghost use Rattle.amounts.specs.Powers.{powers};
+ghost use Rattle.types.specs.Thousandths.{powers};
 ghost use Rattle.amounts.specs.Currency.{counted, equalCurrency};
 ghost use Rattle.amounts.specs.Amounts.{equalMoney};
 

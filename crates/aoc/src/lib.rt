@@ -2,7 +2,7 @@
 //
 // Each is thin: it hands on what it is handed, and promises what the function that it calls promises.
 ghost use mathlib.Core.Path.{_≡_};
-ghost use mathlib.Core.List.{List, []};
+ghost use mathlib.Core.List.{[]};
 ghost use mathlib.Core.Bool.{false, _&&_, _||_};
 ghost use Prim.Native.Nat.{ℕ, _*_, _≤_};
 ghost use lib.ListN.{getD, length};
@@ -15,7 +15,7 @@ ghost use Rattle.write.specs.Handed.{handed};
 ghost use Rattle.write.specs.Outcome.{writeOf, leftOf};
 ghost use Rattle.reply.specs.Reply.{replyOf, replyLeft};
 ghost use Rattle.pass.specs.Pass.{passWith, passOf, wholeNext};
-ghost use Rattle.trunk_fields.specs.Fields.{Spare};
+ghost use Rattle.trunks.specs.Stored.{Spare};
 ghost use Rattle.profile.specs.Profile.{readBy, eitherIn};
 ghost use Rattle.profile_pass.specs.Passing.{families, nextIn};
 ghost use Rattle.profile_reply.specs.Replies.{replyProfile, leftProfile};
@@ -23,15 +23,15 @@ ghost use Rattle.types.specs.Stored.{recordIn, storedCharge};
 ghost use Rattle.trunks.specs.Stored.{trunkIn};
 ghost use Rattle.trunk_write.specs.Outcome.{spareZero};
 ghost use Rattle.profile_writer.specs.Writes.{writeProfile, writeProfileLeft};
-ghost use Rattle.amounts.specs.Powers.{powers};
+ghost use Rattle.types.specs.Thousandths.{powers};
 ghost use Rattle.requests.specs.Identifiers.{nextOf, oneUp};
 ghost use Rattle.requests.specs.Sets.{emptySet, isService, has, with};
 ghost use Rattle.reasons.specs.Reasons.{whyOf};
 ghost use Rattle.fault.specs.Rules.{faultAt};
-ghost use Rattle.phases.specs.Phases.{Given, event, Connect, Clear, Released, Component, Suspend, Resume};
-ghost use Rattle.account.specs.History.{judged, accountBy, currentRate, running, closing, marks, phase, requests, stepped, steppedBy, fresh, pendingOf};
+ghost use Rattle.phases.specs.Phases.{Connect, Clear, Released, Component, Suspend, Resume};
+ghost use Rattle.account.specs.History.{judged, currentRate, running, closing, marks, phase, requests, stepped, fresh, pendingOf};
 ghost use Rattle.outcomes.specs.Status.{requestsOf};
-ghost use Rattle.account.specs.Step.{steppedOf, closingOf, marksOf};
+ghost use Rattle.account.specs.Step.{closingOf, marksOf};
 ghost use Rattle.makers.specs.Events.{plainEvent, setupEvent, Took};
 ghost use Rattle.aoc.specs.Reading.{ReadsOff};
 ghost use Rattle.price.specs.Price.{priceOf};
@@ -39,16 +39,16 @@ ghost use Rattle.slots.specs.Board.{boarded, eventOn, emptied, collectOn, viewO
 ghost use Rattle.month.specs.Month.{emptyMonth, addOf};
 ghost use Rattle.trace.specs.Into.{laidOf, rowsLeft, octetsLeft};
 ghost use Rattle.plain.specs.Answers.{plainOutcome, plainPhase, plainPending, plainCurrentRate, plainRunning, plainClosing, plainMarks};
-ghost use Rattle.element_writer.specs.Round.{elementInto};
+ghost use Rattle.element_writer.specs.Round.{elementInto, elementBy};
 
 // ---- the version
 
 // What the header says as AOC_VERSION, of the archive that a host is linked with.
 #[no_mangle]
 pub extern "C" fn aoc_version() -> u32
-    ensures { λ r. ⌜ r ≡ 30001 ⌝ }
+    ensures { λ r. ⌜ r ≡ 40000 ⌝ }
 {
-    30001
+    40000
 }
 
 // The number in its name is the layout's. The header's inline functions mention it, so that an archive with another layout is not linked.
@@ -287,7 +287,7 @@ pub extern "C" fn aoc_step(
     e: phases::Event,
     octets: &[u8],
 ) -> phases::Outcome
-    ensures { λ r. ⌜ (stepped r (now (a .exit)) ≡ steppedOf (now (a .entry)) e (now (octets .entry))) × ((h : List Given) → now (a .entry) ≡ accountBy (judged h) → stepped r (now (a .exit)) ≡ steppedBy (event e (now (octets .entry))) h) ⌝ }
+    ensures { λ r. ⌜ Took (now (a .entry)) e (now (octets .entry)) (stepped r (now (a .exit))) ⌝ }
 {
     step::step_in(a, e, octets)
 }
@@ -543,4 +543,11 @@ pub extern "C" fn aoc_write_element(octets: &[u8], buf: &mut [u8]) -> write::Wri
     ensures { λ w. ⌜ (w, now (buf .exit)) ≡ elementInto (now (octets .entry)) (now (buf .entry)) ⌝ }
 {
     element_writer::element_into(octets, buf)
+}
+
+#[no_mangle]
+pub extern "C" fn aoc_write_element_by(profile: u8, octets: &[u8], buf: &mut [u8]) -> write::Written
+    ensures { λ w. ⌜ (w, now (buf .exit)) ≡ elementBy profile (now (octets .entry)) (now (buf .entry)) ⌝ }
+{
+    element_writer::element_by(profile, octets, buf)
 }

@@ -1,4 +1,4 @@
-// A switchboard: a table of 64 accounts by call reference, lent and changed in place.
+// A switchboard: a table of 64 accounts by call reference in the caller's memory, changed in place.
 //
 // Which slot an operation goes to and what is in it then is found by value, in the crate slots.
 use phases::Event;

@@ -9,22 +9,11 @@ use Rattle.account.{specs.declared.Account.Account, specs.declared.Change.Chang
 use Rattle.account.{specs.Step.knownOf, specs.Step.changeBy, specs.Step.changeOf, specs.Step.changed, specs.Step.steppedOf, proofs.Demand.step-stands, proofs.Demand.notes-nothing}
 use Rattle.account.{proofs.Demand.keeps-nothing}
 use Rattle.outcomes.{specs.Outcome.isRefusal, specs.Outcome.fits, specs.Outcome.judgeRecord, specs.Outcome.judgeAnswer, specs.Outcome.judge, specs.Status.requestsOf, specs.Status.noted}
-use Rattle.outcomes.{specs.Status.placeOf, specs.ByNumber.claimRecord, proofs.Refusals.decoding-refusal}
+use Rattle.outcomes.{specs.Status.placeOf, specs.ByNumber.claimRecord, proofs.Refusals.decoding-refusal, proofs.Claims.resolves}
 use Rattle.changes.specs.Inner.{resolved, taken}
 
--- ---- a final that is claimed, and then compared, is the final judged at once
-
-module _ (a : Account) (x : Record) where
-  abbrev claim : Outcome
-  claim = claimRecord (a .status .phase) (requestsOf (a .status)) (x .front) (x .charge .figure .kind) (x .charge .figure .total)
-
-  each-way : (b : Bool) (p q p′ q′ : Outcome) → resolved a p (x .charge) ≡ p′ → resolved a q (x .charge) ≡ q′ → resolved a (cond b p q) (x .charge) ≡ cond b p′ q′
-  each-way true p q p′ q′ e f = e
-  each-way false p q p′ q′ e f = f
-
-  resolves : resolved a claim (x .charge) ≡ judgeRecord (knownOf a) x
-  unfolding claimRecord judgeRecord
-  resolves = search each-way depth 12 fits 3000
+abbrev claim : Account → Record → Outcome
+claim a x = claimRecord (a .status .phase) (requestsOf (a .status)) (x .front) (x .charge .figure .kind) (x .charge .figure .total)
 
 -- ---- a component
 
@@ -45,7 +34,7 @@ module _ (a : Account) (o : List ℕ) {x : Answer} (read : x ≡ readOf o) where
     taken-is : changeBy r t (x .value .charge) ≡ taken a (readOf o)
     taken-is =
         let is : r ≡ judgeAnswer (knownOf a) x =
-        is-outcome ∙ ap (λ (y : Outcome). resolved a y (x .value .charge)) is-claim ∙ resolves a (x .value) ∙ sym (simp (eq-eqb (x .number) 0 z)) in
+        is-outcome ∙ ap (λ (y : Outcome). resolved a y (x .value .charge)) is-claim ∙ resolves (knownOf a) (x .value) ∙ sym (simp (eq-eqb (x .number) 0 z)) in
         rw is-status (ap (λ (y : Outcome). changeBy y (noted (a .status) y) (x .value .charge)) is) ∙ ap (taken a) read
 
     pub taken-unkept : (w : Change) → placeOf r ≡ 0 → w ≡ unkept r t → w ≡ taken a (readOf o)

@@ -1,4 +1,4 @@
-// What one event of a call changes, by value.
+// Finds what one event of a call changes, by value.
 use account::Account;
 use account::Change;
 use account::no_charge;

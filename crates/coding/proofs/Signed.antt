@@ -163,6 +163,39 @@ pub identifierLaws : LeafLaws identifier
 unfolding identifier
 identifierLaws = signedLaws 1
 
+-- ---- what is written of a pattern, by the bits that it needs
+
+-- contents of one octet: a pattern below 2 ^ 7, and one of the 2 ^ 7 highest
+module _ (k : ℕ) where
+  one-write : (x : ℕ) (z : ℤ) → x < 256 → valueOf (x ∷ []) ≡ z → inOctets (suc k) z ≡ true → shorten (digits (suc k) (patternOf (suc k) z)) ≡ x ∷ []
+  unfolding shortest
+  one-write x z h v i =
+      ap (λ (y : ℤ). shorten (digits (suc k) (patternOf (suc k) y))) (sym v) ∙ signed-back k (x ∷ []) (octets-cons x [] h octets-none) refl (ap (inOctets (suc k)) v ∙ i)
+
+  pub low-write : (p : ℕ) → p < 128 → shorten (digits (suc k) p) ≡ p ∷ []
+  unfolding numberFrom
+  low-write p h = one-write p (pos p) (omega arith) (value-low p [] h ∙ ap pos (omega arith)) (lt-ltb p _ (omega (arith, half k, power-some k)))
+
+  pub high-write : (x : ℕ) → 128 ≤ x → x < 256 → shorten (digits (suc k) (256 ^ suc k - suc (255 - x))) ≡ x ∷ []
+  unfolding numberFrom
+  high-write x l h =
+      one-write x (negsuc (255 - x)) h (value-high x [] (octets-cons x [] h octets-none) l ∙ ap negsuc (omega arith)) (lt-ltb (255 - x) _ (omega (arith, half k, power-some k)))
+
+-- all octets of one more: where none of the first nine bits says nothing
+pub whole-write : (k p : ℕ) → 128 * 256 ^ k ≤ p → p + 128 * 256 ^ k < 256 ^ suc (suc k) → shorten (digits (suc (suc k)) p) ≡ digits (suc (suc k)) p
+unfolding digits
+whole-write k p l h =
+    let ds : List ℕ = digits (suc (suc k)) p in
+    let os = octets-digits (suc (suc k)) p in
+    let q : patternOf (suc (suc k)) (valueOf ds) ≡ p = rw (length-digits (suc (suc k)) p) at (pattern-value ds os) ∙ number-digits (suc (suc k)) p ∙ mod-eq-of-lt (omega arith) in
+    let y : ℕ = p / 256 ^ k % 256 in
+    let i : inOctets (suc k) (valueOf (y ∷ digits k p)) ≡ true = rw (length-digits k p) at (value-in y (digits k p) (octets-digits (suc k) p)) in
+    shorten-same ds (by-cases (shortest ds) (λ s. s) (λ s. absurd (fewer (valueOf ds) q (ap (inOctets (suc k)) (sym (value-less _ y (digits k p) os s)) ∙ i))))
+  where
+    fewer : (z : ℤ) → patternOf (suc (suc k)) z ≡ p → inOctets (suc k) z ≡ true → ⊥
+    fewer (pos n) q i = omega (arith, half k, ltb-true n _ i)
+    fewer (negsuc n) q i = omega (arith, half k, ltb-true n _ i)
+
 -- ---- contents of 16 bits by how many octets they are
 
 judged-at : (k : ℕ) (xs : List ℕ) (z : ℤ) → shortest xs ≡ true → valueOf xs ≡ z → inOctets k z ≡ true → integer k xs ≡ Ruling.good (patternOf k z)

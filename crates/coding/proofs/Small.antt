@@ -1,9 +1,8 @@
 -- Elements of few octets as they are written, and the sizes that a writer adds up.
-use Rattle.prelude.proofs.Prelude.{ℕ, _+_, _/_, _%_, _≤_, _<_, _≡_, refl, ap, ap₂, _∙_, List, [], _∷_, _++_, Bool, true, arith, length, take, length-append, length-take-le, eqb, eqb-true}
-use Rattle.prelude.proofs.Prelude.{lt-ltb, le-ltb, le-leb, lt-leb}
+use Rattle.prelude.proofs.Prelude.{ℕ, suc, _+_, _-_, _/_, _%_, _^_, _≤_, _<_, _≡_, refl, ap, ap₂, _∙_, List, [], _∷_, _++_, Bool, arith, length, take, length-append, length-take-le}
 use Rattle.coding.specs.{Contents.shortest, Codec.lengthOctets, Codec.prim, Leaves.digits, Leaves.nullLeaf, Leaves.shorten, Leaves.identifier, Leaves.string}
 use Rattle.coding.specs.{Written.Wrote, Written.lead, Written.fullNumber}
-use Rattle.coding.proofs.{Basic.by-test, Basic.both, Number.width-1, Writing.lead-length-short, Writing.lead-length-long, Writing.prim-write, Writing.wrote-both}
+use Rattle.coding.proofs.{Basic.by-test, Number.width-1, Signed.low-write, Signed.high-write, Signed.whole-write, Writing.lead-length-short, Writing.lead-length-long, Writing.prim-write, Writing.wrote-both}
 
 -- ---- tag and length octets
 
@@ -40,31 +39,16 @@ unfolding digits
 pair-octets p = ap₂ (λ (a b : ℕ). a ∷ b ∷ []) (omega arith) (omega arith)
 
 pub id-low-write : (p : ℕ) → p < 128 → identifier .write p ≡ p ∷ []
-unfolding identifier shorten shortest
-id-low-write p h =
-    let top : p / 256 % 256 ≡ 0 = omega arith in
-    let low : p % 256 ≡ p = omega arith in
-    rw (pair-octets p, top, low, lt-leb 0x80 p h)
+unfolding identifier
+id-low-write = low-write 1
 
-pub id-high-write : (p : ℕ) → 65408 ≤ p → p < 65536 → identifier .write p ≡ p % 256 ∷ []
-unfolding identifier shorten shortest
-id-high-write p l h =
-    let top : p / 256 % 256 ≡ 255 = omega arith in
-    let high : 0x80 ≤ p % 256 = omega arith in
-    rw (pair-octets p, top, le-ltb (p % 256) 0x80 high)
+pub id-high-write : (p : ℕ) → 256 ^ 2 - 128 ≤ p → p < 256 ^ 2 → identifier .write p ≡ p % 256 ∷ []
+unfolding identifier
+id-high-write p l h = let e : p ≡ 256 ^ 2 - suc (255 - p % 256) = omega arith in ap (λ (n : ℕ). shorten (digits 2 n)) e ∙ high-write 1 (p % 256) (omega arith) (omega arith)
 
--- of which both are needed
-two-shortest : (p : ℕ) → 0x80 ≤ p → p < 0xff80 → shortest (p / 256 ∷ p % 256 ∷ []) ≡ true
-unfolding shortest
-two-shortest p l h =
-    both (eqb (p / 256) 0) (λ q. le-leb 0x80 (p % 256) (omega (arith, eqb-true (p / 256) 0 q)))
-    (λ q. both (eqb (p / 256) 0xff) (λ r. lt-ltb (p % 256) 0x80 (omega (arith, eqb-true (p / 256) 0xff r))) (λ r. refl))
-
-pub id-two-write : (p : ℕ) → 128 ≤ p → p < 65408 → identifier .write p ≡ p / 256 ∷ p % 256 ∷ []
-unfolding identifier shorten
-id-two-write p l h =
-    let top : p / 256 % 256 ≡ p / 256 = omega arith in
-    rw (pair-octets p, top, two-shortest p l h)
+pub id-two-write : (p : ℕ) → 128 ≤ p → p < 256 ^ 2 - 128 → identifier .write p ≡ p / 256 ∷ p % 256 ∷ []
+unfolding identifier
+id-two-write p l h = let top : p / 256 % 256 ≡ p / 256 = omega arith in whole-write 0 p (omega arith) (omega arith) ∙ pair-octets p ∙ ap (λ (n : ℕ). n ∷ p % 256 ∷ []) top
 
 pub id-range : (p : ℕ) → (1 ≤ length (identifier .write p)) × (length (identifier .write p) ≤ 2)
 unfolding identifier shorten shortest
@@ -76,11 +60,11 @@ pub id-low : (tag p : ℕ) → p < 128 → (prim tag identifier) .write p ≡ ta
 unfolding prim lengthOctets
 id-low tag p h = rw (id-low-write p h)
 
-pub id-high : (tag p : ℕ) → 65408 ≤ p → p < 65536 → (prim tag identifier) .write p ≡ tag ∷ 1 ∷ p % 256 ∷ []
+pub id-high : (tag p : ℕ) → 256 ^ 2 - 128 ≤ p → p < 256 ^ 2 → (prim tag identifier) .write p ≡ tag ∷ 1 ∷ p % 256 ∷ []
 unfolding prim lengthOctets
 id-high tag p l h = rw (id-high-write p l h)
 
-pub id-two : (tag p : ℕ) → 128 ≤ p → p < 65408 → (prim tag identifier) .write p ≡ tag ∷ 2 ∷ p / 256 ∷ p % 256 ∷ []
+pub id-two : (tag p : ℕ) → 128 ≤ p → p < 256 ^ 2 - 128 → (prim tag identifier) .write p ≡ tag ∷ 2 ∷ p / 256 ∷ p % 256 ∷ []
 unfolding prim lengthOctets
 id-two tag p l h = rw (id-two-write p l h)
 

@@ -6,8 +6,8 @@ use Rattle.types.specs.Frames.{readOf}
 use Rattle.facility.specs.Element.{tiled, isProfile, led, elementOf}
 use Rattle.facility.specs.Cut.{startsOf, firstOr, partsOf, joined, Tiles}
 use Rattle.facility.{specs.Cut.placesOf, proofs.Tiles.cut-all, proofs.Tiles.laid-all, proofs.Tiles.found, proofs.Tiles.places-count, proofs.Tiles.tiles, proofs.Tiles.answer-found}
-use Rattle.pass.{specs.Pass.Through, specs.Pass.lines, proofs.Through.line-through}
-use Rattle.element_writer.specs.Round.{round, isFound, isTiled, elementHolds}
+use Rattle.pass.{specs.Pass.Reads, specs.Pass.Through, specs.Pass.lines, proofs.Through.through}
+use Rattle.element_writer.specs.Round.{round, roundBy, isFound, isTiled, elementHolds}
 
 -- ---- octets that an element can hold are components laid end to end, and the other way round
 
@@ -50,15 +50,21 @@ parts-laid pre (p ∷ ps) =
     let rest = rw (append-assoc pre p (joined ps), length-append pre p) at (parts-laid (pre ++ p) ps) in
     rw (first-place pre p ps, this-part pre p (joined ps), rest)
 
--- Going through the element that is written gives what each of the components gives by itself, in their order, and then the end.
-pub read-back : (ps : List (List ℕ)) → 0 < length ps → Tiles ps → Through lines (round (joined ps)) 3 (map readOf ps)
-unfolding round pad isProfile
-read-back ps h t =
-    let s : List ℕ = 0x1c ∷ (1 + length (joined ps)) ∷ 0x91 ∷ joined ps in
-    let f = found 0x91 refl ps h t in
+-- Going through the element that is written gives what each of the components gives by itself to a reader of its profile octet, in their order, and then the end.
+pub back-by : {A : Type 0} (r : Reads A) (profile : ℕ) → isProfile profile ≡ true → (ps : List (List ℕ)) → 0 < length ps → Tiles ps
+    → Through r (roundBy profile (joined ps)) 3 (map (r .by profile) ps)
+unfolding roundBy pad
+back-by r profile known ps h t =
+    let s : List ℕ = 0x1c ∷ (1 + length (joined ps)) ∷ profile ∷ joined ps in
+    let f = found profile known ps h t in
     let starts : startsOf (elementOf s) ≡ placesOf 3 ps = rw (f, ← places-count 3 ps) (take-append-seam (placesOf 3 ps) _) in
-    let parts : partsOf s (startsOf (elementOf s)) ≡ ps = rw starts (parts-laid (0x1c ∷ (1 + length (joined ps)) ∷ 0x91 ∷ []) ps) in
-    subst (λ (qs : List (List ℕ)). Through lines s 3 (map readOf qs)) parts (line-through s (rw f refl) refl)
+    let parts : partsOf s (startsOf (elementOf s)) ≡ ps = rw starts (parts-laid (0x1c ∷ (1 + length (joined ps)) ∷ profile ∷ []) ps) in
+    subst (λ (qs : List (List ℕ)). Through r s 3 (map (r .by profile) qs)) parts (through r s (rw f refl))
+
+-- those of a public line are read by document 01's table
+pub read-back : (ps : List (List ℕ)) → 0 < length ps → Tiles ps → Through lines (round (joined ps)) 3 (map readOf ps)
+unfolding isProfile
+read-back ps h t = back-by lines 0x91 refl ps h t
 
 -- ---- one form only
 
@@ -68,21 +74,24 @@ three (a ∷ []) h = absurd (omega arith)
 three (a ∷ b ∷ []) h = absurd (omega arith)
 three (a ∷ b ∷ c ∷ t) h = refl
 
-led-as : (t : List ℕ) → led t ≡ true → getD t 2 0 ≡ 0x91 → t ≡ round (drop 3 t)
-unfolding led round
-led-as t e last =
+led-as : (t : List ℕ) → led t ≡ true → t ≡ roundBy (getD t 2 0) (drop 3 t)
+unfolding led roundBy
+led-as t e =
     let a = and-right (ltb 3 (length t)) _ e in
     let b = and-right (eqb (getD t 0 0) 0x1c) _ a in
     let long : 3 < length t = ltb-true 3 (length t) (and-left (ltb 3 (length t)) _ e) in
     let one : getD t 0 0 ≡ 0x1c = eqb-true (getD t 0 0) 0x1c (and-left (eqb (getD t 0 0) 0x1c) _ a) in
     let two : getD t 1 0 ≡ length t - 2 = eqb-true (getD t 1 0) (length t - 2) (and-left (eqb (getD t 1 0) (length t - 2)) _ b) in
     let size : length t - 2 ≡ 1 + length (drop 3 t) = omega (arith, ap length (three t long)) in
-    three t long ∙ rw (one, two, last, size)
+    three t long ∙ rw (one, two, size)
 
 was-led : (t : List ℕ) → elementOf t .number ≡ 0 → led t ≡ true
 unfolding elementOf
 was-led t e = answer-found (led t) (tiled (length t) t 3 (length t)) e .0
 
--- An accepted element of a public line that is cut into components is the one that is written round them: no other octets hold them there, so none are fewer.
+-- An accepted element that is cut into components is the one that is written round them with its own profile octet: no other octets hold them there, so none are fewer.
+pub only-by : (t : List ℕ) → elementOf t .number ≡ 0 → t ≡ roundBy (getD t 2 0) (joined (partsOf t (startsOf (elementOf t))))
+only-by t e = led-as t (was-led t e) ∙ ap (roundBy (getD t 2 0)) (sym (tiles t e .0))
+
 pub only-form : (t : List ℕ) → elementOf t .number ≡ 0 → getD t 2 0 ≡ 0x91 → t ≡ round (joined (partsOf t (startsOf (elementOf t))))
-only-form t e line = led-as t (was-led t e) line ∙ ap round (sym (tiles t e .0))
+only-form t e line = only-by t e ∙ ap (λ (p : ℕ). roundBy p (joined (partsOf t (startsOf (elementOf t))))) line

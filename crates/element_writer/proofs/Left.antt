@@ -2,8 +2,9 @@
 use Rattle.prelude.proofs.Prelude.{ℕ, _+_, _≤_, _<_, arith, zero-add, _≡_, ap, ap₂, _∙_, true, false, List, [], _∷_, _++_, length, take, drop, take-length, sets-eq}
 use Rattle.prelude.proofs.Prelude.{le-leb, lt-leb, lt-ltb, le-ltb}
 use Rattle.coding.{specs.Written.Wrote, specs.Written.Room, proofs.Writing.wrote-both, proofs.Writing.wrote-as}
+use Rattle.facility.specs.Element.{isProfile}
 use Rattle.write.specs.{declared.Written.Written, Outcome.done, Outcome.no}
-use Rattle.element_writer.specs.Round.{round, isTiled, elementHolds, elementInto}
+use Rattle.element_writer.specs.Round.{roundBy, isTiled, elementHolds, elementAs, elementBy}
 
 -- ---- whether an element can hold the octets
 
@@ -25,38 +26,49 @@ module _ (s : List ℕ) (some : length s ≡ 0 → ⊥) where
 
 -- ---- the answer and the buffer
 
-round-size : (s : List ℕ) → length (round s) ≡ 3 + length s
-unfolding round
-round-size s = let e : length (0x1c ∷ (1 + length s) ∷ 0x91 ∷ s) ≡ 3 + length s = omega arith in e
+round-size : (profile : ℕ) (s : List ℕ) → length (roundBy profile s) ≡ 3 + length s
+unfolding roundBy
+round-size profile s = let e : length (0x1c ∷ (1 + length s) ∷ profile ∷ s) ≡ 3 + length s = omega arith in e
 
-module _ (s before : List ℕ) where
-  pub not-held : {w : Written} → elementHolds s ≡ false → w ≡ no 15 → (w, before) ≡ elementInto s before
-  unfolding elementInto
+module _ (profile : ℕ) (s before : List ℕ) where
+  pub not-held : {w : Written} → elementHolds s ≡ false → w ≡ no 15 → (w, before) ≡ elementAs profile s before
+  unfolding elementAs
   not-held h e = rw (e, h)
 
-  pub no-room : {w : Written} → elementHolds s ≡ true → length before < length s + 3 → w ≡ no 12 → (w, before) ≡ elementInto s before
-  unfolding elementInto
-  no-room h l e = rw (e, h, lt-leb (length (round s)) (length before) (omega (arith, round-size s)))
+  pub no-room : {w : Written} → elementHolds s ≡ true → length before < length s + 3 → w ≡ no 12 → (w, before) ≡ elementAs profile s before
+  unfolding elementAs
+  no-room h l e = rw (e, h, lt-leb (length (roundBy profile s)) (length before) (omega (arith, round-size profile s)))
 
-  all-wrote : {after : List ℕ} {q : ℕ} → elementHolds s ≡ true → length s + 3 ≤ length before → Wrote before after 0 (round s) q → (done q, after) ≡ elementInto s before
-  unfolding elementInto
+  all-wrote : {after : List ℕ} {q : ℕ} → elementHolds s ≡ true → length s + 3 ≤ length before → Wrote before after 0 (roundBy profile s) q → (done q, after) ≡ elementAs profile s before
+  unfolding elementAs
   all-wrote {after} {q} h l w =
-      rw (h, le-leb (length (round s)) (length before) (omega (arith, round-size s)))
-      (ap₂ (λ (r : Written) (l : List ℕ). (r, l)) (ap done (w .place ∙ zero-add (length (round s))))
-      (w .stored ∙ sets-eq (round s) before 0 (omega (arith, round-size s)) ∙ ap (λ (j : ℕ). round s ++ drop j before) (zero-add (length (round s)))))
+      rw (h, le-leb (length (roundBy profile s)) (length before) (omega (arith, round-size profile s)))
+      (ap₂ (λ (r : Written) (l : List ℕ). (r, l)) (ap done (w .place ∙ zero-add (length (roundBy profile s))))
+      (w .stored ∙ sets-eq (roundBy profile s) before 0 (omega (arith, round-size profile s)) ∙ ap (λ (j : ℕ). roundBy profile s ++ drop j before) (zero-add (length (roundBy profile s)))))
 
   -- the three octets, and then the components
-  module _ {mid : List ℕ} {p : ℕ} (l : length s + 3 ≤ length before) (a : Wrote before mid 0 (0x1c ∷ (1 + length s) ∷ 0x91 ∷ []) p) where
+  module _ {mid : List ℕ} {p : ℕ} (l : length s + 3 ≤ length before) (a : Wrote before mid 0 (0x1c ∷ (1 + length s) ∷ profile ∷ []) p) where
     pub room-behind : Room mid p (take (length s) s)
     room-behind = rw (take-length s) (record { fits = omega (arith, a .place, a .kept) })
 
     module _ {after : List ℕ} {q : ℕ} (b : Wrote mid after p (take (length s) s) q) where
-      both : Wrote before after 0 (round s) q
-      unfolding round
+      both : Wrote before after 0 (roundBy profile s) q
+      unfolding roundBy
       both = wrote-both a (wrote-as (take-length s) b)
 
       pub wrote-few : length s ≤ 254 → q ≤ 257
-      wrote-few f = omega (arith, both .place, round-size s)
+      wrote-few f = omega (arith, both .place, round-size profile s)
 
-      pub wrote-all : elementHolds s ≡ true → (done q, after) ≡ elementInto s before
+      pub wrote-all : elementHolds s ≡ true → (done q, after) ≡ elementAs profile s before
       wrote-all h = all-wrote h l both
+
+-- ---- by the profile octet
+
+module _ (profile : ℕ) (s before : List ℕ) where
+  pub other-profile : {w : Written} → isProfile profile ≡ false → w ≡ no 17 → (w, before) ≡ elementBy profile s before
+  unfolding elementBy
+  other-profile h e = rw (e, h)
+
+  pub known-profile : {x : Written × List ℕ} → isProfile profile ≡ true → x ≡ elementAs profile s before → x ≡ elementBy profile s before
+  unfolding elementBy
+  known-profile h e = rw h e

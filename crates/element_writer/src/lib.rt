@@ -5,8 +5,9 @@ ghost use mathlib.Core.List.{[], _∷_};
 ghost use Prim.Native.Nat.{_+_, _≤_};
 ghost use lib.ListN.{length};
 ghost use Rattle.coding.specs.Written.{Wrote, Room};
+ghost use Rattle.facility.specs.Element.{isProfile};
 ghost use Rattle.write.specs.Outcome.{no};
-ghost use Rattle.element_writer.specs.Round.{isTiled, elementHolds, elementInto};
+ghost use Rattle.element_writer.specs.Round.{isTiled, elementHolds, elementAs, elementInto, elementBy};
 
 // Whether octets are components laid end to end.
 fn is_tiled(octets: &[u8]) -> bool
@@ -40,13 +41,13 @@ fn is_held(octets: &[u8]) -> bool
 }
 
 // The three octets before the components, which have n octets.
-fn put_head(buf: &mut [u8], n: usize) -> usize
-    requires { ⌜ (n ≤ 254) × Room (now buf) 0 (0x1c ∷ (1 + n) ∷ 0x91 ∷ []) ⌝ }
-    ensures { λ r. ⌜ Wrote (now (buf .entry)) (now (buf .exit)) 0 (0x1c ∷ (1 + n) ∷ 0x91 ∷ []) r ⌝ }
+fn put_head(buf: &mut [u8], n: usize, profile: u8) -> usize
+    requires { ⌜ (n ≤ 254) × Room (now buf) 0 (0x1c ∷ (1 + n) ∷ profile ∷ []) ⌝ }
+    ensures { λ r. ⌜ Wrote (now (buf .entry)) (now (buf .exit)) 0 (0x1c ∷ (1 + n) ∷ profile ∷ []) r ⌝ }
 {
     buf[0] = 0x1c;
     buf[1] = (1 + n) as u8;
-    buf[2] = 0x91;
+    buf[2] = profile;
     3
 }
 
@@ -57,8 +58,8 @@ fn refuse(number: u32) -> write::Written
 }
 
 // Writes the element that holds the components into a lent buffer. All is decided before a single octet is stored.
-pub fn element_into(octets: &[u8], buf: &mut [u8]) -> write::Written
-    ensures { λ w. ⌜ (w, now (buf .exit)) ≡ elementInto (now (octets .entry)) (now (buf .entry)) ⌝ }
+fn element_as(profile: u8, octets: &[u8], buf: &mut [u8]) -> write::Written
+    ensures { λ w. ⌜ (w, now (buf .exit)) ≡ elementAs profile (now (octets .entry)) (now (buf .entry)) ⌝ }
 {
     if !is_held(octets) {
         return refuse(15);
@@ -67,8 +68,34 @@ pub fn element_into(octets: &[u8], buf: &mut [u8]) -> write::Written
     if buf.len() < n + 3 {
         return refuse(12);
     }
-    let p = put_head(buf, n);
+    let p = put_head(buf, n, profile);
     let q = octets::put_octets(buf, p, octets, n);
     let count = q as u32;
     write::Written { number: 0, count }
+}
+
+// That of a public line.
+pub fn element_into(octets: &[u8], buf: &mut [u8]) -> write::Written
+    ensures { λ w. ⌜ (w, now (buf .exit)) ≡ elementInto (now (octets .entry)) (now (buf .entry)) ⌝ }
+{
+    element_as(0x91, octets, buf)
+}
+
+fn is_profile(octet: u8) -> bool
+    ensures { λ r. ⌜ r ≡ isProfile octet ⌝ }
+{
+    if octet == 0x91 {
+        return true;
+    }
+    octet == 0x9f
+}
+
+// That of the family which the profile octet names: 91 or 9F.
+pub fn element_by(profile: u8, octets: &[u8], buf: &mut [u8]) -> write::Written
+    ensures { λ w. ⌜ (w, now (buf .exit)) ≡ elementBy profile (now (octets .entry)) (now (buf .entry)) ⌝ }
+{
+    if !is_profile(profile) {
+        return refuse(17);
+    }
+    element_as(profile, octets, buf)
 }

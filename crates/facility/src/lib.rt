@@ -1,9 +1,12 @@
 // The Facility information element: where its components begin.
 ghost use mathlib.Core.Path.{_≡_};
-ghost use mathlib.Core.Bool.{true, false};
+ghost use mathlib.Core.Bool.{true, false, cond};
 ghost use Prim.Native.Nat.{_≤_, _<_};
 ghost use lib.ListN.{length};
+ghost use lib.Dec.{eqb};
 ghost use Rattle.facility.specs.Element.{elementOf, malformed, startsFound, tiled, isProfile, led};
+ghost use Rattle.facility.specs.Cut.{startsOf};
+ghost use Rattle.facility.specs.Places.{afterIn};
 
 // What reading an element answers. number: 0, or 15 for a malformed one; then all else is zero.
 // The components begin at the first count of starts, counted with the lead octet 1C as 0; the places past them are zero.
@@ -87,4 +90,69 @@ pub fn element(octets: &[u8]) -> Starts
         return starts_from(octets);
     }
     refused()
+}
+
+// ---- the same for one place
+
+// An element's components, and the place after the one that begins at a place; 0 where none does.
+pub struct Cut {
+    pub tiles: Starts,
+    pub after: usize,
+}
+
+fn uncut() -> Cut
+    ensures { λ r. ⌜ r ≡ record { tiles = malformed; after = 0 } ⌝ }
+{
+    let tiles = refused();
+    Cut { tiles, after: 0 }
+}
+
+// The place after a component, where it is the one that is looked for.
+fn settled(at: usize, place: usize, next: usize, after: usize) -> usize
+    ensures { λ r. ⌜ r ≡ cond (eqb at place) next after ⌝ }
+{
+    if at == place {
+        return next;
+    }
+    after
+}
+
+// The same walk, which looks for a place as it goes. With one caller it becomes part of it, and what that caller does not look at, such as the starts, is not stored.
+fn cut_from(octets: &[u8], place: usize) -> Cut
+    requires { ⌜ (3 < length (now octets)) × (length (now octets) ≤ 257) ⌝ }
+    ensures { λ r. ⌜ r .tiles ≡ startsFound (tiled (length (now (octets .entry))) (now (octets .entry)) 3 (length (now (octets .entry)))) ⌝ }
+    ensures after { λ r. ⌜ r .after ≡ afterIn place (length (now (octets .entry))) (startsOf (r .tiles)) ⌝ }
+{
+    let end = octets.len();
+    let mut starts: [u8; 127] = [0; 127];
+    let mut n: usize = 0;
+    let mut at: usize = 3;
+    let mut after: usize = 0;
+    while at < end {
+        let t = read_lengths::open_at(octets, at, end, octets[at]);
+        if t.fault != 0 {
+            return uncut();
+        }
+        after = settled(at, place, t.next, after);
+        starts[n] = at as u8;
+        n += 1;
+        at = t.next;
+    }
+    let tiles = Starts {
+        number: 0,
+        count: n as u8,
+        starts,
+    };
+    Cut { tiles, after }
+}
+
+// The components of a Facility element, and the place after the one that begins at a place.
+pub fn cut_at(octets: &[u8], place: usize) -> Cut
+    ensures { λ r. ⌜ r .tiles ≡ elementOf (now (octets .entry)) ⌝ }
+    ensures after { λ r. ⌜ r .after ≡ afterIn place (length (now (octets .entry))) (startsOf (elementOf (now (octets .entry)))) ⌝ }
+{
+    if is_led(octets) {
+        return cut_from(octets, place);
+    }
+    uncut()
 }

@@ -3,13 +3,14 @@ use Rattle.prelude.proofs.Prelude.{ℕ, _+_, _-_, _≡_, refl, sym, _∙_, ap, 
 use Rattle.phases.{specs.declared.Event.Event, specs.declared.Outcome.Outcome, specs.Phases.Given, proofs.Choice.never}
 use Rattle.prelude.proofs.Ways.{by-cases}
 use Rattle.types.specs.{declared.Currency.Currency, declared.Record.Record, Frames.readOf}
-use Rattle.amounts.specs.{Currency.equalCurrency, Amounts.thousandths}
+use Rattle.amounts.{specs.Currency.equalCurrency, proofs.Currencies.symmetric, proofs.Currencies.transitive}
+use Rattle.types.specs.Thousandths.{thousandths}
 use Rattle.account.{specs.History.Judged, specs.History.any, specs.History.last, specs.History.judged, specs.declared.Stepped.Stepped, proofs.Demand.step-stands}
 use Rattle.events.{specs.Events.rowAt, specs.Events.countAt, specs.Prefix.placeAt, specs.Prefix.octetsAt, specs.Prefix.givenAt, specs.Prefix.before, proofs.Prefix.before-start}
 use Rattle.events.{proofs.Prefix.before-next, proofs.Prefix.part-at}
 use Rattle.fault_rules.specs.{Figures.invokesD, Breaking.moneyBy}
 use Rattle.fault.specs.{declared.State.State, declared.Last.Last, Rules.chargeBy, Rules.isCountedMoney, Rules.belowLast}
-use Rattle.fault.specs.Going.{noLast, lastNext, lastBy, judging, turnOf, stateBy, latestNext, latestBy, shortBy}
+use Rattle.fault.specs.Going.{noLast, lastNext, lastBy, judging, turnOf, stateBy, latestNext, latestBy, otherBy, decidedBy, shortBy}
 
 yes : {A : Type 0} (t : Bool) (x y : A) → t ≡ true → cond t x y ≡ x
 yes t x y q = rw q refl
@@ -41,12 +42,38 @@ latest-none c (j ∷ h) q =
     (λ t. let z : true ≡ false = rw t at q in never (sym z))
     (λ t. rw t (latest-none c h (rw t at q)))
 
-pub short-way : (c : Currency) (h : List Judged) → shortBy (latestBy h) c h ≡ lastBy c h
+-- a currency that is not equal to one is not equal to another that is equal to it
+unequal : (b c d : Currency) → equalCurrency b c ≡ true → equalCurrency c d ≡ false → equalCurrency b d ≡ false
+unequal b c d e n = by-cases (equalCurrency b d) (λ q. never (sym n ∙ transitive c b d (symmetric b c e) q)) (λ q. q)
+
+other-none : (h : List Judged) → any isCountedMoney h ≡ false → otherBy h .found ≡ 0
+other-none [] q = refl
+other-none (j ∷ h) q =
+    by-cases (isCountedMoney j)
+    (λ t. let z : true ≡ false = rw t at q in never (sym z))
+    (λ t. rw t (other-none h (rw t at q)))
+
+-- where the latest is in another currency, the other decides as the latest does
+other-decides : (c : Currency) (h : List Judged) → any isCountedMoney h ≡ true → equalCurrency (last isCountedMoney h .figure .money .currency) c ≡ false
+    → decidedBy (otherBy h) c (lastBy c h) ≡ lastBy c h
+other-decides c [] q n = never q
+other-decides c (j ∷ h) q n =
+    by-cases (isCountedMoney j)
+    (λ t. let d : equalCurrency (chargeBy j .figure .money .currency) c ≡ false = rw t at n in
+    by-cases (any isCountedMoney h)
+    (λ a. by-cases (equalCurrency (last isCountedMoney h .figure .money .currency) (chargeBy j .figure .money .currency))
+    (λ e. rw (t, d, a, e) (other-decides c h a (unequal _ _ c e d)))
+    (λ e. rw (t, d, a, e)
+    (by-cases (equalCurrency (last isCountedMoney h .figure .money .currency) c) (λ s. rw s (sym (latest-decides c h a s))) (λ s. rw s refl))))
+    (λ a. rw (t, d, a, other-none h a, latest-none c h a) refl))
+    (λ t. rw t (other-decides c h (rw t at q) (rw t at n)))
+
+pub short-way : (c : Currency) (h : List Judged) → shortBy (latestBy h) (otherBy h) c h ≡ lastBy c h
 short-way c h =
     by-cases (any isCountedMoney h)
     (λ t. by-cases (equalCurrency (last isCountedMoney h .figure .money .currency) c)
     (λ e. rw (t, e) (sym (latest-decides c h t e)))
-    (λ e. rw (t, e) refl))
+    (λ e. rw (t, e) (other-decides c h t e)))
     (λ t. rw t (sym (latest-none c h t)))
 
 pub latest-stands : (j : Judged) (h : List Judged)

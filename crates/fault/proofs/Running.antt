@@ -10,7 +10,7 @@ use Rattle.events.proofs.Prefix.{before-start, before-next, before-count, all-b
 use Rattle.fault_rules.specs.{declared.Verdict.Verdict, declared.Seen.Seen, Breaking.breaksBy, Breaking.concluded, Figures.verdict}
 use Rattle.fault.specs.{declared.Progress.Progress, declared.Last.Last, declared.Latest.Latest}
 use Rattle.fault.specs.Rules.{chargeBy, isD, isCountedMoney, isCountedFree, breaks, allKept, refusedIn, brokenIn, faultIn, faultOf}
-use Rattle.fault.specs.{Going.judging, Going.latestBy, Going.shortBy, Running.fallsBy, Running.seenOn, Running.nextBy, Running.nextOf, Running.seenBy, Running.progressBy}
+use Rattle.fault.specs.{Going.judging, Going.latestBy, Going.otherBy, Going.shortBy, Running.fallsBy, Running.seenOn, Running.nextBy, Running.nextOf, Running.seenBy, Running.progressBy}
 use Rattle.fault.proofs.Back.{below-found, short-way, latest-stands}
 
 -- ---- one event more
@@ -37,7 +37,7 @@ module _ (j : Judged) (h : List Judged) where
   abbrev currency : Currency
   currency = chargeBy j .figure .money .currency
 
-  same-rule : breaksBy (isD j) (phase h) (chargeBy j) (j .outcome) (eqb (seenBy h .free) 1) (fallsBy (isD j) (chargeBy j) (j .outcome) (shortBy (latestBy h) currency h))
+  same-rule : breaksBy (isD j) (phase h) (chargeBy j) (j .outcome) (eqb (seenBy h .free) 1) (fallsBy (isD j) (chargeBy j) (j .outcome) (shortBy (latestBy h) (otherBy h) currency h))
       ≡ breaks j h
   same-rule =
       ap₂ (λ (x y : Bool). breaksBy (isD j) (phase h) (chargeBy j) (j .outcome) x y) (flag-is (any isCountedFree h))
@@ -52,7 +52,7 @@ module _ (j : Judged) (h : List Judged) where
     rule = cond (eqb (brokenIn h .rule) 0) b (brokenIn h .rule);
   }
 
-  seen-stands : seenOn (seenBy h) (phase h) (shortBy (latestBy h) currency h) (isD j) (chargeBy j) (j .outcome) (length h + 1) ≡ seenBy (j ∷ h)
+  seen-stands : seenOn (seenBy h) (phase h) (shortBy (latestBy h) (otherBy h) currency h) (isD j) (chargeBy j) (j .outcome) (length h + 1) ≡ seenBy (j ∷ h)
   seen-stands =
       ap₂ seeing same-rule (free-more (isCountedFree j) (any isCountedFree h))
       ∙ ap₂ (λ (x y : ℕ). record { free = flag (any isCountedFree (j ∷ h)); refused = refusedIn (j ∷ h); event = x; rule = y })
@@ -63,7 +63,8 @@ unfolding nextOf
 next-stands h g =
     let j : Judged = judging (g .event) (g .octets) (judge (known (judged h)) (g .event) (g .octets)) in
     ap (λ (w : Stepped). nextBy (progressBy (judged h)) (judged h) (g .event) (readOf (g .octets) .value) (length (judged h) + 1) w) (step-stands h g)
-    ∙ ap₂ (λ (s : Seen) (l : Latest). record { account = progressBy (judged (g ∷ h)) .account; seen = s; latest = l }) (seen-stands j (judged h)) (latest-stands j (judged h))
+    ∙ ap₂ (λ (s : Seen) (l : Latest). record { account = progressBy (judged (g ∷ h)) .account; seen = s; latest = l; other = progressBy (judged (g ∷ h)) .other })
+    (seen-stands j (judged h)) (latest-stands j (judged h))
 
 -- ---- the end
 

@@ -10,7 +10,7 @@ use Rattle.types.specs.Frames.{readOf}
 use Rattle.phases.specs.Phases.{Active, Clearing, Given}
 use Rattle.outcomes.specs.Outcome.{isRefusal, isFree, isSubtotal, isTotal, chargeIn, was}
 use Rattle.amounts.specs.Currency.{equalCurrency}
-use Rattle.amounts.specs.Amounts.{thousandths}
+use Rattle.types.specs.Thousandths.{thousandths}
 use Rattle.account.specs.History.{Judged, any, judged, phase}
 use Rattle.events.specs.Events.{addsUp, eventsOf}
 use Rattle.events.specs.Earliest.{earliest}

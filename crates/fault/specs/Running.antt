@@ -9,7 +9,7 @@ use Rattle.types.specs.Charges.{flag}
 use Rattle.types.specs.Frames.{readOf}
 use Rattle.phases.specs.declared.Event.{Event}
 use Rattle.phases.specs.declared.Outcome.{Outcome}
-use Rattle.amounts.specs.Amounts.{thousandths}
+use Rattle.types.specs.Thousandths.{thousandths}
 use Rattle.account.specs.History.{Judged, any, accountBy}
 use Rattle.account.specs.declared.Stepped.{Stepped}
 use Rattle.account.specs.Step.{steppedOf}
@@ -19,7 +19,7 @@ use Rattle.fault_rules.specs.Breaking.{moneyBy, breaksBy, seenNext}
 use Rattle.fault.specs.declared.Last.{Last}
 use Rattle.fault.specs.declared.Progress.{Progress}
 use Rattle.fault.specs.Rules.{isCountedFree, refusedIn, brokenIn}
-use Rattle.fault.specs.Going.{latestNext, latestBy, shortBy}
+use Rattle.fault.specs.Going.{latestNext, latestBy, otherNext, otherBy, shortBy}
 
 -- rule 2 by what is found
 abbrev pub fallsBy : Bool → Charge → Outcome → Last → Bool
@@ -34,9 +34,10 @@ abbrev pub nextBy : Progress → List Judged → Event → Record → ℕ → St
 nextBy t h e v n w = record {
   account = w .account;
   seen =
-      seenOn (t .seen) (t .account .status .phase) (shortBy (t .latest) (v .charge .figure .money .currency) h)
+      seenOn (t .seen) (t .account .status .phase) (shortBy (t .latest) (t .other) (v .charge .figure .money .currency) h)
       (invokesD (e .kind) (v .front)) (v .charge) (w .outcome) n;
   latest = latestNext (t .latest) (invokesD (e .kind) (v .front)) (v .charge .figure .kind) (v .charge .figure .money) (w .outcome);
+  other = otherNext (t .other) (t .latest) (invokesD (e .kind) (v .front)) (v .charge .figure .kind) (v .charge .figure .money) (w .outcome);
 }
 
 unfoldable pub nextOf : Progress → List Judged → Event → List ℕ → ℕ → Progress
@@ -47,4 +48,4 @@ abbrev pub seenBy : List Judged → Seen
 seenBy h = record { free = flag (any isCountedFree h); refused = refusedIn h; event = brokenIn h .event; rule = brokenIn h .rule }
 
 abbrev pub progressBy : List Judged → Progress
-progressBy h = record { account = accountBy h; seen = seenBy h; latest = latestBy h }
+progressBy h = record { account = accountBy h; seen = seenBy h; latest = latestBy h; other = otherBy h }

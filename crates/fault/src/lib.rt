@@ -1,6 +1,7 @@
 // Whether the exchange kept the rules of charging, from a call's event list.
 //
-// The list is gone over once, with an account beside what was seen. Only an amount in another currency than the latest counted one has the list gone over up to it again.
+// The list is gone over once, with an account beside what was seen. Two currencies are remembered: that of the latest counted amount and the one before it.
+// Only an amount in a third one has the list gone over up to it again.
 use account::Account;
 use fault_rules::Seen;
 use fault_rules::Verdict;
@@ -17,7 +18,7 @@ ghost use Rattle.account.specs.History.{judged};
 ghost use Rattle.events.specs.Events.{addsUp, eventsOf};
 ghost use Rattle.events.specs.Prefix.{before};
 ghost use Rattle.fault.specs.Rules.{faultOf, faultAt};
-ghost use Rattle.fault.specs.Going.{lastNext, lastBy, judging, turnOf, latestNext, shortBy};
+ghost use Rattle.fault.specs.Going.{lastNext, lastBy, judging, turnOf, latestNext, otherNext, shortBy};
 ghost use Rattle.fault.specs.Running.{fallsBy, nextOf};
 
 // The last counted amount of D in a currency, in thousandths; found: 0 for none.
@@ -37,10 +38,12 @@ struct Latest {
     pub money: Money,
 }
 
+// other: the latest counted amount of D in another currency than the latest of all.
 struct Progress {
     pub account: Account,
     pub seen: Seen,
     pub latest: Latest,
+    pub other: Latest,
 }
 
 // ---- the last counted amount before an event
@@ -101,10 +104,10 @@ fn last_in(rows: &[u16], octets: &[u8], k: usize, c: Currency) -> Last
     state.last
 }
 
-// The latest of all where its currency is equal; going back where it is not.
-fn last_of(rows: &[u16], octets: &[u8], k: usize, l: Latest, c: Currency) -> Last
+// The latest of all where its currency is equal, or the other; going back where neither is.
+fn last_of(rows: &[u16], octets: &[u8], k: usize, l: Latest, x: Latest, c: Currency) -> Last
     requires { ⌜ (addsUp (now rows) (length (now octets)) ≡ true) × (k ≤ length (now rows) / 6) ⌝ }
-    ensures { λ r. ⌜ r ≡ shortBy l c (judged (before (now (rows .entry)) (now (octets .entry)) k)) ⌝ }
+    ensures { λ r. ⌜ r ≡ shortBy l x c (judged (before (now (rows .entry)) (now (octets .entry)) k)) ⌝ }
 {
     if l.found != 1 {
         return Last {
@@ -120,22 +123,45 @@ fn last_of(rows: &[u16], octets: &[u8], k: usize, l: Latest, c: Currency) -> Las
             amount: amounts::thousandths(money.number, money.multiplier),
         };
     }
+    if x.found != 1 {
+        return Last {
+            found: 0,
+            amount: 0,
+        };
+    }
+    let second = x.money;
+    let named = second.currency;
+    if amounts::same_currency(named, c) {
+        return Last {
+            found: 1,
+            amount: amounts::thousandths(second.number, second.multiplier),
+        };
+    }
     last_in(rows, octets, k, c)
 }
 
 // ---- one event
 
 // Whether the event after the first k is counted D money below the last one before it in an equal currency.
-fn falls(rows: &[u16], octets: &[u8], k: usize, l: Latest, d: bool, c: Charge, o: Outcome) -> bool
+fn falls(
+    rows: &[u16],
+    octets: &[u8],
+    k: usize,
+    l: Latest,
+    x: Latest,
+    d: bool,
+    c: Charge,
+    o: Outcome,
+) -> bool
     requires { ⌜ (addsUp (now rows) (length (now octets)) ≡ true) × (k ≤ length (now rows) / 6) ⌝ }
-    ensures { λ r. ⌜ r ≡ fallsBy d c o (shortBy l (c .figure .money .currency) (judged (before (now (rows .entry)) (now (octets .entry)) k))) ⌝ }
+    ensures { λ r. ⌜ r ≡ fallsBy d c o (shortBy l x (c .figure .money .currency) (judged (before (now (rows .entry)) (now (octets .entry)) k))) ⌝ }
 {
     if !fault_rules::counted_money(d, c.figure.kind, o) {
         return false;
     }
     let money = c.figure.money;
     let currency = money.currency;
-    let found = last_of(rows, octets, k, l, currency);
+    let found = last_of(rows, octets, k, l, x, currency);
     if found.found != 1 {
         return false;
     }
@@ -147,6 +173,25 @@ fn latest_next(l: Latest, d: bool, kind: u8, m: Money, o: Outcome) -> Latest
 {
     if fault_rules::counted_money(d, kind, o) {
         return Latest { found: 1, money: m };
+    }
+    l
+}
+
+// The latest one becomes the other where an amount in a currency that is not equal follows it.
+fn other_next(x: Latest, l: Latest, d: bool, kind: u8, m: Money, o: Outcome) -> Latest
+    ensures { λ r. ⌜ r ≡ otherNext x l d kind m o ⌝ }
+{
+    if !fault_rules::counted_money(d, kind, o) {
+        return x;
+    }
+    if l.found != 1 {
+        return x;
+    }
+    let money = l.money;
+    let former = money.currency;
+    let currency = m.currency;
+    if amounts::same_currency(former, currency) {
+        return x;
     }
     l
 }
@@ -176,15 +221,18 @@ fn next(
     let money = charge.figure.money;
     let d = fault_rules::invokes_d(e.kind, front);
     let l = t.latest;
-    let below = falls(rows, octets, k, l, d, charge, outcome);
+    let x = t.other;
+    let below = falls(rows, octets, k, l, x, d, charge, outcome);
     let s = t.seen;
     let rule = fault_rules::breaks_of(d, phase, charge, outcome, s.free, below);
     let seen = fault_rules::seen_next(s, d, kind, outcome, rule, n);
     let latest = latest_next(l, d, kind, money, outcome);
+    let other = other_next(x, l, d, kind, money, outcome);
     Progress {
         account,
         seen,
         latest,
+        other,
     }
 }
 
@@ -216,6 +264,7 @@ fn judged_all(rows: &[u16], octets: &[u8]) -> Verdict
         account,
         seen,
         latest,
+        other: latest,
     };
     let mut at: usize = 0;
     let mut i: usize = 0;

@@ -1,13 +1,11 @@
-// Whether an event breaks a rule that the exchange has to keep, by value, and what is kept of the events seen.
+// Says whether an event breaks a rule that the exchange has to keep, by value, and what is remembered of the events so far.
 use phases::Outcome;
 use types::Charge;
 use types::Entries;
 use types::Front;
-ghost use Prim.Native.Nat.{_≤_};
 ghost use mathlib.Core.Path.{_≡_};
 ghost use lib.Dec.{eqb};
 ghost use Rattle.outcomes.specs.Outcome.{isRefusal};
-ghost use Rattle.same_final.specs.Same.{upTo};
 ghost use Rattle.fault_rules.specs.Figures.{invokesD, amountKind, isCounted, nothingBy, zeroUnits, isZero};
 ghost use Rattle.fault_rules.specs.Breaking.{placedBy, misplacedBy, moneyBy, chargesBy, breaksBy, freeNext, seenNext, concluded};
 
@@ -72,13 +70,6 @@ fn is_amount(kind: u8) -> bool
     kind == 3
 }
 
-fn places(count: u8) -> usize
-    ensures { λ r. ⌜ (r ≡ upTo 32 count) × (r ≤ 32) ⌝ }
-{
-    let n = count as usize;
-    if n <= 32 { n } else { 32 }
-}
-
 // Whether an entry has no number but zero.
 fn is_nothing(known: u8, number: u32) -> bool
     ensures { λ r. ⌜ r ≡ nothingBy known number ⌝ }
@@ -93,7 +84,7 @@ fn is_nothing(known: u8, number: u32) -> bool
 fn zero_units(e: Entries, count: u8) -> bool
     ensures { λ r. ⌜ r ≡ zeroUnits e count ⌝ }
 {
-    let n = places(count);
+    let n = same_final::places(count as u32, 32);
     let mut i: usize = 0;
     while i < n {
         let at = 2 * i;

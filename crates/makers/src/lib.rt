@@ -1,4 +1,4 @@
-// The events of a call, made of what a host hands over.
+// Makes the events of a call from what a host passes.
 ghost use mathlib.Core.Path.{_≡_};
 ghost use Rattle.phases.specs.Phases.{Component};
 ghost use Rattle.makers.specs.Events.{plainEvent, setupEvent};

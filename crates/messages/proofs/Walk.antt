@@ -1,14 +1,10 @@
 -- The walk over a message's elements, and over the components of one of them.
-use Rattle.prelude.proofs.Prelude.{_≡_, refl, sym, ap, _∙_, ℕ, zero, suc, _+_, _-_, _≤_, _<_, arith, Bool, true, false, _&&_, cond, List, [], _∷_, _++_, length, take, getD}
-use Rattle.prelude.proofs.Prelude.{leb, eqb}
-use Rattle.prelude.proofs.Prelude.{leb-true, ne-eqb, eq-eqb, length-append, replicate}
-use Rattle.coding.{specs.Reader.part, proofs.Basic.and-left, proofs.Basic.and-right, proofs.Parts.part-cons, proofs.Parts.part-none}
+use Rattle.prelude.proofs.Prelude.{_≡_, refl, ap, _∙_, ℕ, zero, suc, _+_, _≤_, _<_, arith, Bool, true, false, _&&_, List, [], _∷_, _++_, length, getD, leb, eqb, leb-true, ne-eqb, eq-eqb}
+use Rattle.coding.{specs.Reader.part, proofs.Basic.and-left, proofs.Basic.and-right}
 use Rattle.phases.{specs.Phases.Given, proofs.Choice.by-number, proofs.Choice.never}
 use Rattle.prelude.proofs.Ways.{by-cases}
-use Rattle.facility.specs.{declared.Starts.Starts, Element.elementOf, Cut.firstOr, Cut.partsOf}
-use Rattle.coding.{specs.Reader.Ans, specs.Reader.Ans.got, specs.Reader.Ans.halt, specs.Codec.pad}
-use Rattle.facility.specs.Element.{led, tiled, startsFound, malformed}
-use Rattle.pass.proofs.Order.{Rises, first-inside, starts-rise}
+use Rattle.facility.specs.{Element.elementOf, Cut.startsOf, Cut.partsOf}
+use Rattle.pass.proofs.Going.{startless}
 use Rattle.framing.specs.Framing.{Message, message, elementEnd, elementsFit, typePlace, typeOf, headed, framed}
 use Rattle.messages.specs.Trace.{underAfter, tilesOf, componentsIn, componentsAt, componentsFrom, componentsOf, componentEvent, componentEvents, givesBy, laidOut, messageEvents, ofCall}
 use Rattle.messages.specs.Trace.{clearedBy, traceFrom, allFramed}
@@ -95,71 +91,15 @@ pub tiles-are : (e : List ℕ) → tilesOf e .number ≡ 0 → (tilesOf e ≡ el
 unfolding tilesOf
 tiles-are e z = by-number (getD e 2 0) 0x91 (λ q. (rw (eq-eqb (getD e 2 0) 0x91 q) refl, q)) (λ q. absurd (fifteen (rw q at z)))
 
-pub parts-none : (s : List ℕ) (r : Starts) → r ≡ tilesOf s → (r .number ≡ 0 → ⊥) → componentsIn s ≡ []
-parts-none s r e n = rw (ne-eqb (tilesOf s .number) 0 (λ z. n (ap (λ (x : Starts). x .number) e ∙ z))) refl
-
-module _ (s starts : List ℕ) (count : ℕ) (few : count ≤ length starts) where
-  -- what is left of the starts from i on
-  abbrev pub leftFrom : ℕ → List Given
-  leftFrom i = componentEvents (partsOf s (part starts i count))
-
-  module _ (i : ℕ) (more : i < count) (a b : ℕ) (begins : a ≡ getD starts i 0) (stops : b ≡ firstOr (length s) (part starts (i + 1) count)) where
-    cons : part starts i count ≡ getD starts i 0 ∷ part starts (i + 1) count
-    cons = part-cons starts i count more few
-
-    pub tile-cons : partsOf s (part starts i count) ≡ part s a b ∷ partsOf s (part starts (i + 1) count)
-    tile-cons = rw (cons, begins, stops) refl
-
-    pub tile-more : leftFrom i ≡ (componentEvent (part s a b) ∷ []) ++ leftFrom (i + 1)
-    tile-more = rw (cons, begins, stops) refl
-
-    pub rises-on : Rises (length s) (part starts i count) → Rises (length s) (part starts (i + 1) count) × (a < b) × (b ≤ length s)
-    rises-on r =
-        let t = rw cons at r in
-        (t .1, rw (begins, stops) (t .0), rw stops (first-inside (length s) (part starts (i + 1) count) (t .1)))
-
-  pub parts-over : (i : ℕ) → count ≤ i → partsOf s (part starts i count) ≡ []
-  parts-over i h = rw (part-none starts i count h) refl
-
-  pub tile-over : (i : ℕ) → count ≤ i → leftFrom i ≡ []
-  tile-over i h = rw (part-none starts i count h) refl
-
--- an element that gives some: all its starts
-module _ (s : List ℕ) (r : Starts) (e : r ≡ tilesOf s) where
-  is-zero : r .number ≡ 0 → tilesOf s .number ≡ 0
-  is-zero z = sym (ap (λ (x : Starts). x .number) e) ∙ z
-
-  all-counted : take (r .count) (r .starts) ≡ part (r .starts) 0 (r .count)
-  unfolding part
-  all-counted = let w : r .count - 0 ≡ r .count = omega arith in rw w refl
-
-  pub parts-all : r .number ≡ 0 → componentsIn s ≡ partsOf s (part (r .starts) 0 (r .count))
-  parts-all z = rw (eq-eqb (tilesOf s .number) 0 (is-zero z), ← e) (ap (partsOf s) all-counted)
-
-  pub tile-rises : r .number ≡ 0 → Rises (length s) (part (r .starts) 0 (r .count))
-  tile-rises z = rw (← all-counted, e, tiles-are s (is-zero z) .0) (starts-rise s (sym (ap (λ (x : Starts). x .number) (tiles-are s (is-zero z) .0)) ∙ is-zero z) .0)
-
--- where a component ends
-pub stop-next : (starts : List ℕ) (end i count r : ℕ) → i + 1 < count → count ≤ length starts → r ≡ getD starts (i + 1) 0 → r ≡ firstOr end (part starts (i + 1) count)
-stop-next starts end i count r h few e = e ∙ sym (ap (firstOr end) (part-cons starts (i + 1) count h few))
-
-pub stop-end : (starts : List ℕ) (end i count : ℕ) → count ≤ i + 1 → end ≡ firstOr end (part starts (i + 1) count)
-stop-end starts end i count h = sym (ap (firstOr end) (part-none starts (i + 1) count h))
-
--- there are as many places as are counted
-found-long : (b : Bool) (x : Ans (List ℕ)) → (cond b (startsFound x) malformed) .count ≤ length ((cond b (startsFound x) malformed) .starts)
-unfolding startsFound pad
-found-long true (got xs last) = omega (arith, length-append xs (replicate (127 - length xs) 0))
-found-long true (halt w p) = omega arith
-found-long false x = omega arith
-
-element-long : (s : List ℕ) → elementOf s .count ≤ length (elementOf s .starts)
-unfolding elementOf
-element-long s = found-long (led s) (tiled (length s) s 3 (length s))
-
-pub starts-long : (s : List ℕ) (r : Starts) → r ≡ tilesOf s → r .count ≤ length (r .starts)
+-- with another profile octet than 91 there are none
+pub in-other : (s : List ℕ) → eqb (getD s 2 0) 0x91 ≡ false → componentsIn s ≡ []
 unfolding tilesOf
-starts-long s r e = rw e (by-cases (eqb (getD s 2 0) 0x91) (λ t. rw t (element-long s)) (λ t. rw t (omega arith)))
+in-other s e = rw e refl
+
+-- with 91 the parts between its starts, of which a malformed one has none
+pub in-parts : (s : List ℕ) → eqb (getD s 2 0) 0x91 ≡ true → componentsIn s ≡ partsOf s (startsOf (elementOf s))
+unfolding tilesOf
+in-parts s e = rw e (by-cases (eqb (elementOf s .number) 0) (λ t. rw t refl) (λ t. rw (t, startless s t) refl))
 
 -- ---- a message
 

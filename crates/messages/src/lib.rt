@@ -1,17 +1,14 @@
-// What a message of a call gives: its type and reference, what is under a shift, where the components of an element lie, and which events.
+// Says which events a layer 3 message gives: its type and reference, what is under a shift, and whether an element's components count.
 ghost use mathlib.Core.Path.{_≡_};
 ghost use mathlib.Core.Bool.{true, _&&_};
-ghost use Prim.Native.Nat.{_+_, _≤_, _<_};
 ghost use lib.ListN.{getD};
 ghost use lib.Dec.{eqb};
-ghost use Rattle.coding.specs.Reader.{part};
-ghost use Rattle.facility.specs.Cut.{firstOr};
 ghost use Rattle.framing.specs.Framing.{typeOf, framed};
-ghost use Rattle.messages.specs.Trace.{underAfter, tilesOf, isClearing, reference, givesBy, clearedBy};
+ghost use Rattle.messages.specs.Trace.{underAfter, isClearing, reference, givesBy, clearedBy};
 
 // ---- types, references, shifts
 
-// The number of a message's type.
+// Whether a message of this type clears the call: DISCONNECT, RELEASE, RELEASE COMPLETE.
 pub fn is_clearing(t: u8) -> bool
     ensures { λ r. ⌜ r ≡ isClearing t ⌝ }
 {
@@ -117,39 +114,12 @@ pub fn cleared_by(s: &[u8], call: usize, cleared: bool) -> bool
 
 // ---- an element's components
 
-// Whether the profile octet of an element is 91.
-fn is_profiled(s: &[u8]) -> bool
+// Whether the profile octet of an element is 91. The components of another one do not become events.
+pub fn is_profiled(s: &[u8]) -> bool
     ensures { λ r. ⌜ r ≡ eqb (getD (now (s .entry)) 2 0) 0x91 ⌝ }
 {
     if s.len() < 3 {
         return false;
     }
     s[2] == 0x91
-}
-
-// Where the components of a Facility element begin that become events.
-pub fn tiles_of(s: &[u8]) -> facility::Starts
-    ensures { λ r. ⌜ r ≡ tilesOf (now (s .entry)) ⌝ }
-    ensures few { λ r. ⌜ r .count ≤ 127 ⌝ }
-{
-    if !is_profiled(s) {
-        return facility::Starts {
-            number: 15,
-            count: 0,
-            starts: [0; 127],
-        };
-    }
-    facility::element(s)
-}
-
-// Where component i ends: at the next start, the last one at the end.
-pub fn stop_of(starts: [u8; 127], count: usize, i: usize, end: usize) -> usize
-    requires { ⌜ (i < count) × (count ≤ 127) ⌝ }
-    ensures { λ r. ⌜ r ≡ firstOr end (part starts (i + 1) count) ⌝ }
-{
-    let next = i + 1;
-    if next < count {
-        return octets::wide(starts[next]);
-    }
-    end
 }

@@ -8,7 +8,7 @@ use Rattle.types.specs.declared.Currency.{Currency}
 use Rattle.types.specs.declared.Money.{Money}
 use Rattle.types.specs.declared.Entries.{Entries}
 use Rattle.types.specs.Arguments.{isKind}
-use Rattle.amounts.specs.Amounts.{thousandths}
+use Rattle.types.specs.Thousandths.{thousandths}
 use Rattle.same_final.specs.Same.{upTo}
 use Rattle.closing.specs.Range.{inRange}
 use Rattle.month_rows.specs.Rows.{plus, zeroRow, rowOf, raise}

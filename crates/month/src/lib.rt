@@ -36,7 +36,7 @@ fn with_units(mut m: Month, e: Entries, count: u8) -> Month
     ensures { λ r. ⌜ r ≡ withUnits m e (upTo 32 count) ⌝ }
 {
     let units = m.units;
-    let n = month_rows::places(count as u32, 32);
+    let n = same_final::places(count as u32, 32);
     let s = month_rows::sum_units(units, m.absent, e, n);
     let sums = s.units;
     m.units = sums;
@@ -100,7 +100,7 @@ pub fn add(m: Month, service: u32, c: Charge) -> Added
         return answer(46, m);
     }
     if f.kind == 2 {
-        let n = month_rows::places(m.count, 16);
+        let n = same_final::places(m.count, 16);
         let i = month_rows::row_of(rows, n, currency);
         if i == 16 {
             return answer(47, m);

@@ -7,7 +7,6 @@ use types::Units;
 ghost use Prim.Native.Nat.{_≤_, _<_};
 ghost use mathlib.Core.Path.{_≡_};
 ghost use Rattle.types.specs.Entries.{unitAt};
-ghost use Rattle.same_final.specs.Same.{upTo};
 ghost use Rattle.month_rows.specs.Rows.{rowOf, newRow, oneMore, raise};
 ghost use Rattle.month_rows.specs.Sums.{addUnit, addAbsent, sumUnits, countAbsent};
 ghost use Rattle.month_rows.specs.Places.{raisedAt, serviceLine, billingColumn, placed};
@@ -31,14 +30,6 @@ pub struct Grid {
 pub struct Sums {
     pub units: [u64; 17],
     pub absent: u32,
-}
-
-// How many places a count uses, of those there are.
-pub fn places(count: u32, most: usize) -> usize
-    ensures { λ r. ⌜ (r ≡ upTo most count) × (r ≤ most) ⌝ }
-{
-    let n = count as usize;
-    if n <= most { n } else { most }
 }
 
 // ---- currencies
@@ -122,7 +113,7 @@ fn add_unit(mut sums: [u64; 17], u: Units) -> [u64; 17]
     if u.known != 1 {
         return sums;
     }
-    let k = places(u.kind as u32, 16);
+    let k = same_final::places(u.kind as u32, 16);
     let old = sums[k];
     sums[k] = std::num::wrapping_add_u64(old, wide(u.number));
     sums

@@ -12,7 +12,7 @@ use Rattle.types.specs.declared.Units.{Units}
 use Rattle.types.specs.Entries.{unitList}
 use Rattle.types.specs.Arguments.{isKind}
 use Rattle.amounts.specs.Currency.{equalCurrency}
-use Rattle.amounts.specs.Amounts.{thousandths}
+use Rattle.types.specs.Thousandths.{thousandths}
 use Rattle.closing.specs.Range.{inRange}
 use Rattle.month_rows.specs.declared.Row.{Row}
 use Rattle.month_rows.specs.Rows.{zeroRow}

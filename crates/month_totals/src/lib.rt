@@ -1,1 +1,1 @@
-// A month's figures over the list of all that were added, and that adding one after another gives them. There is no code here: specs/Totals.antt has the figures, proofs/Theorems.antt the theorems.
+// Theorems and no code: a month's totals over the list of all figures that were added are what adding them one by one gives. The totals are in specs/Totals.antt, the theorems in proofs/Theorems.antt.

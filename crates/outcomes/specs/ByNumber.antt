@@ -1,12 +1,13 @@
--- The outcome of a component, by the numbers that inner functions are handed. `resolves` (step/proofs/Steps.antt) ties it to `judgeRecord`.
+-- The outcome of a component, by the numbers that inner functions are handed. `resolves` (outcomes/proofs/Claims.antt) ties it to `judgeRecord`.
 use Prim.Native.Nat.{ℕ}
 use mathlib.Core.Bool.{Bool, _&&_, _||_, cond}
 use lib.Dec.{eqb}
+use Rattle.types.specs.declared.Charge.{Charge}
 use Rattle.types.specs.declared.Front.{Front}
 use Rattle.requests.specs.Sets.{has}
 use Rattle.phases.specs.declared.Outcome.{Outcome}
 use Rattle.phases.specs.Phases.{Establishment, Active, Clearing, Suspended, S, D, E, outcome, noService}
-use Rattle.outcomes.specs.Outcome.{serviceOf, Requests, holderOf, judgeFailure, invokeService}
+use Rattle.outcomes.specs.Outcome.{serviceOf, Requests, holderOf, judgeFailure, invokeService, Known, firstFinal, judgeFinal, was}
 
 -- ---- the outcome of a component but for comparing finals: one that is claimed is 22
 
@@ -44,3 +45,8 @@ claimFrame phase q f kind total =
 
 unfoldable pub claimRecord : ℕ → Requests → Front → ℕ → ℕ → Outcome
 claimRecord phase q f kind total = cond (eqb phase Suspended) (outcome 27 (invokeService f)) (claimFrame phase q f kind total)
+
+-- ---- a final that is claimed is compared with the first one
+
+abbrev pub compared : Known → Outcome → Charge → Outcome
+compared k r c = cond (was 22 r) (judgeFinal (firstFinal k (r .service)) (r .service) c) r

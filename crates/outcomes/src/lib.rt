@@ -9,7 +9,7 @@ ghost use mathlib.Core.Path.{_≡_};
 ghost use mathlib.Core.Bool.{not, _&&_};
 ghost use lib.Dec.{eqb};
 ghost use Rattle.phases.specs.Phases.{outcome};
-ghost use Rattle.outcomes.specs.Outcome.{serviceOf, holderOf, judgeFinal, judgeFailure, invokeService};
+ghost use Rattle.outcomes.specs.Outcome.{serviceOf, holderOf, judgeFinal, judgeFailure, invokeService, its};
 ghost use Rattle.outcomes.specs.Status.{requestsOf, firstFigure, noted, placeOf};
 ghost use Rattle.outcomes.specs.ByNumber.{runsBy, closesBy, claimFigure, claimInvoke, fitsBy, claimResult, claimFrame, claimRecord};
 ghost use Rattle.types.specs.Stored.{withList};
@@ -340,4 +340,15 @@ pub fn place_of(o: Outcome) -> u16
         return 0;
     }
     0
+}
+
+// ---- which outcome it is
+
+pub fn is_its(o: Outcome, service: u8, number: u8) -> bool
+    ensures { λ r. ⌜ r ≡ its service number o ⌝ }
+{
+    if o.number != number {
+        return false;
+    }
+    o.service == service
 }

@@ -1,4 +1,4 @@
-// A record in parts, as it lies in a host's memory: the numbers and the figure that the octets hold. Numbers lie low octet first.
+// Takes a record's octets in the caller's memory apart into its numbers and its figure. Numbers lie low octet first.
 use types::Association;
 use types::Currency;
 use types::Figure;

@@ -1,10 +1,10 @@
 -- The starts of an accepted element rise, so a place is among them once, and the place after it lies inside the element.
-use Rattle.prelude.proofs.Prelude.{ℕ, zero, suc, _+_, _-_, _≤_, _<_, arith, _≡_, refl, sym, ap, _∙_, List, [], _∷_, length, getD, take, eqb, eqb-true, eq-eqb, ne-eqb, cond}
+use Rattle.prelude.proofs.Prelude.{ℕ, zero, suc, _+_, _-_, _≤_, _<_, arith, _≡_, refl, sym, ap, _∙_, List, [], _∷_, _++_, length, getD, take, ltb, eqb, eqb-true, eq-eqb, ne-eqb, cond}
 use Rattle.prelude.proofs.Ways.{by-cases}
 use Rattle.coding.{specs.declared.Extent.Extent, specs.Reader.lengthAt, specs.Reader.part, specs.Reader.Ans.got, proofs.Basic.never, proofs.Basic.chain, proofs.Basic.same-got}
-use Rattle.coding.{proofs.Basic.picked, proofs.Basic.unpicked, proofs.Parts.part-cons, proofs.Parts.part-none, proofs.Header.read-element, proofs.Header.element-range}
-use Rattle.facility.{specs.Element.tiled, specs.Element.led, specs.Element.elementOf, specs.Cut.startsOf, specs.Cut.firstOr, proofs.Tiles.answer-found, proofs.Tiles.led-long}
-use Rattle.pass.specs.{declared.Found.Found, Pass.noneAt, Pass.foundUpTo, Pass.amongStarts, Pass.foundAt, Places.afterIn, Pass.Reads, Pass.Passed, Pass.passWith}
+use Rattle.coding.{proofs.Basic.picked, proofs.Basic.unpicked, proofs.Basic.and-left, proofs.Basic.and-right, proofs.Parts.part-cons, proofs.Parts.part-none, proofs.Header.read-element, proofs.Header.element-range}
+use Rattle.facility.{specs.Element.tiled, specs.Element.led, specs.Element.elementOf, specs.Cut.startsOf, specs.Cut.firstOr, specs.Places.afterIn, proofs.Tiles.answer-found, proofs.Tiles.led-long}
+use Rattle.pass.specs.{declared.Found.Found, Pass.noneAt, Pass.foundUpTo, Pass.amongStarts, Pass.foundAt, Pass.Reads, Pass.Passed, Pass.passWith}
 
 -- each start lies below the next, the last below the end
 abbrev pub Rises : ℕ → List ℕ → Type 0
@@ -40,6 +40,39 @@ starts-rise s e =
     let a = answer-found (led s) (tiled (length s) s 3 (length s)) e in
     rw (a .1 .3) (tiled-rises (length s) s 3 (a .1 .0) (a .1 .2))
 
+-- each start is that of a tile which ends at the next one, the last at the end
+abbrev Opens : List ℕ → List ℕ → Type 0
+Opens s [] = Unit {0}
+Opens s (a ∷ starts) = ((v : Extent) × (lengthAt a s (a + 1) (length s) ≡ got v (firstOr (length s) starts))) × Opens s starts
+
+tiled-opens : (turns : ℕ) (s : List ℕ) (i : ℕ) (xs : List ℕ) {last : ℕ} → tiled turns s i (length s) ≡ got xs last → Opens s xs
+unfolding tiled
+tiled-opens zero s i xs e = absurd (never e)
+tiled-opens (suc turns) s i xs {last} e = by-cases (eqb i (length s)) (λ q. same-got (λ ys m. Opens s ys) (rw q at e) tt)
+    (λ q. let a = chain _ _ (rw q at e) in
+    let b = chain _ _ (a .3) in
+    let ends : firstOr (length s) (b .0) ≡ a .1 = tiled-rises turns s (a .1) (b .0) {last = b .1} (b .2) .1 in
+    same-got (λ ys m. Opens s ys) (b .3) ((a .0, rw ends (a .2)), tiled-opens turns s (a .1) (b .0) {last = b .1} (b .2)))
+
+opens-at : (s before : List ℕ) (a : ℕ) (xs : List ℕ) → Opens s (before ++ (a ∷ xs)) → (v : Extent) × (lengthAt a s (a + 1) (length s) ≡ got v (firstOr (length s) xs))
+opens-at s [] a xs o = o .0
+opens-at s (b ∷ before) a xs o = opens-at s before a xs (o .1)
+
+pub start-opens : (s : List ℕ) → elementOf s .number ≡ 0 → (before : List ℕ) (a : ℕ) (xs : List ℕ) → startsOf (elementOf s) ≡ before ++ (a ∷ xs)
+    → (v : Extent) × (lengthAt a s (a + 1) (length s) ≡ got v (firstOr (length s) xs))
+unfolding elementOf
+start-opens s e before a xs all =
+    let f = answer-found (led s) (tiled (length s) s 3 (length s)) e in
+    let o : Opens s (startsOf (elementOf s)) = rw (f .1 .3) (tiled-opens (length s) s 3 (f .1 .0) (f .1 .2)) in
+    opens-at s before a xs (rw all at o)
+
+-- the second octet of an accepted element counts those after it
+pub element-counts : (s : List ℕ) → elementOf s .number ≡ 0 → getD s 1 0 ≡ length s - 2
+unfolding elementOf led
+element-counts s e =
+    let f = answer-found (led s) (tiled (length s) s 3 (length s)) e in
+    eqb-true _ _ (and-left (eqb (getD s 1 0) (length s - 2)) _ (and-right (eqb (getD s 0 0) 0x1c) _ (and-right (ltb 3 (length s)) _ (f .0))))
+
 -- there is something after its third octet
 pub element-long : (s : List ℕ) → elementOf s .number ≡ 0 → 3 < length s
 unfolding elementOf
@@ -62,31 +95,6 @@ module _ (place end : ℕ) where
   among-none [] r e = refl
   among-none (a ∷ xs) r e = by-cases (eqb a place)
       (λ t. let f : firstOr end xs ≡ 0 = rw t at e in absurd (omega (arith, r .0))) (λ t. rw t (among-none xs (r .1) (rw t at e)))
-
--- ---- the loop over the starts: what is left of them from i on
-
-module _ (place end : ℕ) (starts : List ℕ) (count : ℕ) (few : count ≤ length starts) where
-  pub after-all : afterIn place end (part starts 0 count) ≡ afterIn place end (take count starts)
-  unfolding part
-  after-all =
-      let z : count - 0 ≡ count = omega arith in
-      rw z
-
-  pub after-next : (i : ℕ) → i + 1 < count → getD starts i 0 ≡ place → afterIn place end (part starts i count) ≡ getD starts (i + 1) 0
-  unfolding afterIn
-  after-next i h e = rw (part-cons starts i count (omega arith) few, part-cons starts (i + 1) count h few) (picked _ _ (eq-eqb _ place e))
-
-  pub after-last : (i : ℕ) → i < count → count ≤ i + 1 → getD starts i 0 ≡ place → afterIn place end (part starts i count) ≡ end
-  unfolding afterIn
-  after-last i h l e = rw (part-cons starts i count h few, part-none starts (i + 1) count l) (picked _ _ (eq-eqb _ place e))
-
-  pub after-other : (i : ℕ) → i < count → (getD starts i 0 ≡ place → ⊥) → afterIn place end (part starts i count) ≡ afterIn place end (part starts (i + 1) count)
-  unfolding afterIn
-  after-other i h n = rw (part-cons starts i count h few) (unpicked _ _ (ne-eqb _ place n))
-
-  pub after-none : (i : ℕ) → count ≤ i → afterIn place end (part starts i count) ≡ 0
-  unfolding afterIn
-  after-none i h = rw (part-none starts i count h)
 
 -- ---- what is found at a place
 

@@ -3,8 +3,8 @@ use Rattle.prelude.proofs.Prelude.{ℕ, zero, suc, _≤_, _<_, arith, _≡_, re
 use Rattle.prelude.proofs.Prelude.{eqb-true}
 use Rattle.coding.proofs.Basic.{picked, unpicked}
 use Rattle.types.{specs.Frames.readOf, proofs.Places.pick}
-use Rattle.facility.specs.{Element.elementOf, Cut.startsOf, Cut.firstOr, Cut.partsOf}
-use Rattle.pass.specs.{declared.Found.Found, Places.afterIn, Pass.noneAt, Pass.foundUpTo, Pass.amongStarts, Pass.foundAt, Pass.Reads, Pass.Passed, Pass.atEnd, Pass.noComponent}
+use Rattle.facility.specs.{Element.elementOf, Cut.startsOf, Cut.firstOr, Cut.partsOf, Places.afterIn}
+use Rattle.pass.specs.{declared.Found.Found, Pass.noneAt, Pass.foundUpTo, Pass.amongStarts, Pass.foundAt, Pass.Reads, Pass.Passed, Pass.atEnd, Pass.noComponent}
 use Rattle.pass.specs.Pass.{componentUpTo, passWith, Through, Through.over, Through.next, lines}
 use Rattle.pass.proofs.Order.{Rises, first-inside, starts-rise, among-found, among-none, find-end, find-among, pass-none, pass-some}
 
@@ -23,16 +23,21 @@ inside : (end : ℕ) (before : List ℕ) (a : ℕ) (xs : List ℕ) → Rises end
 inside end [] a xs r = (r .0, first-inside end xs (r .1))
 inside end (b ∷ before) a xs r = inside end before a xs (r .1)
 
+module _ (s : List ℕ) (fine : elementOf s .number ≡ 0) (before : List ℕ) (a : ℕ) (xs : List ℕ) (all : startsOf (elementOf s) ≡ before ++ (a ∷ xs)) where
+  pub start-inside : a < firstOr (length s) xs × (firstOr (length s) xs ≤ length s)
+  start-inside = inside (length s) before a xs (rw all at (starts-rise s fine .0))
+
+  pub start-found : foundAt s a ≡ foundUpTo (firstOr (length s) xs)
+  start-found =
+      find-among s a fine (λ z. omega (arith, start-inside, z)) ∙ ap (amongStarts a (length s)) all ∙ skips (length s) before a xs (rw all at (starts-rise s fine .0))
+
 module _ {A : Type 0} (r : Reads A) (s : List ℕ) (fine : elementOf s .number ≡ 0) where
   end-here : passWith r s (length s) ≡ atEnd r
   end-here = sym (pass-none r s (length s) (noneAt 1 0) (sym (find-end s (length s) fine refl)) refl)
 
   start-here : (before : List ℕ) (a : ℕ) (xs : List ℕ) → startsOf (elementOf s) ≡ before ++ (a ∷ xs) → passWith r s a ≡ componentUpTo r s a (firstOr (length s) xs)
   start-here before a xs e =
-      let rises = rw e at (starts-rise s fine .0) in
-      let i = inside (length s) before a xs rises in
-      let found = find-among s a fine (λ z. omega (arith, i .0, i .1, z)) ∙ ap (amongStarts a (length s)) e ∙ skips (length s) before a xs rises in
-      sym (pass-some r s a (foundUpTo (firstOr (length s) xs)) _ (sym found) (λ z. omega (arith, i .0, z)) refl)
+      sym (pass-some r s a (foundUpTo (firstOr (length s) xs)) _ (sym (start-found s fine before a xs e)) (λ z. omega (arith, start-inside s fine before a xs e, z)) refl)
 
   onward : (before xs : List ℕ) → startsOf (elementOf s) ≡ before ++ xs → Through r s (firstOr (length s) xs) (map (r .by (getD s 2 0)) (partsOf s xs))
   onward before [] e = over end-here

@@ -1,10 +1,10 @@
 // One pass over a Facility element: the next component's record or refusal with the place after it, or the end.
 ghost use mathlib.Core.Path.{_≡_};
 ghost use Prim.Native.Nat.{_≤_, _<_};
-ghost use lib.ListN.{length, take, replicate};
+ghost use lib.ListN.{length, replicate};
 ghost use Rattle.types.specs.Frames.{refused};
 ghost use Rattle.pass.specs.Pass.{foundAt, passOf, wholeNext};
-ghost use Rattle.pass.specs.Places.{afterIn};
+ghost use Rattle.facility.specs.Places.{Along};
 
 // after: the place after the component. ended: 1 at the end of the element, where all else is zero.
 // answer: the component's, or 15 for a malformed element, 16 for a place where no component begins, 17 for one of another family.
@@ -13,24 +13,6 @@ pub struct Next {
     pub after: usize,
     pub ended: usize,
     pub answer: read::Refusal,
-}
-
-// The place after the component that begins at a place; 0 where none does.
-fn after_of(starts: [u8; 127], count: usize, place: usize, end: usize) -> usize
-    requires { ⌜ count ≤ 127 ⌝ }
-    ensures { λ r. ⌜ r ≡ afterIn place end (take count starts) ⌝ }
-{
-    let mut i: usize = 0;
-    while i < count {
-        if octets::wide(starts[i]) == place {
-            if i + 1 < count {
-                return octets::wide(starts[i + 1]);
-            }
-            return end;
-        }
-        i += 1;
-    }
-    0
 }
 
 // Where a component lies that begins at a place: up to `after`; where that is 0, none does, and the place is the end or is refused.
@@ -45,8 +27,8 @@ fn find(octets: &[u8], place: usize) -> Found
     ensures { λ r. ⌜ r ≡ foundAt (now (octets .entry)) place ⌝ }
     ensures inside { λ r. ⌜ ((r .after ≡ 0 → ⊥) → (place < r .after) × (r .after ≤ length (now (octets .entry))) × (3 < length (now (octets .entry)))) ⌝ }
 {
-    let tiles = facility::element(octets);
-    if tiles.number != 0 {
+    let cut = facility::cut_at(octets, place);
+    if cut.tiles.number != 0 {
         return Found {
             after: 0,
             ended: 0,
@@ -60,9 +42,7 @@ fn find(octets: &[u8], place: usize) -> Found
             number: 0,
         };
     }
-    let starts = tiles.starts;
-    let count = octets::wide(tiles.count);
-    let after = after_of(starts, count, place, octets.len());
+    let after = cut.after;
     if after == 0 {
         return Found {
             after: 0,
@@ -74,6 +54,42 @@ fn find(octets: &[u8], place: usize) -> Found
         after,
         ended: 0,
         number: 0,
+    }
+}
+
+// What `find` gives at a place where a component begins, or at the end, once the tiling has been judged: the tile there alone is looked at.
+pub fn onward(octets: &[u8], place: usize) -> Found
+    requires { ⌜ Along (now octets) place ⌝ }
+    ensures { λ r. ⌜ r ≡ foundAt (now (octets .entry)) place ⌝ }
+{
+    let end = octets.len();
+    if place == end {
+        return Found {
+            after: 0,
+            ended: 1,
+            number: 0,
+        };
+    }
+    let tile = read_lengths::open_at(octets, place, end, octets[place]);
+    Found {
+        after: tile.next,
+        ended: 0,
+        number: 0,
+    }
+}
+
+// What `find` gives at the first place. Going through an element by this and `onward` walks it twice, and by `find` once for each place.
+pub fn first(octets: &[u8]) -> Found
+    ensures { λ r. ⌜ r ≡ foundAt (now (octets .entry)) 3 ⌝ }
+{
+    let tiles = facility::element(octets);
+    if tiles.number == 0 {
+        return onward(octets, 3);
+    }
+    Found {
+        after: 0,
+        ended: 0,
+        number: 15,
     }
 }
 

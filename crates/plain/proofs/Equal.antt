@@ -5,7 +5,7 @@ use Rattle.outcomes.specs.{Outcome.judge, Status.requestsOf}
 use Rattle.account.{specs.declared.Account.Account, specs.declared.Closing.Closing, specs.declared.Stepped.Stepped, specs.History.judged, specs.History.known, specs.History.accountBy}
 use Rattle.account.{specs.History.fresh, specs.History.pendingOf}
 use Rattle.account.{specs.Step.closingOf, specs.Step.marksOf, proofs.Demand.fresh-stands, proofs.Demand.step-stands, proofs.Demand.closing-stands}
-use Rattle.account.{specs.Noise.chosen, specs.Noise.onlyNoise, specs.Noise.outcomes, specs.Noise.past, specs.Noise.standing, proofs.Noise.noise-dropped, proofs.Noise.end-kept}
+use Rattle.account.{specs.Noise.chosen, specs.Noise.onlyNoise, specs.Noise.outcomes, specs.Noise.past, specs.Noise.Standing, specs.Noise.standing, proofs.Noise.noise-dropped, proofs.Noise.end-kept}
 use Rattle.events.specs.Events.{addsUp, eventsOf}
 use Rattle.plain.specs.Answers.{outcomeAt, plainOutcome, plainPhase, plainPending, plainCurrentRate, plainRunning, plainClosing, plainMarks}
 use Rattle.plain.specs.Replay.{replayed, repliedAt}
@@ -62,3 +62,29 @@ module _ (rows octets rows′ octets′ : List ℕ) (c : List Bool) (left : reve
 
   pub plain-outcomes-kept : past (reverse (eventsOf rows′ octets′)) ≡ chosen c (past (reverse (eventsOf rows octets)))
   plain-outcomes-kept = ap past left ∙ noise-dropped c (reverse (eventsOf rows octets)) noise
+
+  -- and in the engine's own answers, where the slices of both are event lists
+  module _ (list : addsUp rows (length octets) ≡ true) (list′ : addsUp rows′ (length octets′) ≡ true) where
+    pub plain-phase-kept : plainPhase rows′ octets′ ≡ plainPhase rows octets
+    unfolding plainPhase
+    plain-phase-kept = rw (list, list′) (ap (λ (s : Standing). record { number = 0; phase = s .known .phase }) plain-end-kept)
+
+    pub plain-pending-kept : plainPending rows′ octets′ ≡ plainPending rows octets
+    unfolding plainPending
+    plain-pending-kept = rw (list, list′) (ap (λ (s : Standing). record { number = 0; pending = pendingOf (s .known .pending) }) plain-end-kept)
+
+    pub plain-rate-kept : plainCurrentRate rows′ octets′ ≡ plainCurrentRate rows octets
+    unfolding plainCurrentRate
+    plain-rate-kept = rw (list, list′) (ap (λ (s : Standing). record { number = 0; value = s .rate }) plain-end-kept)
+
+    pub plain-running-kept : plainRunning rows′ octets′ ≡ plainRunning rows octets
+    unfolding plainRunning
+    plain-running-kept = rw (list, list′) (ap (λ (s : Standing). record { number = 0; value = s .running }) plain-end-kept)
+
+    pub plain-closing-kept : plainClosing rows′ octets′ ≡ plainClosing rows octets
+    unfolding plainClosing
+    plain-closing-kept = rw (list, list′) (ap (λ (s : Standing). record { number = 0; closing = s .closing }) plain-end-kept)
+
+    pub plain-marks-kept : plainMarks rows′ octets′ ≡ plainMarks rows octets
+    unfolding plainMarks
+    plain-marks-kept = rw (list, list′) (ap (λ (s : Standing). record { number = 0; marks = s .marks }) plain-end-kept)

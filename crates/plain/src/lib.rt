@@ -45,7 +45,7 @@ fn told(rows: &[u16], octets: &[u8], service: u8, number: u8) -> bool
     while i > 0 {
         i -= 1;
         let o = scans::outcome_at(rows, octets, i);
-        if scans::is_its(o, service, number) {
+        if outcomes::is_its(o, service, number) {
             return true;
         }
     }

@@ -26,7 +26,7 @@ pub use mathlib.Core.Logic.{_↔_, _⊎_, inl, inr}
 pub use mathlib.Core.Option.{Option, none, some}
 pub use mathlib.Core.Path.{_∙_, _≡_, ap, ap₂, refl, subst, sym}
 pub use native.Mathlib.Decide.{decLt, ℕ-discrete}
-pub use native.Mathlib.Nat.{add-suc, add-zero, div-lt-iff-lt-mul, le-pred-of-lt, lt-of-not-le, mod-eq-of-lt, mod-self, mul-add-div-right, mul-comm, mul-le-mul-left}
+pub use native.Mathlib.Nat.{add-suc, add-zero, div-lt-iff-lt-mul, le-pred-of-lt, lt-of-not-le, mod-add-div, mod-eq-of-lt, mod-self, mul-add-div-right, mul-comm, mul-le-mul-left}
 pub use native.Mathlib.Nat.{mul-le-mul-right, mul-suc, mul-zero, not-suc-le-zero, one-mul, pow-le-pow-right, pow-suc, sub-zero, suc-add, suc-mul, zero-add}
 pub use native.Mathlib.Numerals.{add-one, towards-suc}
 pub use native.Mathlib.Omega.{arith}

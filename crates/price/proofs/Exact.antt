@@ -3,7 +3,7 @@ use Rattle.prelude.proofs.Prelude.{_≡_, subst, ℕ, suc, _*_, _^_, _≤_, _<_
 use Rattle.prelude.proofs.Prelude.{ofBits, div, round, inFloat, toUnsigned, HasValue, round-whole, unsigned-back, round-same}
 use Rattle.types.specs.declared.Charge.{Charge}
 use Rattle.amounts.proofs.Bounded.{bounded}
-use Rattle.amounts.specs.Amounts.{thousandths}
+use Rattle.types.specs.Thousandths.{thousandths}
 use Rattle.closing.{specs.Range.inRange, proofs.Small.small}
 use Rattle.price.specs.Price.{asDouble, quotientOf}
 

@@ -8,7 +8,7 @@ use Rattle.types.specs.declared.Charge.{Charge}
 use Rattle.types.specs.declared.Money.{Money}
 use Rattle.types.specs.Charges.{noCurrency}
 use Rattle.types.specs.Arguments.{isKind}
-use Rattle.amounts.specs.Amounts.{thousandths}
+use Rattle.types.specs.Thousandths.{thousandths}
 use Rattle.closing.specs.Range.{inRange}
 use Rattle.price.specs.declared.Priced.{Priced}
 

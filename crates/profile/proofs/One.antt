@@ -1,7 +1,7 @@
 -- An answer and the parts of both records are told apart by what they say together: so `read_by` has one outcome.
 use Rattle.prelude.proofs.Prelude.{ℕ, _≡_, ap, List}
 use Rattle.read.{specs.declared.Refusal.Refusal, proofs.One.Filled, proofs.One.one-answer}
-use Rattle.trunk_fields.specs.Fields.{Spare}
+use Rattle.trunks.specs.Stored.{Spare}
 use Rattle.trunk_read.proofs.One.{one-trunk}
 use Rattle.profile.specs.{declared.Judged.Judged, Profile.Either, Profile.eitherIn}
 

@@ -1,11 +1,11 @@
-// Components with their element's profile octet: 91 reads document 01's family, 9F the trunks', any other is 17, before all else.
+// Reads a component by the profile octet of its element: hex 91 is a public line, hex 9F a trunk, and any other octet is refused (17) before all else.
 ghost use mathlib.Core.Path.{_≡_};
 ghost use lib.ListN.{replicate};
 ghost use Rattle.types.specs.Frames.{noRecord};
 ghost use Rattle.types.specs.Stored.{recordIn, storedCharge};
 ghost use Rattle.trunks.specs.Components.{noTrunk};
 ghost use Rattle.trunks.specs.Stored.{trunkIn};
-ghost use Rattle.trunk_fields.specs.Fields.{Spare};
+ghost use Rattle.trunks.specs.Stored.{Spare};
 ghost use Rattle.profile.specs.Profile.{readBy, eitherIn};
 
 // number: 0, or a refusal's, with 40 to 45 an offset. family: that of the profile octet, 1 of public lines, 2 of trunks; 0 where it names none.

@@ -1,7 +1,7 @@
 // The components of an element one after another, read by the element's own profile octet.
 use profile::Judged;
 ghost use mathlib.Core.Path.{_≡_};
-ghost use Rattle.trunk_fields.specs.Fields.{Spare};
+ghost use Rattle.trunks.specs.Stored.{Spare};
 ghost use Rattle.pass.specs.Pass.{passWith};
 ghost use Rattle.profile_pass.specs.Passing.{families, nextIn};
 

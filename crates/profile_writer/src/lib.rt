@@ -1,4 +1,4 @@
-// Records written by their profile octet: 91 writes that of a public line, 9F that of a trunk, any other is 17, before all else.
+// Writes a record by its profile octet: hex 91 is a public line, hex 9F a trunk, and any other octet is refused (17) before all else.
 ghost use mathlib.Core.Path.{_≡_};
 ghost use lib.ListN.{length};
 ghost use Rattle.types.specs.Stored.{recordIn, storedCharge};

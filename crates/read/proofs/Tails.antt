@@ -1,5 +1,5 @@
 -- What is left to read after a head: an argument or result, and then the ends.
-use Rattle.prelude.proofs.Prelude.{ℕ, _+_, _*_, _/_, _%_, _<_, arith, _≡_, refl, ap, _∙_, Bool, true, false, _&&_, cond, List, length, eqb, lt-leb, eqb-true, eqb-false, eq-eqb, ne-eqb}
+use Rattle.prelude.proofs.Prelude.{ℕ, _+_, _%_, _<_, arith, _≡_, refl, ap, _∙_, Bool, true, false, _&&_, cond, List, length, eqb, lt-leb, eqb-true, eqb-false, eq-eqb, ne-eqb}
 use Rattle.coding.specs.{Reader.Ans, Reader.after, Reader.part, Reader.Ans.got, Reader.Ans.halt, Codec.Run, Codec.pickRun, Codec.canonical, Codec.over, Codec.marked, Shown.shown}
 use Rattle.coding.proofs.Reading.{flat}
 use Rattle.types.specs.{declared.Record.Record, declared.Answer.Answer, Arguments.noCharge, Stored.Blank, Stored.figureIn, Stored.stored, Frames.noRecord}
@@ -67,7 +67,3 @@ reads s q e = let few : readOf s .offset % 256 ≡ readOf s .offset = omega (ari
 pub reads-none : (h : Head) (s : List ℕ) {a : Answer} → restOf h s ≡ readWhole s → a ≡ held (answered (halt (faultBy (h .fault)) (h .at))) → h .front .frame ≡ 0 → a ≡ readOf s
 unfolding restOf
 reads-none h s q e z = reads s q (rw (eq-eqb _ _ z) e)
-
--- the octets of an identifier
-pub halves : (n : ℕ) → n % 256 + 256 * (n / 256) ≡ n
-halves n = omega arith

@@ -1,4 +1,4 @@
-// Components: read whole.
+// Reads a whole component into a record.
 //
 // What is read is stored in a record's parts, which are lent: its front of 8 octets, its figure of 48 and its list's two arrays.
 ghost use mathlib.Core.Path.{_≡_};
@@ -28,7 +28,7 @@ const NONE: Refusal = Refusal {
 };
 
 // The offset that is given with a number: that of the place with 40 to 45. It has one octet.
-fn offset_of(number: u8, place: usize) -> u32
+pub fn offset_of(number: u8, place: usize) -> u32
     ensures { λ r. ⌜ r ≡ offsetOf number place % 256 ⌝ }
 {
     if number < 40 {

@@ -1,4 +1,4 @@
-// Reading lists: each entry into its rows of two arrays, all zero before, and their count into the figure's 48 octets.
+// Reads lists of units and of rates into the two arrays of a record, all zero before, and their count into the figure's 48 octets.
 //
 // After a fault what is stored does not count.
 ghost use mathlib.Core.Path.{_≡_};

@@ -29,7 +29,7 @@ pub struct Head {
 // ---- faults
 
 // A fault of the component's own element.
-fn outer(fault: u8) -> u8
+pub fn outer(fault: u8) -> u8
     ensures { λ r. ⌜ r ≡ outsideCode fault ⌝ }
 {
     if 100 <= fault {

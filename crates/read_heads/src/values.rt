@@ -162,5 +162,5 @@ pub fn value_at(s: &[u8], at: usize, end: usize, frame: u8) -> read_elements::Nu
             };
         }
     }
-    value_long(s, at, end, frame)
+    value_long(&s[0..], at, end, frame)
 }

@@ -248,7 +248,7 @@ pub fn open_at(s: &[u8], at: usize, end: usize, tag: u8) -> Opened
             next: stop,
         };
     }
-    open_long(s, at, end, tag)
+    open_long(&s[0..], at, end, tag)
 }
 
 // The same, every length octet looked at in its turn.

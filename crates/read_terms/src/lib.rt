@@ -1,4 +1,4 @@
-// What charges are read by: an entry of units and its row, and what an argument has by its operation. All by value but the rows.
+// Reads one entry of a list of units and stores it, and says what an argument holds for each operation. All by value but the stored entry.
 ghost use mathlib.Core.Path.{_≡_};
 ghost use mathlib.Core.Bool.{false, _&&_, _||_};
 ghost use Prim.Native.Nat.{_*_, _≤_, _<_};

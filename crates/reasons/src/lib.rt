@@ -1,7 +1,6 @@
-// Why a call has no price, by value: what is kept of the events seen, and the reason by it.
+// Says why a call has no price, by value: what is remembered of the events so far, and the reason that follows from it.
 use phases::Outcome;
 ghost use mathlib.Core.Path.{_≡_};
-ghost use Rattle.outcomes.specs.Outcome.{its};
 ghost use Rattle.reasons.specs.Reasons.{toldAbsent, unread, because, ifFound};
 ghost use Rattle.reasons.specs.Seeing.{concluded, seenNext};
 
@@ -26,22 +25,13 @@ pub struct Seen {
 
 // ---- which outcomes count
 
-fn is_its(o: Outcome, service: u8, number: u8) -> bool
-    ensures { λ r. ⌜ r ≡ its service number o ⌝ }
-{
-    if o.number != number {
-        return false;
-    }
-    o.service == service
-}
-
 fn told_absent(o: Outcome) -> bool
     ensures { λ r. ⌜ r ≡ toldAbsent o ⌝ }
 {
-    if is_its(o, 2, 23) {
+    if outcomes::is_its(o, 2, 23) {
         return true;
     }
-    is_its(o, 3, 23)
+    outcomes::is_its(o, 3, 23)
 }
 
 fn is_unread(o: Outcome) -> bool
@@ -59,8 +49,8 @@ fn is_unread(o: Outcome) -> bool
 pub fn seen_next(s: Seen, o: Outcome, figure: bool, n: u64) -> Seen
     ensures { λ r. ⌜ r ≡ seenNext s o figure n ⌝ }
 {
-    let efinal = events::or_else(s.efinal, is_its(o, 3, 22), n);
-    let dfinal = events::or_else(s.dfinal, is_its(o, 2, 22), n);
+    let efinal = events::or_else(s.efinal, outcomes::is_its(o, 3, 22), n);
+    let dfinal = events::or_else(s.dfinal, outcomes::is_its(o, 2, 22), n);
     let passed = events::or_else(s.figure, figure, n);
     let absent = events::or_else(s.absent, told_absent(o), n);
     let running = events::or_else(s.running, o.number == 21, n);

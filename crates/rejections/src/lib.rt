@@ -1,4 +1,4 @@
-// The reject due to a component that is refused, as a record.
+// Makes the reject that must be sent for a refused component, as a record.
 ghost use mathlib.Core.Path.{_≡_};
 ghost use mathlib.Core.Logic.{inl, inr};
 ghost use Rattle.types.specs.Frames.{rejects};

@@ -4,8 +4,8 @@ use Rattle.prelude.proofs.Prelude.{eq-eqb, le-leb}
 use Rattle.phases.{specs.Phases.Given, proofs.Choice.never}
 use Rattle.events.{specs.Events.eventsOf, specs.Laid.rowsOf, specs.Laid.octetsOf, proofs.Laid.rows-count}
 use Rattle.framing.specs.Framing.{messagesOf, verdictOf}
-use Rattle.messages.{specs.Trace.traceEvents, proofs.Theorems.not-refused, proofs.Theorems.total-is, proofs.Theorems.few-events}
-use Rattle.sizes.proofs.Bounds.{trace-back, trace-adds-up, few-octets}
+use Rattle.messages.specs.Trace.{traceEvents}
+use Rattle.trace.proofs.Bounds.{trace-back, trace-adds-up}
 use Rattle.trace.specs.{declared.Laid.Laid, Into.eventsIn, Into.fitsIn, Into.laid, Into.laidOf, Into.rowsLeft, Into.octetsLeft}
 use Rattle.plain.proofs.Equal.{SameAnswers, plain-is-account}
 
@@ -27,9 +27,9 @@ module _ (pairs octets rows out : List ℕ) where
   nothing-else true false n m h e z = absurd (omega (arith, e))
   nothing-else false b n m h e z = never (sym z ∙ eq-eqb n 0 e)
 
-  taken : answer .number ≡ 0 → (eqb (verdictOf pairs octets .number) 0 ≡ true) × (fitsIn l (length rows) (length out) ≡ true)
+  taken : answer .number ≡ 0 → (eqb (verdictOf pairs octets .number) 0 ≡ true) × (fitsIn (length octets) (length rows) (length out) ≡ true)
   unfolding laidOf
-  taken e = nothing-else (eqb (verdictOf pairs octets .number) 0) (fitsIn l (length rows) (length out)) (verdictOf pairs octets .number) (verdictOf pairs octets .message) (λ t. eqb-true _ _ t) e refl
+  taken e = nothing-else (eqb (verdictOf pairs octets .number) 0) (fitsIn (length octets) (length rows) (length out)) (verdictOf pairs octets .number) (verdictOf pairs octets .message) (λ t. eqb-true _ _ t) e refl
 
   counts : answer .number ≡ 0 → answer ≡ laid 0 0 (length l) (length (octetsOf l))
   unfolding laidOf
@@ -66,9 +66,4 @@ module _ (pairs octets rows out : List ℕ) where
   -- six numbers and an octet for each octet of the trace are always enough
   pub room-enough : verdictOf pairs octets .number ≡ 0 → length octets * 6 ≤ length rows → length octets ≤ length out → answer .number ≡ 0
   unfolding laidOf
-  room-enough e a b =
-      let f = not-refused pairs octets e in
-      let n = total-is pairs octets (f .0) in
-      let r : length (rowsOf l) ≤ length rows = omega (arith, a, n, rows-count l, few-events (messagesOf pairs octets) (f .1)) in
-      let o : length (octetsOf l) ≤ length out = omega (arith, b, n, few-octets (messagesOf pairs octets) (f .1)) in
-      rw (eq-eqb (verdictOf pairs octets .number) 0 e, le-leb (length (rowsOf l)) (length rows) r, le-leb (length (octetsOf l)) (length out) o) refl
+  room-enough e a b = rw (eq-eqb (verdictOf pairs octets .number) 0 e, le-leb (length octets * 6) (length rows) a, le-leb (length octets) (length out) b) refl

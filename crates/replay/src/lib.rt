@@ -1,1 +1,1 @@
-// A trace replayed: its events laid into slices, and the plain engine's answers on them, are those of an account. There is no code here: proofs/Replay.antt has the theorems.
+// Theorems and no code: the plain engine's answers on the events of a trace are those of an account. They are in proofs/Replay.antt.

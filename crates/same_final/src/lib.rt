@@ -6,7 +6,7 @@ ghost use Prim.Native.Nat.{_≤_, _<_};
 ghost use Rattle.same_final.specs.Same.{upTo, equalUnits, sameOf};
 
 // How many places a count uses, of those there are.
-fn places(count: u8, most: usize) -> usize
+pub fn places(count: u32, most: usize) -> usize
     ensures { λ r. ⌜ (r ≡ upTo most count) × (r ≤ most) ⌝ }
 {
     let n = count as usize;
@@ -17,7 +17,7 @@ fn places(count: u8, most: usize) -> usize
 fn same_entries(a: Entries, b: Entries, count: u8) -> bool
     ensures { λ r. ⌜ r ≡ equalUnits a b count ⌝ }
 {
-    let n = places(count, 32);
+    let n = places(count as u32, 32);
     let mut i: usize = 0;
     while i < n {
         let at = 2 * i;

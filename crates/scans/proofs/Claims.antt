@@ -12,9 +12,9 @@ use Rattle.outcomes.{specs.Outcome.judgeFailure, specs.Outcome.judgeRecord, spe
 use Rattle.outcomes.{specs.Outcome.settles}
 use Rattle.outcomes.specs.Outcome.{isRefusal}
 use Rattle.phases.specs.ByNumber.{movingOf}
-use Rattle.outcomes.specs.ByNumber.{runsBy, closesBy, fitsBy, claimFigure, claimInvoke, claimResult, claimFrame, claimRecord}
-use Rattle.outcomes.proofs.Refusals.{decoding-refusal, apart}
-use Rattle.scans.specs.Claim.{bare, three, sole, claimOf, compared}
+use Rattle.outcomes.specs.ByNumber.{runsBy, closesBy, fitsBy, claimFigure, claimInvoke, claimResult, claimFrame, claimRecord, compared}
+use Rattle.outcomes.proofs.{Refusals.decoding-refusal, Refusals.apart, Claims.resolves}
+use Rattle.scans.specs.Claim.{bare, three, sole, claimOf}
 
 by-way : (P : Outcome → Type 0) (b : Bool) (x y : Outcome) → P x → P y → P (cond b x y)
 by-way P true x y p q = p
@@ -24,17 +24,6 @@ by-way P false x y p q = q
 both-way : (P : Outcome → Outcome → Type 0) (b : Bool) (x y x′ y′ : Outcome) → P x x′ → P y y′ → P (cond b x y) (cond b x′ y′)
 both-way P true x y x′ y′ p q = p
 both-way P false x y x′ y′ p q = q
-
--- ---- a final that is claimed, and then compared, is the final judged at once
-
-module _ (k : Known) (x : Record) where
-  each-way : (b : Bool) (p q p′ q′ : Outcome) → compared k p (x .charge) ≡ p′ → compared k q (x .charge) ≡ q′ → compared k (cond b p q) (x .charge) ≡ cond b p′ q′
-  each-way true p q p′ q′ e f = e
-  each-way false p q p′ q′ e f = f
-
-  resolves : compared k (claimRecord (k .phase) (k .pending) (x .front) (x .charge .figure .kind) (x .charge .figure .total)) (x .charge) ≡ judgeRecord k x
-  unfolding claimRecord judgeRecord
-  resolves = search each-way depth 12 fits 3000
 
 refused-apart : (o : List ℕ) (n : ℕ) → eqb (readOf o .number) 0 ≡ false → isRefusal n ≡ false → eqb (readOf o .number) n ≡ false
 unfolding isRefusal

@@ -7,7 +7,8 @@ use Rattle.outcomes.specs.Status.{requestsOf}
 use Rattle.account.specs.History.{phase, requests, known, judged}
 use Rattle.events.specs.Events.{rowAt, countAt}
 use Rattle.events.specs.Prefix.{placeAt, octetsAt, before}
-use Rattle.scans.specs.Claim.{bare, claimOf, compared}
+use Rattle.outcomes.specs.ByNumber.{compared}
+use Rattle.scans.specs.Claim.{bare, claimOf}
 use Rattle.scans.proofs.Claims.{claim-service, component-outcome, phase-outcome}
 use Rattle.events.proofs.Prefix.{part-at}
 

@@ -4,7 +4,6 @@ use mathlib.Core.Path.{_≡_}
 use mathlib.Core.Bool.{_&&_, cond}
 use mathlib.Core.List.{List}
 use lib.Dec.{eqb}
-use Rattle.types.specs.declared.Charge.{Charge}
 use Rattle.types.specs.declared.Answer.{Answer}
 use Rattle.types.specs.Frames.{readOf}
 use Rattle.requests.specs.Sets.{emptySet}
@@ -12,7 +11,7 @@ use Rattle.phases.specs.declared.Event.{Event}
 use Rattle.phases.specs.declared.Outcome.{Outcome}
 use Rattle.phases.specs.declared.Status.{Status}
 use Rattle.phases.specs.Phases.{Setup, Component, S, D, E, allowed, leadsTo, clashes, noService, Request, requestFor}
-use Rattle.outcomes.specs.Outcome.{Requests, Known, firstFinal, judgeFinal, was}
+use Rattle.outcomes.specs.Outcome.{Requests}
 use Rattle.outcomes.specs.ByNumber.{claimRecord}
 use Rattle.account.specs.History.{Judged, named}
 use Rattle.scans.specs.declared.Ask.{Ask}
@@ -60,7 +59,3 @@ claimAnswer phase q r =
 
 unfoldable pub claimOf : ℕ → Requests → ℕ → List ℕ → Outcome
 claimOf phase q kind o = cond (eqb kind Component && allowed kind phase) (claimAnswer phase q (readOf o)) (noService 14)
-
--- a final that is claimed is compared with the first one
-abbrev pub compared : Known → Outcome → Charge → Outcome
-compared k r c = cond (was 22 r) (judgeFinal (firstFinal k (r .service)) (r .service) c) r

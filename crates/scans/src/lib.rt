@@ -185,22 +185,13 @@ fn claim(t: Status, kind: u8, octets: &[u8]) -> Outcome
     )
 }
 
-pub fn is_its(o: Outcome, service: u8, number: u8) -> bool
-    ensures { λ r. ⌜ r ≡ its service number o ⌝ }
-{
-    if o.number != number {
-        return false;
-    }
-    o.service == service
-}
-
 fn settles(o: Outcome, service: u8) -> bool
     ensures { λ r. ⌜ r ≡ settles service o ⌝ }
 {
-    if is_its(o, service, 24) {
+    if outcomes::is_its(o, service, 24) {
         return true;
     }
-    is_its(o, service, 25)
+    outcomes::is_its(o, service, 25)
 }
 
 // ---- the places of answers and finals
@@ -246,7 +237,7 @@ fn final_before(rows: &[u16], octets: &[u8], k: usize, service: u8) -> usize
         let p = until(q, place, i);
         let t = alone(phase, service, p);
         let o = claim(t, e.kind, &octets[at..end]);
-        if is_its(o, service, 22) {
+        if outcomes::is_its(o, service, 22) {
             return i;
         }
         let next = passed(phase, e);

@@ -43,22 +43,19 @@ fn asked_by(octets: &[u8], case: u8) -> Asked
 fn asked_in(s: &[u8], case: u8) -> Asked
     ensures { λ r. ⌜ r ≡ askedOf (firstRequest case (componentsIn (now (s .entry)))) ⌝ }
 {
-    let tiles = messages::tiles_of(s);
-    if tiles.number != 0 {
+    if !messages::is_profiled(s) {
         return Asked { mark: 0, id: 0 };
     }
-    let starts = tiles.starts;
-    let count = octets::wide(tiles.count);
-    let end = s.len();
-    let mut i: usize = 0;
-    while i < count {
-        let a = octets::wide(starts[i]);
-        let b = messages::stop_of(starts, count, i, end);
-        let q = asked_by(&s[a..b], case);
+    let mut place: usize = 3;
+    let mut found = pass::first(s);
+    while found.after != 0 {
+        let after = found.after;
+        let q = asked_by(&s[place..after], case);
         if q.mark != 0 {
             return q;
         }
-        i += 1;
+        place = after;
+        found = pass::onward(s, after);
     }
     Asked { mark: 0, id: 0 }
 }

@@ -1,12 +1,12 @@
 -- Any list of operations from a fresh table: each answer is that of the rules over the reference's own call, and no other call changes it.
-use Rattle.prelude.proofs.Prelude.{ℕ, zero, suc, _<_, _≡_, refl, sym, _∙_, ap, subst, List, [], _∷_, Bool, true, false, not, cond, none, eqb, eqb-true}
+use Rattle.prelude.proofs.Prelude.{ℕ, zero, suc, _<_, _≡_, refl, sym, _∙_, ap, subst, List, [], _∷_, Bool, true, false, not, cond, Option, none, some, eqb, eqb-true}
 use Rattle.prelude.proofs.Prelude.{eqb-false, eq-eqb, ne-eqb, not-true, arith, getD, replicate, length-replicate, _↔_, _⊎_, inl, inr}
 use Rattle.phases.specs.{Phases.Given, Phases.noService, Phases.Setup, Phases.clashes, Phases.allowed, declared.Outcome.Outcome}
 use Rattle.prelude.proofs.Ways.{by-cases}
 use Rattle.phases.{proofs.Choice.by-number, proofs.Choice.never, proofs.Choice.first-of, proofs.Choice.second-of}
 use Rattle.coding.specs.Reader.{among}
 use Rattle.outcomes.specs.Outcome.{was, judge}
-use Rattle.account.{specs.History.fresh, specs.History.judged, specs.History.known, specs.History.accountBy, proofs.Demand.step-stands}
+use Rattle.account.{specs.declared.Account.Account, specs.History.fresh, specs.History.judged, specs.History.known, specs.History.accountBy, proofs.Demand.step-stands}
 use Rattle.slots.specs.declared.Board.{Board}
 use Rattle.slots.specs.Board.{keyOf, lowest, heldIn, isHeld, isFull, freshBoard, withSlot, Boarded, boarded, admitted}
 use Rattle.slots.specs.Calls.{Operation, happens, collects, views, referenceOf, Answer, outcome, answerNumber, Done, did, answerOn, nextOn, runOn, afterAll, isSetup, carried}
@@ -65,10 +65,43 @@ run-ruled b h (x ∷ l) s =
 pub by-rules : (l : List Operation) → runOn freshBoard l ≡ ruledAll [] l
 by-rules l = run-ruled freshBoard [] l fresh-stands
 
+-- ---- after any operations from a fresh table
+
+-- what was done, with what the rules add for more operations
+abbrev pub doneAfter : List Done → List Operation → List Done
+doneAfter h [] = h
+doneAfter h (x ∷ l) = doneAfter (next h x ∷ h) l
+
+stands-after : (b : Board) (h : List Done) (l : List Operation) → Stands b h → Stands (afterAll b l) (doneAfter h l)
+stands-after b h [] s = s
+stands-after b h (x ∷ l) s = stands-after (nextOn b x) (next h x ∷ h) l (next-stands b h x s)
+
+abbrev isNone : Option Account → Bool
+isNone none = true
+isNone (some a) = false
+
+module _ (e : List Operation) where
+  stands : Stands (afterAll freshBoard e) (doneAfter [] e)
+  stands = stands-after freshBoard [] e fresh-stands
+
+  pub reached-sound : Sound (afterAll freshBoard e)
+  reached-sound = stands .sound
+
+  pub rules-after : (l : List Operation) → runOn (afterAll freshBoard e) l ≡ ruledAll (doneAfter [] e) l
+  rules-after l = run-ruled (afterAll freshBoard e) (doneAfter [] e) l stands
+
+  -- a reference that the table does not hold has no call in what was done
+  pub none-held : (r : ℕ) → isHeld r (afterAll freshBoard e) ≡ false → present r (doneAfter [] e) ≡ []
+  none-held r q = no-view (present r (doneAfter [] e)) (sym (stands .holds r) ∙ no _ _ _ q)
+    where
+      no-view : (p : List Given) → viewBy p ≡ none → p ≡ []
+      no-view [] z = refl
+      no-view (g ∷ l) z = never (ap isNone z)
+
 -- ---- one call alone
 
 -- unless a Setup is refused because the table is full, the answer does not hang on how many calls are held
-same-ruled : (n : ℕ) (p : List Given) (x : Operation) → setupFull x (answerNumber (ruling n p x)) ≡ false → ruling n p x ≡ ruling 0 p x
+pub same-ruled : (n : ℕ) (p : List Given) (x : Operation) → setupFull x (answerNumber (ruling n p x)) ≡ false → ruling n p x ≡ ruling 0 p x
 same-ruled n [] (happens r g) q =
     by-cases (isSetup g)
     (λ k. by-cases (eqb n 64)
@@ -81,7 +114,8 @@ same-ruled n (f ∷ l) (happens r g) q = refl
 same-ruled n p (collects r) q = refl
 same-ruled n p (views r) q = refl
 
-alone-from : (r : ℕ) (h : List Done) (l : List Operation) → noneFull (ownDone r (ruledAll h l)) ≡ true → ownDone r (ruledAll h l) ≡ ruledAlone (present r h) (own r l)
+-- from any history: the answers of a reference hang on what it holds there and on its own operations
+pub alone-from : (r : ℕ) (h : List Done) (l : List Operation) → noneFull (ownDone r (ruledAll h l)) ≡ true → ownDone r (ruledAll h l) ≡ ruledAlone (present r h) (own r l)
 alone-from r h [] q = refl
 alone-from r h (x ∷ l) q =
     by-number (referenceOf x) r
@@ -113,14 +147,24 @@ pub isolation : (r : ℕ) (l m : List Operation) → own r l ≡ own r m → non
     → ownDone r (runOn freshBoard l) ≡ ownDone r (runOn freshBoard m)
 isolation r l m e p q = alone r l p ∙ ap (ruledAlone []) e ∙ sym (alone r m q)
 
+-- the same from any two histories in which the reference's call has had the same events, or holds nothing in either
+pub isolation-from : (r : ℕ) (h k : List Done) (l m : List Operation) → present r h ≡ present r k → own r l ≡ own r m
+    → noneFull (ownDone r (ruledAll h l)) ≡ true → noneFull (ownDone r (ruledAll k m)) ≡ true
+    → ownDone r (ruledAll h l) ≡ ownDone r (ruledAll k m)
+isolation-from r h k l m s e p q =
+    alone-from r h l p ∙ ap (λ (c : List Given). ruledAlone c (own r l)) s ∙ ap (ruledAlone (present r k)) e ∙ sym (alone-from r k m q)
+
+-- so of a reference that is used again: after any operations that leave it free, its next calls are answered alike, whatever came before
+pub isolation-again : (r : ℕ) (e f l m : List Operation) → isHeld r (afterAll freshBoard e) ≡ false → isHeld r (afterAll freshBoard f) ≡ false → own r l ≡ own r m
+    → noneFull (ownDone r (runOn (afterAll freshBoard e) l)) ≡ true → noneFull (ownDone r (runOn (afterAll freshBoard f) m)) ≡ true
+    → ownDone r (runOn (afterAll freshBoard e) l) ≡ ownDone r (runOn (afterAll freshBoard f) m)
+isolation-again r e f l m s t q p p′ =
+    ap (ownDone r) (rules-after e l)
+    ∙ isolation-from r (doneAfter [] e) (doneAfter [] f) l m (none-held e r s ∙ sym (none-held f r t)) q
+    (ap (λ (d : List Done). noneFull (ownDone r d)) (sym (rules-after e l)) ∙ p) (ap (λ (d : List Done). noneFull (ownDone r d)) (sym (rules-after f m)) ∙ p′)
+    ∙ ap (ownDone r) (sym (rules-after f m))
+
 -- ---- every table that is reached
-
-reached : (b : Board) (h : List Done) (l : List Operation) → Stands b h → Sound (afterAll b l)
-reached b h [] s = s .sound
-reached b h (x ∷ l) s = reached (nextOn b x) (next h x ∷ h) l (next-stands b h x s)
-
-pub reached-sound : (l : List Operation) → Sound (afterAll freshBoard l)
-reached-sound l = reached freshBoard [] l fresh-stands
 
 -- no two slots are held by one reference
 pub held-once : (l : List Operation) (i j : ℕ) → (getD (afterAll freshBoard l .keys) i 0 ≡ 0 → ⊥) → getD (afterAll freshBoard l .keys) i 0 ≡ getD (afterAll freshBoard l .keys) j 0 → i ≡ j

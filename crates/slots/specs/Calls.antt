@@ -147,11 +147,6 @@ abbrev pub watched : ℕ → List Given → List Operation
 watched r [] = []
 watched r (g ∷ l) = happens r g ∷ views r ∷ watched r l
 
--- the events of the call that a reference holds after its own operations
-abbrev pub followed : List Given → List Operation → List Given
-followed p [] = p
-followed p (x ∷ l) = followed (carried x (answerNumber (ruling 0 p x)) p) l
-
 -- a Setup that was refused 35
 abbrev pub leftOut : Operation → ℕ → Bool
 leftOut (happens r g) n = isSetup g && eqb n 35

@@ -1,4 +1,4 @@
-// One event of a call: what it changes is stored in the call's account, lent or whole.
+// Takes one event of a call and stores what it changes in the account, in place or in a returned copy.
 use account::Account;
 use account::Stepped;
 use phases::Event;
@@ -8,10 +8,11 @@ ghost use mathlib.Core.List.{List};
 ghost use Rattle.phases.specs.Phases.{Given, event};
 ghost use Rattle.account.specs.History.{judged, accountBy, stepped, steppedBy};
 ghost use Rattle.account.specs.Step.{steppedOf};
+ghost use Rattle.makers.specs.Events.{Took};
 
 // The host lends the account, and the step updates it there.
 pub fn step_in(a: &mut Account, e: Event, octets: &[u8]) -> Outcome
-    ensures { λ r. ⌜ (stepped r (now (a .exit)) ≡ steppedOf (now (a .entry)) e (now (octets .entry))) × ((h : List Given) → now (a .entry) ≡ accountBy (judged h) → stepped r (now (a .exit)) ≡ steppedBy (event e (now (octets .entry))) h) ⌝ }
+    ensures { λ r. ⌜ Took (now (a .entry)) e (now (octets .entry)) (stepped r (now (a .exit))) ⌝ }
 {
     let w = changes::step(*a, e, octets);
     a.status = w.status;

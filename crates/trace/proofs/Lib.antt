@@ -1,2 +1,3 @@
 pub mod Laying
+pub mod Bounds
 pub mod Whole

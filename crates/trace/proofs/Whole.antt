@@ -1,5 +1,5 @@
 -- The list of a whole trace: the call's reference, the room that the list needs, and what the slices then hold.
-use Rattle.prelude.proofs.Prelude.{_≡_, refl, sym, ap, _∙_, ℕ, suc, _+_, _-_, _/_, _≤_, _<_, arith, zero-add, Bool, true, false, cond, List, _++_, length, getD, take}
+use Rattle.prelude.proofs.Prelude.{_≡_, refl, sym, ap, _∙_, ℕ, suc, _+_, _-_, _*_, _/_, _≤_, _<_, arith, zero-add, Bool, true, false, cond, List, _++_, length, getD, take}
 use Rattle.prelude.proofs.Prelude.{drop, sets-eq, eqb, eq-eqb, ne-eqb, le-leb, lt-leb}
 use Rattle.phases.specs.Phases.{Given}
 use Rattle.coding.{specs.Written.Wrote, proofs.Basic.and-left}
@@ -7,7 +7,8 @@ use Rattle.events.{specs.Laid.rowsOf, specs.Laid.octetsOf, proofs.Laid.rows-cou
 use Rattle.framing.specs.{declared.Verdict.Verdict, Framing.framed, Framing.lengthsAddUp, Framing.messagesFrom, Framing.messagesOf, Framing.verdictOf}
 use Rattle.framing.proofs.Laws.{passing-starts, inside}
 use Rattle.messages.specs.Trace.{reference, allFramed, traceFrom, traceEvents}
-use Rattle.sizes.specs.{declared.Size.Size, Sizes.Sizes}
+use Rattle.messages.proofs.Theorems.{total-is, few-events}
+use Rattle.trace.proofs.Bounds.{few-octets}
 use Rattle.trace.specs.{declared.Put.Put, declared.Laid.Laid, Into.eventsIn, Into.fitsIn, Into.laid, Into.laidOf, Into.rowsLeft, Into.octetsLeft, Putting.Puts}
 use Rattle.trace.specs.{Putting.Rooms, Putting.Lays}
 
@@ -38,39 +39,45 @@ module _ (pairs octets : List ℕ) (adds : lengthsAddUp pairs (length octets) �
 
 -- ---- room
 
-module _ (rows out : List ℕ) (l : List Given) (size : Size) (v : Sizes l size) where
-  pub too-many : length rows / 6 < size .events → fitsIn l (length rows) (length out) ≡ false
-  too-many h = rw (lt-leb (length (rowsOf l)) (length rows) (omega (arith, h, rows-count l, v .events))) refl
+module _ (pairs octets : List ℕ) (adds : lengthsAddUp pairs (length octets) ≡ true) (all : allFramed (messagesOf pairs octets) ≡ true) where
+  pub events-few : length (eventsIn pairs octets) ≤ length octets
+  events-few = omega (arith, total-is pairs octets adds, few-events (messagesOf pairs octets) all)
 
-  module _ (some : size .events ≤ length rows / 6) where
-    rows-in : length (rowsOf l) ≤ length rows
-    rows-in = omega (arith, some, rows-count l, v .events)
+  pub octets-few : length (octetsOf (eventsIn pairs octets)) ≤ length octets
+  octets-few = omega (arith, total-is pairs octets adds, few-octets (messagesOf pairs octets) all)
 
-    pub too-long : length out < size .octets → fitsIn l (length rows) (length out) ≡ false
-    too-long h = rw (le-leb (length (rowsOf l)) (length rows) rows-in, lt-leb (length (octetsOf l)) (length out) (omega (arith, h, v .octets))) refl
+module _ (rows out : List ℕ) (l : List Given) (n : ℕ) where
+  lays-none : fitsIn n (length rows) (length out) ≡ false → Lays l n rows rows out out (laid 12 0 0 0)
+  lays-none z = record { answer = sym (rw z refl); in-rows = sym (rw z refl); in-out = sym (rw z refl) }
 
-    module _ (few : size .octets ≤ length out) where
-      octets-in : length (octetsOf l) ≤ length out
-      octets-in = omega (arith, few, v .octets)
+  pub too-many : length rows / 6 < n → Lays l n rows rows out out (laid 12 0 0 0)
+  too-many h = lays-none (rw (lt-leb (n * 6) (length rows) (omega arith)) refl)
+
+  module _ (some : n ≤ length rows / 6) where
+    pub too-long : length out < n → Lays l n rows rows out out (laid 12 0 0 0)
+    too-long h = lays-none (rw (le-leb (n * 6) (length rows) (omega arith), lt-leb n (length out) h) refl)
+
+    module _ (few : n ≤ length out) (events : length l ≤ n) (octets : length (octetsOf l) ≤ n) where
+      rows-in : length (rowsOf l) ≤ length rows
+      rows-in = omega (arith, rows-count l)
 
       pub room-for : Rooms rows out (record { rows = 0; octets = 0 }) l
-      room-for = record { for-rows = record { fits = omega (arith, rows-in) }; for-out = record { fits = omega (arith, octets-in) } }
+      room-for = record { for-rows = record { fits = omega (arith, rows-in) }; for-out = record { fits = omega arith } }
 
-      enough : fitsIn l (length rows) (length out) ≡ true
-      enough = rw (le-leb (length (rowsOf l)) (length rows) rows-in, le-leb (length (octetsOf l)) (length out) octets-in) refl
+      enough : fitsIn n (length rows) (length out) ≡ true
+      enough = rw (le-leb (n * 6) (length rows) (omega arith), le-leb n (length out) few) refl
 
       in-front : (xs before after : List ℕ) {q : ℕ} → length xs ≤ length before → Wrote before after 0 xs q → after ≡ xs ++ drop (length xs) before
       in-front xs before after h w = w .stored ∙ sets-eq xs before 0 (omega (arith, h)) ∙ ap (λ (j : ℕ). xs ++ drop j before) (zero-add (length xs))
 
-      pub lays : (rows′ out′ : List ℕ) (q : Put) → Puts rows rows′ out out′ (record { rows = 0; octets = 0 }) l q → Lays l rows rows′ out out′ (laid 0 0 (size .events) (size .octets))
-      lays rows′ out′ q p = record {
-        answer = rw (v .events, v .octets) (sym (rw enough refl));
-        in-rows = rw enough (in-front (rowsOf l) rows rows′ rows-in (p .in-rows));
-        in-out = rw enough (in-front (octetsOf l) out out′ octets-in (p .in-out));
-      }
-
-  pub lays-none : fitsIn l (length rows) (length out) ≡ false → Lays l rows rows out out (laid 12 0 0 0)
-  lays-none z = record { answer = sym (rw z refl); in-rows = sym (rw z refl); in-out = sym (rw z refl) }
+      pub lays : (rows′ out′ : List ℕ) (q : Put) → Puts rows rows′ out out′ (record { rows = 0; octets = 0 }) l q → Lays l n rows rows′ out out′ (laid 0 0 (q .rows / 6) (q .octets))
+      lays rows′ out′ q p =
+          let k : q .rows / 6 ≡ length l = omega (arith, p .in-rows .place, rows-count l) in
+          let m : q .octets ≡ length (octetsOf l) = omega (arith, p .in-out .place) in record {
+            answer = rw (k, m) (sym (rw enough refl));
+            in-rows = rw enough (in-front (rowsOf l) rows rows′ rows-in (p .in-rows));
+            in-out = rw enough (in-front (octetsOf l) out out′ (omega arith) (p .in-out));
+          }
 
 -- ---- the answer
 
@@ -96,11 +103,11 @@ module _ (pairs octets rows rows′ out out′ : List ℕ) (v : Verdict) (is : v
   room-zero true l = refl
   room-zero false l = refl
 
-  pub accepted : v .number ≡ 0 → (r : Laid) → Lays (eventsIn pairs octets) rows rows′ out out′ r → Answers pairs octets rows rows′ out out′ r
+  pub accepted : v .number ≡ 0 → (r : Laid) → Lays (eventsIn pairs octets) (length octets) rows rows′ out out′ r → Answers pairs octets rows rows′ out out′ r
   unfolding laidOf rowsLeft octetsLeft
   accepted n r w =
       let z = eq-eqb (verdictOf pairs octets .number) 0 (number-is ∙ n) in
-      let b = room-zero (fitsIn (eventsIn pairs octets) (length rows) (length out)) (eventsIn pairs octets) in record {
+      let b = room-zero (fitsIn (length octets) (length rows) (length out)) (eventsIn pairs octets) in record {
         result = w .answer ∙ sym (rw z refl);
         in-rows = w .in-rows ∙ sym (rw (z, b) refl);
         in-out = w .in-out ∙ sym (rw (z, b) refl);

@@ -32,7 +32,7 @@ pub record RowsFor (rows : List ℕ) (p : Put) (l : List Given) : Type 0 where
   pub for-rows : Room rows (p .rows) (rowsOf l)
 
 -- a list of events is laid from the start, or there is too little room for it
-pub record Lays (l : List Given) (rows rows′ out out′ : List ℕ) (r : Laid) : Type 0 where
-  pub answer : r ≡ roomOf l (length rows) (length out)
-  pub in-rows : rows′ ≡ laidOver (fitsIn l (length rows) (length out)) (rowsOf l) rows
-  pub in-out : out′ ≡ laidOver (fitsIn l (length rows) (length out)) (octetsOf l) out
+pub record Lays (l : List Given) (n : ℕ) (rows rows′ out out′ : List ℕ) (r : Laid) : Type 0 where
+  pub answer : r ≡ roomOf l n (length rows) (length out)
+  pub in-rows : rows′ ≡ laidOver (fitsIn n (length rows) (length out)) (rowsOf l) rows
+  pub in-out : out′ ≡ laidOver (fitsIn n (length rows) (length out)) (octetsOf l) out

@@ -1,4 +1,4 @@
-// The events of a trace, laid as an event list into two lent slices.
+// Writes the events of a trace as an event list into two buffers of the caller.
 use messages::Gives;
 use phases::Event;
 use requests::Services;
@@ -102,26 +102,23 @@ fn put_component(rows: &mut [u16], out: &mut [u8], p: Put, octets: &[u8]) -> Put
 
 // ---- the components of an element, of a message
 
-// The components of a Facility element become events; none where it is malformed.
+// The components of a Facility element become events, in one pass over it; none where it is malformed.
 fn put_tiles(rows: &mut [u16], out: &mut [u8], p: Put, s: &[u8]) -> Put
     requires { ⌜ (length (now s) ≤ 65535) × Rooms (now rows) (now out) p (componentEvents (componentsIn (now s))) ⌝ }
     ensures { λ r. ⌜ Puts (now (rows .entry)) (now (rows .exit)) (now (out .entry)) (now (out .exit)) p (componentEvents (componentsIn (now (s .entry)))) r ⌝ }
 {
-    let tiles = messages::tiles_of(s);
-    if tiles.number != 0 {
+    if !messages::is_profiled(s) {
         return p;
     }
-    let starts = tiles.starts;
-    let count = octets::wide(tiles.count);
-    let end = s.len();
     let mut q = p;
-    let mut i: usize = 0;
-    while i < count {
-        let a = octets::wide(starts[i]);
-        let b = messages::stop_of(starts, count, i, end);
-        let next = put_component(rows, out, q, &s[a..b]);
+    let mut place: usize = 3;
+    let mut found = pass::first(s);
+    while found.after != 0 {
+        let after = found.after;
+        let next = put_component(rows, out, q, &s[place..after]);
         q = next;
-        i += 1;
+        place = after;
+        found = pass::onward(s, after);
     }
     q
 }
@@ -315,14 +312,14 @@ fn call_of(pairs: &[u32], octets: &[u8]) -> usize
     messages::reference_of(&octets[0..end])
 }
 
-// The list of a trace that is framed, where there is room for it.
+// The list of a trace that is framed, where there is room for as many events and octets as the trace has octets.
 fn lay(pairs: &[u32], octets: &[u8], rows: &mut [u16], out: &mut [u8]) -> Laid
     requires { ⌜ (lengthsAddUp (now pairs) (length (now octets)) ≡ true) × (allFramed (messagesOf (now pairs) (now octets)) ≡ true) ⌝ }
-    ensures { λ r. ⌜ Lays (eventsIn (now (pairs .entry)) (now (octets .entry))) (now (rows .entry)) (now (rows .exit)) (now (out .entry)) (now (out .exit)) r ⌝ }
+    ensures { λ r. ⌜ Lays (eventsIn (now (pairs .entry)) (now (octets .entry))) (length (now (octets .entry))) (now (rows .entry)) (now (rows .exit)) (now (out .entry)) (now (out .exit)) r ⌝ }
 {
     let call = call_of(pairs, octets);
-    let size = sizes::of_trace(pairs, octets, call);
-    if rows.len() / 6 < size.events {
+    let n = octets.len();
+    if rows.len() / 6 < n {
         return Laid {
             number: 12,
             message: 0,
@@ -330,7 +327,7 @@ fn lay(pairs: &[u32], octets: &[u8], rows: &mut [u16], out: &mut [u8]) -> Laid
             octets: 0,
         };
     }
-    if out.len() < size.octets {
+    if out.len() < n {
         return Laid {
             number: 12,
             message: 0,
@@ -339,12 +336,12 @@ fn lay(pairs: &[u32], octets: &[u8], rows: &mut [u16], out: &mut [u8]) -> Laid
         };
     }
     let start = Put { rows: 0, octets: 0 };
-    let _end = put_trace(rows, out, start, pairs, octets, call);
+    let end = put_trace(rows, out, start, pairs, octets, call);
     Laid {
         number: 0,
         message: 0,
-        events: size.events as u64,
-        octets: size.octets as u64,
+        events: (end.rows / 6) as u64,
+        octets: end.octets as u64,
     }
 }
 

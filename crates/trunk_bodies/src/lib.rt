@@ -12,7 +12,8 @@ ghost use Rattle.read_entries.specs.Answers.{whole};
 ghost use Rattle.trunks.specs.Bodies.{noBody, extending, extended, dummy, argumentOf, resultOf};
 ghost use Rattle.trunks.specs.Components.{trunkOperations};
 ghost use Rattle.trunks.specs.Stored.{extensionIn};
-ghost use Rattle.trunk_fields.specs.Fields.{Spare, inner};
+ghost use Rattle.trunk_fields.specs.Fields.{inner};
+ghost use Rattle.trunks.specs.Stored.{Spare};
 ghost use Rattle.trunk_bodies.specs.Bodied.{Bare, bodied, chargeFor, innerOf};
 ghost use Rattle.read_lengths.specs.Bounds.{Bounded};
 

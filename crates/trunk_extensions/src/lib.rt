@@ -1,17 +1,16 @@
-// Extensions of a manufacturer: the contents are judged by themselves, as a slice of their own, and kept as they are.
+// Extensions of a manufacturer: what is in one is passed over to the bottom, and kept in its shortest form.
 ghost use mathlib.Core.Path.{_≡_};
 ghost use mathlib.Core.Bool.{true, _&&_};
 ghost use Prim.Native.Nat.{_-_, _≤_};
 ghost use lib.Dec.{eqb};
 ghost use lib.ListN.{length, replicate};
 ghost use Rattle.coding.specs.Reader.{part, primitive};
-ghost use Rattle.coding.specs.Kept.{tile, counted·in, judgedAlone};
 ghost use Rattle.coding.specs.Shown.{shown, verdict};
 ghost use Rattle.types.specs.Stored.{stored};
-ghost use Rattle.trunks.specs.Extensions.{arcs, objectIdentifier, inOne, inList, extensionBy, noExtension, extensionAt, someExtension, extension, parameter};
+ghost use Rattle.trunks.specs.Extensions.{arcs, objectIdentifier, noExtension, extensionAt, someExtension, extension, parameter};
 ghost use Rattle.trunks.specs.Stored.{extensionIn};
-ghost use Rattle.trunk_extensions.specs.Judges.{judgeOf};
 ghost use Rattle.read_lengths.specs.Bounds.{Bounded};
+ghost use Rattle.trunk_extensions.specs.Judges.{oneTold, entryTold, listTold, judgeOf, insideOf};
 
 // A number that is to begin here does so with 80.
 fn begins_badly(fresh: bool, x: u8) -> bool
@@ -23,22 +22,25 @@ fn begins_badly(fresh: bool, x: u8) -> bool
     x == 0x80
 }
 
-// Whether the numbers of an object identifier are whole: each ends with an octet below 80, and none begins with 80.
-fn arcs_in(s: &[u8], start: usize, stop: usize) -> bool
+// The numbers of an object identifier: each ends with an octet below 80, and none begins with 80. Answers the fault.
+fn arcs_in(s: &[u8], start: usize, stop: usize) -> u8
     requires { ⌜ (start ≤ stop) × (stop ≤ length (now s)) ⌝ }
-    ensures { λ r. ⌜ r ≡ arcs true (part (now (s .entry)) start stop) ⌝ }
+    ensures { λ r. ⌜ (r, tt) ≡ verdict tt (arcs true (part (now (s .entry)) start stop)) ⌝ }
 {
     let mut fresh = true;
     let mut i = start;
     while i < stop {
         let x = s[i];
         if begins_badly(fresh, x) {
-            return false;
+            return 43;
         }
         fresh = x < 0x80;
         i += 1;
     }
-    fresh
+    if fresh {
+        return 0;
+    }
+    44
 }
 
 // The contents of an object identifier. Answers the fault.
@@ -49,10 +51,7 @@ fn identifier_in(s: &[u8], start: usize, stop: usize) -> u8
     if start == stop {
         return 43;
     }
-    if arcs_in(s, start, stop) {
-        return 0;
-    }
-    44
+    arcs_in(s, start, stop)
 }
 
 fn identifier_at(s: &[u8], at: usize, end: usize) -> read_elements::Empty
@@ -70,45 +69,28 @@ fn identifier_at(s: &[u8], at: usize, end: usize) -> read_elements::Empty
     read_figures::reached(e.next)
 }
 
-// One element of any tag, its length with a number, not looked into.
-fn tile_at(s: &[u8], at: usize, end: usize) -> read_elements::Empty
+// 06 identifier, and one element of any tag.
+fn one_at(s: &[u8], at: usize, end: usize) -> read_elements::Empty
     requires { ⌜ Bounded (now s) end ⌝ }
-    ensures { λ r. ⌜ (r .fault, r .place, tt, r .next) ≡ shown tt (tile (now (s .entry)) at end) ⌝ }
+    ensures { λ r. ⌜ (r .fault, r .place, tt, r .next) ≡ shown tt (oneTold (now (s .entry)) at end) ⌝ }
 {
-    if end <= at {
-        return read_figures::halted(40, end);
+    let i = identifier_at(s, at, end);
+    if i.fault != 0 {
+        return read_figures::halted(i.fault, i.place);
     }
-    let e = read_lengths::numbered_at(s, at, at + 1, end);
+    let e = any_elements::any_at(s, i.next, end);
     if e.fault != 0 {
         return read_figures::halted(e.fault, e.place);
     }
     read_figures::reached(e.next)
 }
 
-// 06 identifier, and one element of any tag.
-fn one_at(s: &[u8], at: usize, end: usize) -> read_elements::Empty
-    requires { ⌜ Bounded (now s) end ⌝ }
-    ensures { λ r. ⌜ (r .fault, r .place, tt, r .next) ≡ shown tt (inOne (now (s .entry)) at end) ⌝ }
-{
-    let i = identifier_at(s, at, end);
-    if i.fault != 0 {
-        return read_figures::halted(i.fault, i.place);
-    }
-    tile_at(s, i.next, end)
-}
-
-// An entry of a list: 30 with one, its length with a number.
+// An entry of a list: 30 with one.
 fn entry_at(s: &[u8], at: usize, end: usize) -> read_elements::Empty
     requires { ⌜ Bounded (now s) end ⌝ }
-    ensures { λ r. ⌜ (r .fault, r .place, tt, r .next) ≡ shown tt (counted·in 0x30 inOne (now (s .entry)) at end) ⌝ }
+    ensures { λ r. ⌜ (r .fault, r .place, tt, r .next) ≡ shown tt (entryTold (now (s .entry)) at end) ⌝ }
 {
-    if end <= at {
-        return read_figures::halted(40, end);
-    }
-    if s[at] != 0x30 {
-        return read_figures::halted(41, at);
-    }
-    let e = read_lengths::numbered_at(s, at, at + 1, end);
+    let e = read_lengths::open_at(s, at, end, 0x30);
     if e.fault != 0 {
         return read_figures::halted(e.fault, e.place);
     }
@@ -125,7 +107,7 @@ fn entry_at(s: &[u8], at: usize, end: usize) -> read_elements::Empty
 // Any number of entries, up to the end.
 fn list_at(s: &[u8], at: usize, end: usize) -> read_elements::Empty
     requires { ⌜ Bounded (now s) end ⌝ }
-    ensures { λ r. ⌜ (r .fault, r .place, tt, r .next) ≡ shown tt (inList (now (s .entry)) at end) ⌝ }
+    ensures { λ r. ⌜ (r .fault, r .place, tt, r .next) ≡ shown tt (listTold (now (s .entry)) at end) ⌝ }
 {
     if end <= at {
         return read_figures::reached(at);
@@ -160,39 +142,23 @@ fn inside_at(s: &[u8], at: usize, end: usize, kind: u8) -> read_elements::Empty
     one_at(s, at, end)
 }
 
-// What is in an extension, judged by itself: at most 242 octets, and nothing over.
-pub fn judged(xs: &[u8], kind: u8) -> read_elements::Empty
-    ensures { λ r. ⌜ (r .fault, r .place, tt, r .next) ≡ shown tt (judgedAlone 242 (judgeOf kind) (now (xs .entry))) ⌝ }
-    ensures inside { λ r. ⌜ (r .place ≤ length (now (xs .entry))) × (r .fault ≡ 0 → length (now (xs .entry)) ≤ 242) ⌝ }
+// Whether octets are what is kept of an extension: read to their end, and no more than their shortest form has.
+pub fn is_form(xs: &[u8], kind: u8) -> bool
+    ensures { λ r. ⌜ r ≡ (insideOf kind) .valid (now (xs .entry)) ⌝ }
 {
     let n = xs.len();
     if 242 < n {
-        return read_figures::halted(44, 0);
+        return false;
     }
     let o = inside_at(xs, 0, n, kind);
     if o.fault != 0 {
-        return read_figures::halted(o.fault, o.place);
+        return false;
     }
     if o.next != n {
-        return read_figures::halted(41, o.next);
+        return false;
     }
-    read_figures::reached(n)
-}
-
-// The contents of an extension into its 244 octets: kind, count, and the octets as they are.
-fn keep_extension(s: &[u8], start: usize, stop: usize, kind: u8, lent: &mut [u8; 244])
-    requires { ⌜ (start ≤ stop) × (stop ≤ length (now s)) × (stop - start ≤ 242) ⌝ }
-    requires { ⌜ now lent ≡ replicate 244 0 ⌝ }
-    ensures { λ _. ⌜ extensionIn (now (lent .exit)) ≡ extensionBy kind (part (now (s .entry)) start stop) ⌝ }
-{
-    let n = stop - start;
-    let mut i = 0;
-    while i < n {
-        lent[2 + i] = s[start + i];
-        i += 1;
-    }
-    lent[0] = kind;
-    lent[1] = n as u8;
+    let size = any_elements::forms_size(xs, 0, n);
+    size == n
 }
 
 // An extension in an element with this tag: one, or a list where the kind is 2.
@@ -206,7 +172,7 @@ fn extension_at(
 ) -> read_elements::Empty
     requires { ⌜ Bounded (now s) end ⌝ }
     requires { ⌜ now lent ≡ replicate 244 0 ⌝ }
-    ensures { λ r. ⌜ (r .fault, r .place, stored noExtension (r .fault) (extensionIn (now (lent .exit))), r .next) ≡ shown noExtension ((extensionAt tag kind (judgeOf kind)) .read (now (s .entry)) at end) ⌝ }
+    ensures { λ r. ⌜ (r .fault, r .place, stored noExtension (r .fault) (extensionIn (now (lent .exit))), r .next) ≡ shown noExtension ((extensionAt tag kind (insideOf kind)) .read (now (s .entry)) at end) ⌝ }
 {
     let e = read_lengths::open_at(s, at, end, tag);
     if e.fault != 0 {
@@ -214,11 +180,21 @@ fn extension_at(
     }
     let start = e.value.start;
     let stop = e.value.stop;
-    let j = judged(&s[start..stop], kind);
-    if j.fault != 0 {
-        return read_figures::halted(j.fault, start + j.place);
+    let o = inside_at(s, start, stop, kind);
+    if o.fault != 0 {
+        return read_figures::halted(o.fault, o.place);
     }
-    keep_extension(s, start, stop, kind, lent);
+    let last = o.next;
+    let size = any_elements::forms_size(s, start, last);
+    if 242 < size {
+        return read_figures::halted(44, start);
+    }
+    if last != stop {
+        return read_figures::halted(41, last);
+    }
+    any_elements::put_sized(s, start, stop, size, lent, 2);
+    lent[0] = kind;
+    lent[1] = size as u8;
     read_figures::reached(e.next)
 }
 

@@ -8,7 +8,8 @@ use Rattle.types.proofs.Stored.{by-octets}
 use Rattle.read_elements.specs.declared.Empty.{Empty}
 use Rattle.read_figures.proofs.{Texts.placed-more, Answers.refused, Answers.arrived}
 use Rattle.trunks.specs.{declared.Body.Body, Extensions.noExtension, Bodies.bodyBy, Bodies.noBody, Bodies.askingFor}
-use Rattle.trunk_fields.specs.Fields.{innerIn, inner, Spare, inModes}
+use Rattle.trunk_fields.specs.Fields.{innerIn, inner, inModes}
+use Rattle.trunks.specs.Stored.{Spare}
 
 abbrev pub mode : Reader ℕ
 mode = (prim 0x0a (number 0 6)) .read

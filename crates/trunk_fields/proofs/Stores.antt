@@ -11,7 +11,8 @@ use Rattle.read_figures.{specs.Beside.Unassociated, specs.Beside.SameBeside, pr
 use Rattle.trunks.specs.{declared.Body.Body, Extensions.noExtension, Bodies.bodyBy, Bodies.noModes, Bodies.naming, Bodies.modes, Bodies.extending, Bodies.address, Bodies.network}
 use Rattle.trunks.specs.Stored.{extensionIn, modesIn, bodyIn}
 use Rattle.trunk_fields.specs.Readers.{figured}
-use Rattle.trunk_fields.specs.Fields.{innerIn, inner, Spare, inModes, users, diverting}
+use Rattle.trunk_fields.specs.Fields.{innerIn, inner, inModes, users, diverting}
+use Rattle.trunks.specs.Stored.{Spare}
 
 -- a detail alone
 pub detail-stored : (d : ℕ) (c : Charge) → innerIn (set (replicate 48 0) 42 d) c ≡ bodyBy d 0 noModes noAssociation noExtension c

@@ -1,8 +1,6 @@
 -- A body in the parts that are lent, without its extension.
 use Prim.Native.Nat.{ℕ}
-use mathlib.Core.Path.{_≡_}
 use mathlib.Core.List.{List}
-use lib.ListN.{drop, replicate}
 use Rattle.coding.specs.Reader.{Reader, after, entries}
 use Rattle.coding.specs.Reader.Ans.{got}
 use Rattle.coding.specs.Codec.{prim}
@@ -13,10 +11,6 @@ use Rattle.read_elements.specs.declared.Empty.{Empty}
 use Rattle.trunks.specs.declared.Body.{Body}
 use Rattle.trunks.specs.Bodies.{noBody, askingFor}
 unfoldable pub use Rattle.trunks.specs.Forms.{innerIn, users, diverting}
-
--- the last four octets of the front
-abbrev pub Spare : List ℕ → Type 0
-Spare front = drop 44 front ≡ replicate 4 0
 
 -- what was read: where it ended in an answer, and the body in the parts
 abbrev pub inner : Empty → List ℕ → Charge → ℕ × ℕ × Body × ℕ

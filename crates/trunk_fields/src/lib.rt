@@ -1,4 +1,4 @@
-// What stands in a component of a trunk before its extension, each form by itself; the network facility extension. The readers of document 01's charges are used as they are, told that the charge is a trunk's.
+// Reads what is in a trunk's component before its extension, and the network facility extension. The readers of document 01's charges are used as they are, told that the charge is a trunk's.
 //
 // What is read is stored in the parts that are lent: a front of 48 octets and a figure of 48.
 // In the front the user lies where a figure has its association, so that the reader of a number stores it there.
@@ -14,7 +14,8 @@ ghost use Rattle.types.specs.Stored.{associationIn, stored, storedCharge};
 ghost use Rattle.read_figures.specs.Beside.{Unassociated, SameBeside};
 ghost use Rattle.trunks.specs.Bodies.{noBody, billings, figures, modes, detail, address, network};
 ghost use Rattle.trunk_fields.specs.Readers.{figured};
-ghost use Rattle.trunk_fields.specs.Fields.{Spare, inner, inModes, users, diverting};
+ghost use Rattle.trunk_fields.specs.Fields.{inner, inModes, users, diverting};
+ghost use Rattle.trunks.specs.Stored.{Spare};
 ghost use Rattle.read_lengths.specs.Bounds.{Bounded};
 
 // ---- the figure of 61 and 62, in the figure's octets alone

@@ -2,15 +2,12 @@
 use Rattle.prelude.proofs.Prelude.{ℕ, _+_, _*_, _/_, _%_, arith, _≡_, refl, ap, ap₂, _∙_, List, set, drop, replicate, length, length-drop}
 use Rattle.coding.specs.Reader.{part}
 use Rattle.types.specs.{declared.Charge.Charge, Arguments.noCharge}
-use Rattle.types.proofs.Stored.{by-octets}
+use Rattle.types.proofs.Stored.{halves, by-octets}
 use Rattle.trunks.specs.Components.{leadBy, trunkBy}
 use Rattle.trunks.specs.Bodies.{detailed}
-use Rattle.trunks.specs.Stored.{bodyIn, trunkIn}
-use Rattle.trunk_fields.specs.Fields.{Spare, innerIn}
+use Rattle.trunks.specs.Stored.{Spare, bodyIn, trunkIn}
+use Rattle.trunk_fields.specs.Fields.{innerIn}
 use Rattle.trunk_fields.proofs.Stores.{detail-stored}
-
-halves : (n : ℕ) → n % 256 + 256 * (n / 256) ≡ n
-halves n = omega arith
 
 long : (s : List ℕ) → Spare s → length s ≡ 48
 long s e = omega (arith, length-drop 44 s, ap length e)

@@ -12,7 +12,7 @@ ghost use Rattle.types.specs.Stored.{stored, storedCharge};
 ghost use Rattle.trunks.specs.Extensions.{noExtension};
 ghost use Rattle.trunks.specs.Stored.{extensionIn, bodyIn, trunkIn};
 ghost use Rattle.trunks.specs.Components.{noTrunk, leadBy, trunkBy, trunkError, rejected, facility};
-ghost use Rattle.trunk_fields.specs.Fields.{Spare};
+ghost use Rattle.trunks.specs.Stored.{Spare};
 ghost use Rattle.trunk_frames.specs.Framed.{framed, failure};
 ghost use Rattle.read_lengths.specs.Bounds.{Bounded};
 

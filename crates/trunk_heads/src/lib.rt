@@ -10,7 +10,6 @@ ghost use Rattle.coding.specs.Leaves.{listing};
 ghost use Rattle.coding.specs.Shown.{shown, verdict};
 ghost use Rattle.types.specs.Frames.{outside, value};
 ghost use Rattle.trunks.specs.Components.{trunkOperations, answerable, trunkErrors, tags};
-ghost use Rattle.read_heads.specs.Heads.{outsideCode};
 ghost use Rattle.trunk_heads.specs.Known.{knownIn, unknownIn};
 ghost use Rattle.read_lengths.specs.Bounds.{Bounded};
 
@@ -152,29 +151,27 @@ pub fn value_at(s: &[u8], at: usize, end: usize, frame: u8) -> read_elements::Nu
     }
 }
 
-// ---- the component's own element
-
-// A fault of the component's own element.
-fn outer(fault: u8) -> u8
-    ensures { λ r. ⌜ r ≡ outsideCode fault ⌝ }
+// The operation that is invoked, a known one of one octet at once. With one caller it becomes part of it.
+pub fn operation_at(s: &[u8], at: usize, end: usize) -> read_elements::NumberRead
+    requires { ⌜ Bounded (now s) end ⌝ }
+    ensures { λ r. ⌜ (r .fault, r .place, r .value, r .next) ≡ shown 0 ((value 7 trunkOperations) .read (now (s .entry)) at end) ⌝ }
+    ensures known { λ r. ⌜ (r .fault ≡ 0 → oneOf trunkOperations (r .value) ≡ true) ⌝ }
 {
-    if 100 <= fault {
-        return fault;
+    let x = read_elements::tiny(s, at, end, 0x02) as u32;
+    if x < 128 {
+        if known_operation(x) {
+            return read_elements::NumberRead {
+                fault: 0,
+                place: 0,
+                value: x,
+                next: at + 3,
+            };
+        }
     }
-    if fault == 40 {
-        return 101;
-    }
-    if fault == 41 {
-        return 104;
-    }
-    if fault == 42 {
-        return 101;
-    }
-    if fault == 2 {
-        return 102;
-    }
-    106
+    value_at(&s[0..], at, end, 1)
 }
+
+// ---- the component's own element
 
 fn shut_out(fault: u8, place: usize) -> read_lengths::Opened
     ensures { λ r. ⌜ r ≡ record { fault = fault; place = place; value = record { start = 0; stop = 0 }; next = 0 } ⌝ }
@@ -220,7 +217,7 @@ pub fn enter(s: &[u8]) -> read_lengths::Opened
     }
     let e = read_lengths::open_at(s, 0, n, tag);
     if e.fault != 0 {
-        return shut_out(outer(e.fault), e.place);
+        return shut_out(read_heads::outer(e.fault), e.place);
     }
     if e.next != n {
         return shut_out(105, e.next);

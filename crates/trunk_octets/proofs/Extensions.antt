@@ -1,6 +1,6 @@
 -- Extensions: those that are there, how many octets they take, and their octets.
-use Rattle.prelude.proofs.Prelude.{ℕ, _+_, _≤_, _≡_, sym, ap, _∙_, [], _∷_, _++_, true, cond, arith, length, take, length-append, length-take, eqb, eqb-true, eqb-false, eq-eqb, ne-eqb}
-use Rattle.coding.{specs.Reader.Reader, specs.Codec.canonical, specs.Codec.over, specs.Codec.sort, specs.Codec.nothing, specs.Codec.lengthOctets, specs.Kept.asReceived, specs.Written.lead}
+use Rattle.prelude.proofs.Prelude.{ℕ, List, _+_, _≤_, _≡_, sym, ap, _∙_, [], _∷_, _++_, true, cond, arith, length, take, length-append, length-take, eqb, eqb-true, eqb-false, eq-eqb, ne-eqb}
+use Rattle.coding.{specs.Codec.Run, specs.Codec.cons, specs.Codec.canonical, specs.Codec.over, specs.Codec.sort, specs.Codec.nothing, specs.Codec.lengthOctets, specs.Normal.normalForm, specs.Written.lead}
 use Rattle.coding.proofs.Basic.{and-left, and-right, picked, unpicked}
 use Rattle.prelude.proofs.Ways.{by-cases}
 use Rattle.trunks.specs.declared.Extension.{Extension}
@@ -10,9 +10,9 @@ use Rattle.trunk_octets.specs.Octets.{extensionOctets, Counted}
 module _ (x : Extension) where
   -- ---- a valid one has as many octets as it says
 
-  at-same : (tag k : ℕ) (judge : Reader (Unit {0})) → (extensionAt tag k judge) .valid x ≡ true → (k ≡ x .kind) × (length (keptOctets x) ≡ x .count)
+  at-same : (tag k : ℕ) (inside : Run (List ℕ)) → (extensionAt tag k inside) .valid x ≡ true → (k ≡ x .kind) × (length (keptOctets x) ≡ x .count)
   unfolding extensionAt canonical over
-  at-same tag k judge v =
+  at-same tag k inside v =
       let s = and-left (sameExtension (extensionBy k (keptOctets x)) x) _ v in (
         eqb-true k (x .kind) (and-left (eqb k (x .kind)) _ s),
         eqb-true (length (keptOctets x)) (x .count) (and-left (eqb (length (keptOctets x)) (x .count)) _ (and-right (eqb k (x .kind)) _ s)),
@@ -39,11 +39,11 @@ module _ (x : Extension) where
   -- ---- what is written
 
   pub extension-one : x .kind ≡ 1 → extension .write x ≡ extensionOctets 0xa1 x
-  unfolding extension sort extensionAt canonical over asReceived
+  unfolding extension sort extensionAt canonical over cons inOne normalForm
   extension-one e = rw (eq-eqb (x .kind) 1 e)
 
   pub extension-list : x .kind ≡ 2 → extension .write x ≡ extensionOctets 0xa2 x
-  unfolding extension sort extensionAt canonical over asReceived
+  unfolding extension sort extensionAt canonical over cons inList normalForm
   extension-list e = rw (ne-eqb (x .kind) 1 (λ z. omega (arith, e, z)), eq-eqb (x .kind) 2 e)
 
   pub extension-none : (x .kind ≡ 1 → ⊥) → (x .kind ≡ 2 → ⊥) → extension .write x ≡ []
@@ -51,7 +51,7 @@ module _ (x : Extension) where
   extension-none a b = rw (ne-eqb (x .kind) 1 a, ne-eqb (x .kind) 2 b)
 
   pub parameter-one : x .kind ≡ 1 → parameter .write x ≡ extensionOctets 0x30 x
-  unfolding parameter sort extensionAt canonical over asReceived
+  unfolding parameter sort extensionAt canonical over cons inOne normalForm
   parameter-one e = rw (eq-eqb (x .kind) 1 e)
 
   pub parameter-none : (x .kind ≡ 1 → ⊥) → parameter .write x ≡ []

@@ -1,4 +1,4 @@
-// What a frame of a trunk's component holds: how many octets it takes, and its octets.
+// Writes what a frame of a trunk's component holds, and counts its octets.
 //
 // A component is lent in five parts: a front of 48 octets, an extension of 244, a figure of 48 and a list's two arrays. Each `_size` is the octets of a
 // valid value, which may be too many for a component, and each `put_` stores those octets into a lent buffer from a place on and gives the place after them.

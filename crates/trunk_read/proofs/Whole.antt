@@ -1,12 +1,24 @@
 -- A component's answer from how it is shown.
-use Rattle.prelude.proofs.Prelude.{ℕ, _≤_, _<_, arith, _≡_, ap, _∙_, List, length, lt-ltb, le-ltb}
+use Rattle.prelude.proofs.Prelude.{ℕ, _%_, _≤_, _<_, arith, leb, _≡_, ap, _∙_, List, length, lt-ltb, le-ltb}
+use Rattle.prelude.proofs.Ways.{by-cases}
 use Rattle.coding.{specs.Shown.shown, proofs.Reading.got-of, proofs.Reading.halt-of}
 use Rattle.types.specs.Frames.{numberOf, offsetOf}
 use Rattle.types.proofs.Faults.{Told}
 use Rattle.read_heads.{specs.Heads.faultBy, proofs.Codes.told}
 use Rattle.trunks.specs.{declared.Trunk.Trunk, Components.noTrunk, Components.trunkAccepted, Components.trunkRefused, Components.trunkComponent, Components.readWholeTrunk, Components.readTrunk}
 use Rattle.trunks.proofs.Faults.{whole-told}
-use Rattle.trunk_extensions.proofs.Copied.{placed-in}
+use Rattle.coding.{specs.Reader.Ans, specs.Reader.Fault, specs.Reader.Ans.got, specs.Reader.Ans.halt}
+use Rattle.types.proofs.Places.{Ends}
+
+-- where an answer lies
+placed-in : {A : Type 0} (P : Fault → ℕ → Type 0) (a e : ℕ) (x : Ans A) (z : A) {k p n : ℕ} {v : A} → Ends P a e x → (k, p, v, n) ≡ shown z x → p ≤ e
+unfolding shown
+placed-in {A} P a e (got v' n') z h q = omega (arith, ap (λ (t : ℕ × ℕ × A × ℕ). t .1) q)
+placed-in {A} P a e (halt w p') z h q = omega (arith, h .2, ap (λ (t : ℕ × ℕ × A × ℕ). t .1) q)
+
+-- an offset inside the octets has one octet
+pub one-octet : (n p : ℕ) → p ≤ 254 → offsetOf n p % 256 ≡ offsetOf n p
+one-octet n p h = by-cases (leb 40 n) (λ q. rw q (omega arith)) (λ q. rw q)
 
 pub too-long : (s : List ℕ) → 254 < length s → trunkRefused 3 0 ≡ readTrunk s
 unfolding readTrunk readWholeTrunk

@@ -5,10 +5,9 @@ ghost use mathlib.Core.Path.{_≡_};
 ghost use Prim.Native.Nat.{_≤_};
 ghost use lib.ListN.{length};
 ghost use Rattle.coding.specs.Shown.{shown};
-ghost use Rattle.types.specs.Frames.{offsetOf};
 ghost use Rattle.types.specs.Stored.{storedCharge};
 ghost use Rattle.trunks.specs.Components.{noTrunk, trunkInvoke, trunkResult, trunkFrame, trunkComponent, readTrunk};
-ghost use Rattle.trunk_fields.specs.Fields.{Spare};
+ghost use Rattle.trunks.specs.Stored.{Spare};
 ghost use Rattle.trunk_bodies.specs.Bodied.{Bare};
 ghost use Rattle.trunk_frames.specs.Framed.{framed};
 ghost use Rattle.trunk_read.specs.Whole.{wholeTrunk};
@@ -36,7 +35,7 @@ fn invoke_at(
     if i.fault != 0 {
         return read_figures::halted(i.fault, i.place);
     }
-    let o = trunk_heads::value_at(s, i.next, end, 1);
+    let o = trunk_heads::operation_at(s, i.next, end);
     if o.fault != 0 {
         return read_figures::halted(o.fault, o.place);
     }
@@ -186,17 +185,6 @@ fn component_at(
     read_figures::reached(e.next)
 }
 
-// The offset that is given with a number: that of the place with 40 to 45.
-fn offset_of(number: u8, place: usize) -> u32
-    requires { ⌜ place ≤ 254 ⌝ }
-    ensures { λ r. ⌜ r ≡ offsetOf number place ⌝ }
-{
-    if number < 40 {
-        return 0;
-    }
-    place as u32
-}
-
 // Reads a component of a trunk into its parts, whatever they hold: zeros where it is refused.
 pub fn read_into(
     octets: &[u8],
@@ -233,7 +221,7 @@ pub fn read_into(
     *numbers = [0; 32];
     *rows = [0; 192];
     let number = read_heads::number_of(r.fault);
-    let offset = offset_of(number, r.place);
+    let offset = read::offset_of(number, r.place);
     read::Refusal {
         number: number as u32,
         offset,

@@ -1,12 +1,12 @@
--- A manufacturer's extension: A1 with one, A2 with a list, or none. What is in it is kept octet for octet.
+-- A manufacturer's extension: A1 with one, A2 with a list, or none. Its contents are kept in their normal form, at most 242 octets.
 use Prim.Native.Nat.{ℕ}
 use mathlib.Core.List.{List, [], _∷_}
-use mathlib.Core.Bool.{Bool, true, false, _&&_, cond}
+use mathlib.Core.Bool.{Bool, true, _&&_, cond}
 use lib.ListN.{length, take, replicate}
 use lib.Dec.{ltb, eqb}
-use Rattle.coding.specs.Reader.{Reader, Fault, Ruling, primitive, _>>=_}
-use Rattle.coding.specs.Codec.{Run, nothing, sort, canonical, sameList, pad}
-use Rattle.coding.specs.Kept.{tile, counted·in, everyEntry, asReceived}
+use Rattle.coding.specs.Reader.{Fault, Ruling}
+use Rattle.coding.specs.Codec.{Run, prim, cons, nothing, pair, any·more, sort, canonical, sameList, pad}
+use Rattle.coding.specs.Normal.{asJudged, Any, anyElement, normalForm}
 use Rattle.trunks.specs.declared.Extension.{Extension}
 
 abbrev pub noExtension : Extension
@@ -17,20 +17,26 @@ sameExtension x y = eqb (x .kind) (y .kind) && (eqb (x .count) (y .count) && sam
 
 -- ---- what is in one: 06 identifier, and one element of any tag
 
--- the identifier's numbers: each ends with an octet below 80, and none begins with 80
-unfoldable pub arcs : Bool → List ℕ → Bool
-arcs fresh [] = fresh
-arcs fresh (x ∷ xs) = cond (fresh && eqb x 0x80) false (arcs (ltb x 0x80) xs)
+-- an identifier's numbers: each ends with an octet below 80, and none begins with 80, which would not be shortest
+unfoldable pub arcs : Bool → List ℕ → Ruling (Unit {0})
+arcs fresh [] = cond fresh (Ruling.good tt) (Ruling.bad Fault.contents)
+arcs fresh (x ∷ xs) = cond (fresh && eqb x 0x80) (Ruling.bad Fault.shortest) (arcs (ltb x 0x80) xs)
 
 unfoldable pub objectIdentifier : List ℕ → Ruling (Unit {0})
-objectIdentifier xs = cond (eqb (length xs) 0) (Ruling.bad Fault.shortest) (cond (arcs true xs) (Ruling.good tt) (Ruling.bad Fault.contents))
+objectIdentifier xs = cond (eqb (length xs) 0) (Ruling.bad Fault.shortest) (arcs true xs)
 
-unfoldable pub inOne : Reader (Unit {0})
-inOne = primitive 0x06 objectIdentifier >>= (λ u. tile)
+unfoldable pub oneExtension : Run (List ℕ × Any)
+oneExtension = pair (prim 0x06 (asJudged objectIdentifier)) anyElement
+
+unfoldable pub inOne : Run (List ℕ)
+inOne = normalForm 242 oneExtension
 
 -- ---- in a list: any number of 30 with one
-unfoldable pub inList : Reader (Unit {0})
-inList = everyEntry 0x30 254 (counted·in 0x30 inOne)
+unfoldable pub manyExtensions : Run (List (List ℕ × Any))
+manyExtensions = any·more 0x30 254 (cons 0x30 oneExtension)
+
+unfoldable pub inList : Run (List ℕ)
+inList = normalForm 242 manyExtensions
 
 -- ---- the types
 
@@ -43,8 +49,8 @@ keptOctets x = take (x .count) (x .octets)
 abbrev pub isExtension : ℕ → Extension → Bool
 isExtension k x = eqb (x .kind) k
 
-unfoldable pub extensionAt : ℕ → ℕ → Reader (Unit {0}) → Run Extension
-extensionAt tag kind judge = canonical (extensionBy kind) keptOctets sameExtension (asReceived tag 242 judge)
+unfoldable pub extensionAt : ℕ → ℕ → Run (List ℕ) → Run Extension
+extensionAt tag kind inside = canonical (extensionBy kind) keptOctets sameExtension (cons tag inside)
 
 unfoldable pub unextended : Run Extension
 unextended = canonical (λ u. noExtension) (λ x. tt) sameExtension nothing

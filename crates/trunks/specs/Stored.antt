@@ -2,8 +2,9 @@
 -- Of the front: 0 to 7 the lead, 8 the count of the modes and 9 to 15 the modes, 16 to 41 the user (where a figure has its association), 42 detail, 43 entity;
 -- 44 to 47 are zero.
 use Prim.Native.Nat.{ℕ}
+use mathlib.Core.Path.{_≡_}
 use mathlib.Core.List.{List}
-use lib.ListN.{getD, drop}
+use lib.ListN.{getD, drop, replicate}
 use Rattle.coding.specs.Reader.{part}
 use Rattle.types.specs.declared.Charge.{Charge}
 use Rattle.types.specs.Stored.{two, associationIn}
@@ -14,6 +15,10 @@ use Rattle.trunks.specs.declared.Body.{Body}
 use Rattle.trunks.specs.declared.Trunk.{Trunk}
 use Rattle.trunks.specs.Bodies.{bodyBy}
 use Rattle.trunks.specs.Components.{leadBy, trunkBy}
+
+-- the last four octets of the front
+abbrev pub Spare : List ℕ → Type 0
+Spare front = drop 44 front ≡ replicate 4 0
 
 abbrev pub extensionIn : List ℕ → Extension
 extensionIn s = record { kind = getD s 0 0; count = getD s 1 0; octets = drop 2 s }

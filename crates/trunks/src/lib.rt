@@ -1,4 +1,4 @@
-// What a component of a trunk between private exchanges is: the structs of source document 001's arguments, as C sees them.
+// The table of types of ECMA-212 (trunks between private exchanges) as definitions, their theorems, and the structs of a trunk's record as C sees them.
 //
 // No struct has padding, no field is a bool or an enum (a host's memory may hold anything), and what is not used is zero.
 
@@ -22,7 +22,7 @@ pub struct Modes {
     pub places: [u8; 7],
 }
 
-// A manufacturer's extension, its contents as received. kind: 0 none, 1 one, 2 a list.
+// A manufacturer's extension, its contents in their normal form. kind: 0 none, 1 one, 2 a list.
 #[repr(C)]
 pub struct Extension {
     pub kind: u8,

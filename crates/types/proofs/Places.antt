@@ -1,13 +1,13 @@
 -- Where a reading ends, and by which faults: between its place and the end of the enclosing element.
-use Rattle.prelude.proofs.Prelude.{ℕ, zero, suc, _+_, _-_, _≤_, _≡_, refl, subst, List, [], _∷_, Bool, true, false, cond, arith, length, length-take, drop, getD, ltb, leb, eqb}
+use Rattle.prelude.proofs.Prelude.{ℕ, zero, suc, _+_, _-_, _≤_, _≡_, refl, subst, List, [], _∷_, Bool, true, false, cond, arith, length, getD, ltb, leb, eqb}
 use Rattle.coding.specs.declared.Extent.{Extent}
 use Rattle.coding.specs.Reader.{Ans, Reader, Fault, Ruling, after, choice, tagged, neither, extent, numberedAt, endless, marker, turn, searched, findEnd, spanned, lengthAt, opened, closed}
 use Rattle.coding.specs.Reader.{constructed, part, mapped, narrowed, ruled, primitive, optional, entries, listOf}
 use Rattle.coding.specs.Reader.Ans.{got, halt}
 use Rattle.coding.specs.Reader.Ruling.{good, bad}
 use Rattle.coding.specs.Reader.Fault.{missing, unexpected, cut, form, shortest, contents, limit, named}
-use Rattle.coding.specs.Codec.{Leaf, Run, oneOf, prim, cons, nothing, pair, alt, over, maybe, some·more, any·more, leafOver, leads, barring, sort, pickRun}
-use Rattle.coding.specs.Kept.{judgedAlone, keeping, asReceived}
+use Rattle.coding.specs.Codec.{Leaf, Run, oneOf, simple, prim, cons, nothing, pair, alt, over, maybe, some·more, any·more, leafOver, leads, barring, sort, pickRun}
+use Rattle.coding.specs.Normal.{asJudged, octetString, Several, opening, anyBy, severalBy, severalAt, anyElement, limited, normalForm}
 use Rattle.coding.specs.Contents.{natural, valueOf, negative, numberFrom, text, every, null}
 use Rattle.coding.specs.Leaves.{number, string, nullLeaf, inOctets, integer, identifier, listing, listed, only}
 use Rattle.coding.proofs.Header.{opened-sound, spans-range, read-element, element-range}
@@ -230,30 +230,53 @@ module _ (P : Fault → ℕ → Type 0) (plain : (w : Fault) (p : ℕ) → Plain
   unfolding nothing
   nothing-placed k = record { ends = λ s a e h i. (omega arith, i) }
 
-  -- contents that are kept: the judge's faults are plain, and their places inside
-  kept-ends : (xs : List ℕ) (start stop next a e : ℕ) (r : Ans (Unit {0})) → a ≤ start → start + length xs ≤ stop → stop ≤ next → next ≤ e
-      → Ends (λ w p. Plain w) 0 (length xs) r → Ends P a e (keeping xs start next r)
-  unfolding keeping
-  kept-ends xs start stop next a e (got u n) h i j k q = (omega arith, k)
-  kept-ends xs start stop next a e (halt w p) h i j k q = (plain w (start + p) (q .0), omega (arith, h), omega (arith, q .2, i, j, k))
+  -- contents that are kept as they are, and values that are kept as octets
+  pub as-judged-blames : (judge : List ℕ → Ruling (Unit {0})) → ((xs : List ℕ) → Blames P (judge xs)) → (xs : List ℕ) → Blames P ((asJudged judge) .judge xs)
+  unfolding asJudged mapped
+  as-judged-blames judge b xs = go (judge xs) (b xs)
+    where
+      go : (x : Ruling (Unit {0})) → Blames P x → Blames P (mapped (λ u. xs) x)
+      go (good v) h = tt
+      go (bad w) h = h
 
-  part-short : (s : List ℕ) (c m : ℕ) → c ≤ m → c + length (part s c m) ≤ m
-  unfolding part
-  part-short s c m h = omega (arith, length-take (m - c) (drop c s))
-
-  pub kept-placed : (k tag most : ℕ) (judge : Reader (Unit {0})) → ((xs : List ℕ) → Ends (λ w p. Plain w) 0 (length xs) (judge xs 0 (length xs))) → Placed P k (asReceived tag most judge)
-  unfolding asReceived judgedAlone closed
-  kept-placed k tag most judge J = record {
-    ends = λ s a e h i. follows P a e (opened tag s a e) _ (opened-ends tag s a e i) (λ v n q x y.
-        let o = opened-sound tag s a e v n q in
-        let r = spans-range (o .0) in
-        let xs : List ℕ = part s (v .start) (v .stop) in
-        let N : Fault → ℕ → Type 0 = λ w p. Plain w in
-        kept-ends xs (v .start) (v .stop) n a e _ (omega (arith, r .0)) (part-short s (v .start) (v .stop) (r .1)) (r .2) y
-        (pick (Ends N 0 (length xs)) (ltb most (length xs)) _ _ (λ z. (tt, omega arith, omega arith)) (λ z.
-        follows N 0 (length xs) (judge xs 0 (length xs)) _ (J xs) (λ u m w f g.
-        pick (Ends N 0 (length xs)) (eqb m (length xs)) _ _ (λ b. (omega arith, omega arith)) (λ b. (tt, omega arith, g))))));
+  pub normal-placed : {A : Type 0} (k most : ℕ) (f : Run A) → Placed P k f → Placed P k (normalForm most f)
+  unfolding normalForm limited
+  normal-placed k most f F = record {
+    ends = λ s a e h i. follows P a e (f .read s a e) _ (F .ends s a e h i) (λ v n q x y.
+        pick (Ends P a e) (leb (length (f .write v)) most) _ _ (λ z. (x, y)) (λ z. (plain contents a tt, omega arith, i)));
   }
+
+  -- an element of any tag
+  abbrev read-by : Reader Several → Run Several
+  read-by r = record { read = r; write = λ x. []; valid = λ x. true; Means = λ x s a n. Unit {0}; first = []; empty = true; avoid = λ o. false }
+
+  any-ends : (k : ℕ) (inner : Reader Several) → Placed P k (read-by inner) → (s : List ℕ) (a e : ℕ) → k ≤ a → a ≤ e → Ends P a e (anyBy inner s a e)
+  unfolding anyBy prim cons octetString
+  any-ends k inner I s a e h i =
+      let tag : ℕ = getD s a 0 in
+      pick (Ends P a e) (leb e a) _ _ (λ q. (plain missing e tt, i, omega arith)) (λ q.
+      pick (Ends P a e) (simple tag) _ _
+      (λ q. follows P a e ((prim tag octetString) .read s a e) _ (prim-placed k tag octetString (as-judged-blames _ (λ xs. tt)) .ends s a e h i) (λ v n z x y. (x, y))) (λ q.
+      pick (Ends P a e) (opening tag) _ _ (λ q. follows P a e ((cons tag (read-by inner)) .read s a e) _ (cons-placed k tag (read-by inner) I .ends s a e h i) (λ v n z x y. (x, y)))
+      (λ q. (plain unexpected a tt, omega arith, i))))
+
+  several-placed : (k turns : ℕ) → Placed P k (read-by (severalBy turns))
+  unfolding severalBy
+  several-placed k zero = record { ends = λ s a e h i. pick (Ends P a e) (leb e a) _ _ (λ q. (omega arith, i)) (λ q. (plain unexpected a tt, omega arith, i)) }
+  several-placed k (suc turns) = record {
+    ends = λ s a e h i. pick (Ends P a e) (leb e a) _ _ (λ q. (omega arith, i)) (λ q.
+        follows P a e (anyBy (severalBy turns) s a e) _ (any-ends k (severalBy turns) (several-placed k turns) s a e h i) (λ v n z x y.
+        follows P a e (severalBy turns s n e) _ (nearer P a n e (severalBy turns s n e) x (several-placed k turns .ends s n e (omega (arith, h, x)) y))
+        (λ vs last z' x' y'. (x', y'))));
+  }
+
+  pub several-ends : (s : List ℕ) (a e : ℕ) → a ≤ e → Ends P a e (severalAt s a e)
+  unfolding severalAt
+  several-ends s a e h = several-placed 0 (e - a) .ends s a e (omega arith) h
+
+  pub any-element-placed : (k : ℕ) → Placed P k anyElement
+  unfolding anyElement
+  any-element-placed k = record { ends = λ s a e h i. any-ends k (severalBy (e - a)) (several-placed k (e - a)) s a e h i }
 
   module _ {A B : Type 0} (k : ℕ) where
     pub pair-placed : (f : Run A) (g : Run B) → Placed P k f → Placed P k g → Placed P k (pair f g)
@@ -343,6 +366,6 @@ module _ (P : Fault → ℕ → Type 0) (plain : (w : Fault) (p : ℕ) → Plain
         go (bad w) h = h
 
 -- what places the faults of a type, and blames its contents
-pub ruleset blaming = (number-blames, string-blames, null-blames, identifier-blames, listed-blames, only-blames, leaf-over-blames)
+pub ruleset blaming = (number-blames, string-blames, null-blames, identifier-blames, listed-blames, only-blames, leaf-over-blames, as-judged-blames)
 
-pub ruleset placing = (blaming, prim-placed, cons-placed, sort-placed, barring-placed, maybe-placed, some-placed, any-placed, nothing-placed, pair-placed, alt-placed, over-placed)
+pub ruleset placing = (blaming, prim-placed, cons-placed, sort-placed, barring-placed, maybe-placed, some-placed, any-placed, nothing-placed, pair-placed, alt-placed, over-placed, normal-placed, any-element-placed)

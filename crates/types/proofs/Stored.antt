@@ -1,8 +1,33 @@
 -- A figure's 48 octets: what a store does to the fields that lie in them.
-use Rattle.prelude.proofs.Prelude.{ℕ, zero, suc, _+_, _-_, _≤_, _<_, arith, add-one, _≡_, refl, sym, ap, subst, _∙_, List, [], _∷_, _++_, append-nil, length, getD, set, take, drop}
+use Rattle.prelude.proofs.Prelude.{ℕ, zero, suc, _+_, _-_, _*_, _/_, _%_, _≤_, _<_, arith, add-one, mod-add-div, _≡_, refl, sym, ap, subst, _∙_, List, [], _∷_, _++_, append-nil, length, getD, set, take, drop}
 use Rattle.prelude.proofs.Prelude.{replicate, length-drop, take-append-drop, length-take-le, take-set-le, drop-set-add, take-suc, take-take, getD-take, getD-drop}
 use Rattle.coding.{specs.Codec.pad, proofs.Arrays.padded-more, specs.Reader.part}
 use Rattle.types.specs.{declared.Money.Money, declared.Association.Association, declared.Figure.Figure, Charges.noAssociation, Stored.moneyIn, Stored.associationIn, Stored.figureIn}
+
+-- ---- numbers in octets, low first, over how many there are
+
+-- the low k octets of a number, and what is above them
+abbrev lowFirst : ℕ → ℕ → List ℕ
+lowFirst zero n = n ∷ []
+lowFirst (suc k) n = n % 256 ∷ lowFirst k (n / 256)
+
+abbrev together : List ℕ → ℕ
+together [] = 0
+together (x ∷ []) = x
+together (x ∷ y ∷ ys) = x + 256 * together (y ∷ ys)
+
+-- put together they are the number
+put-together : (k n : ℕ) → together (lowFirst k n) ≡ n
+put-together zero n = refl
+put-together (suc zero) n = mod-add-div n 256
+put-together (suc (suc k)) n = ap (λ (m : ℕ). n % 256 + 256 * m) (put-together (suc k) (n / 256)) ∙ mod-add-div n 256
+
+-- as two octets are stored, and four
+pub halves : (n : ℕ) → n % 256 + 256 * (n / 256) ≡ n
+halves = put-together 1
+
+pub quarters : (n : ℕ) → n % 256 + 256 * (n / 256 % 256) + 65536 * (n / 65536 % 256 + 256 * (n / 16777216)) ≡ n
+quarters n = let e : n % 256 + 256 * (n / 256 % 256) + 65536 * (n / 65536 % 256 + 256 * (n / 16777216)) ≡ together (lowFirst 3 n) = omega arith in e ∙ put-together 3 n
 
 -- ---- a list is the list of its elements, so a law of 48 octets holds where it holds of 48 elements written out
 

@@ -3,5 +3,6 @@ pub mod Entries
 pub mod Rates
 pub mod Arguments
 pub mod Frames
+pub mod Thousandths
 pub mod Cases
 pub mod Stored

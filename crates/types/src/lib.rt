@@ -1,4 +1,4 @@
-// What a charge is: the structs of the standard's arguments, as C sees them.
+// The table of types of ETS 300 182-1 as definitions, the theorems about whole components, and the structs of a record as C sees them.
 //
 // No struct has padding, no field is a bool or an enum (a host's memory may hold anything), and what is not used is zero.
 ghost use mathlib.Core.Path.{_≡_};

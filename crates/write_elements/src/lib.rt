@@ -1,4 +1,4 @@
-// Elements written into a lent buffer, and their sizes.
+// Writes elements into the caller's buffer, and counts their octets.
 //
 // A writer is given a buffer, a place and what to write. It stores those octets from the place on, changes no other octet, and answers
 // the place after them.

@@ -1,5 +1,5 @@
 use Rattle.prelude.proofs.Prelude.{arith, mul-zero, refl, List·getD-eq-default}
-use Rattle.amounts.specs.Powers.{powers}
+use Rattle.types.specs.Thousandths.{powers}
 use Rattle.amounts.proofs.{Bounded.product, Bounded.bounded, thousandths.Statement.statement}
 use Rattle.amounts.proofs.thousandths.Tie as tie
 

@@ -1,6 +1,6 @@
-use Rattle.prelude.proofs.Prelude.{ℕ, _+_, _-_, _/_, _≡_, sym, _∙_, ap, [], arith, length}
+use Rattle.prelude.proofs.Prelude.{ℕ, _+_, _-_, _/_, _≤_, _≡_, sym, _∙_, ap, [], arith, length}
 use Rattle.account.specs.{History.judged, declared.Account.Account}
-use Rattle.events.{specs.Events.Going, specs.Prefix.placeAt, specs.Prefix.before, proofs.Laws.begins, proofs.Laws.inside, proofs.Laws.goes-on, proofs.Prefix.place-start, proofs.Prefix.place-next}
+use Rattle.events.{specs.Events.Going, specs.Events.countAt, specs.Prefix.placeAt, specs.Prefix.before, proofs.Laws.begins, proofs.Laws.inside, proofs.Laws.goes-on, proofs.Prefix.place-start, proofs.Prefix.place-next}
 use Rattle.fault.specs.Running.{progressBy}
 use Rattle.fault.proofs.{Running.run-starts, Running.run-next, Running.run-ends, judged_all.Statement.statement}
 use Rattle.fault.proofs.judged_all.Tie as tie
@@ -20,8 +20,19 @@ begin c =
     let octets = start .args .octets .now in (
       begins _ _ (start .pre),
       sym (place-start rows octets),
-      ap (λ (a : Account). record { account = a; seen = progressBy [] .seen; latest = progressBy [] .latest }) (c .fresh .ensures) ∙ run-starts rows octets,
+      ap (λ (a : Account). record { account = a; seen = progressBy [] .seen; latest = progressBy [] .latest; other = progressBy [] .other }) (c .fresh .ensures) ∙ run-starts rows octets,
     )
+
+-- the octets of the next event end inside
+ends : (c : tie.After-count-at Inv-loop μ-loop) → let at = c .before .before in let start = at .before .before .before .before in
+    at .loop .at + c .count-at .result ≤ length (start .args .octets .now)
+ends c =
+    let in-loop = c .before in
+    let at = in-loop .before in
+    let start = at .before .before .before .before in
+    let rows = start .args .rows .now in
+    let counted : c .count-at .result ≡ countAt rows (at .loop .i) = c .count-at .ensures in
+    rw counted (inside rows (start .args .octets .now) (at .loop .i) (at .loop .at) (at .loop .inv .0) (in-loop .loop-test .taken))
 
 loop-again : tie.Need-loop-again Inv-loop μ-loop
 loop-again c =
@@ -61,12 +72,12 @@ judged-all-spec =
     (omega arith)
     begin
     (omega arith)
-    (λ c. let at = c .before .before in omega (arith, c .count-at .ensures, inside _ _ _ _ (at .loop .inv .0) (c .before .loop-test .taken)))
+    (λ c. omega (arith, ends c))
     (omega arith)
     (omega arith)
     (omega arith)
     (omega arith)
-    (λ c. let counted = c .before in let at = counted .before .before in omega (arith, counted .count-at .ensures, inside _ _ _ _ (at .loop .inv .0) (counted .before .loop-test .taken)))
+    (λ c. omega (arith, ends (c .before)))
     (λ c κs. let in-loop = c .before .before .before in let call = in-loop .before .before .before in (call .before .before .pre, omega (arith, in-loop .loop-test .taken)))
     (omega arith)
     loop-again

@@ -6,15 +6,17 @@ use Rattle.fault.proofs.next.Tie as tie
 returns : tie.Need-returns
 unfolding nextOf
 returns c =
-    let seen = c .before in
+    let latest = c .before in
+    let seen = latest .before in
     let ruled = seen .before in
     let fell = ruled .before .before in
-    let asked = fell .before .before in
+    let asked = fell .before .before .before in
     let found = asked .before .before .before in
     let read = found .before in
     let stepped = read .before .before .before in
     rw (
-      c .latest-next .ensures,
+      c .other-next .ensures,
+      latest .latest-next .ensures,
       seen .seen-next .ensures,
       ruled .breaks-of .ensures,
       fell .falls .ensures,
@@ -26,4 +28,4 @@ returns c =
 
 pub next-spec : {M : Type 1} → statement M
 unfolding nextOf
-next-spec = tie.close (tie.spec (omega arith) (omega arith) (omega arith) (λ c κs. search needs) (omega arith) (omega arith) (omega arith) returns)
+next-spec = tie.close (tie.spec (omega arith) (omega arith) (omega arith) (λ c κs. search needs) (omega arith) (omega arith) (omega arith) (omega arith) returns)

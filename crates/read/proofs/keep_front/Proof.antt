@@ -1,5 +1,6 @@
 use Rattle.prelude.proofs.Prelude.{arith}
-use Rattle.read.proofs.{Tails.halves, keep_front.Statement.statement, keep_front.Tie.close, keep_front.Tie.spec}
+use Rattle.types.proofs.Stored.{halves}
+use Rattle.read.proofs.{keep_front.Statement.statement, keep_front.Tie.close, keep_front.Tie.spec}
 
 pub keep-front-spec : {M : Type 1} → statement M
 keep-front-spec =

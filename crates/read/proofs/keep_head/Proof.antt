@@ -1,5 +1,6 @@
 use Rattle.prelude.proofs.Prelude.{arith}
-use Rattle.read.proofs.{Tails.halves, keep_head.Statement.statement, keep_head.Tie.close, keep_head.Tie.spec}
+use Rattle.types.proofs.Stored.{halves}
+use Rattle.read.proofs.{keep_head.Statement.statement, keep_head.Tie.close, keep_head.Tie.spec}
 
 pub keep-head-spec : {M : Type 1} → statement M
 keep-head-spec =

@@ -1,4 +1,4 @@
-use Rattle.prelude.proofs.Prelude.{needs, arith}
+use Rattle.prelude.proofs.Prelude.{_-_, arith, take-all, length, length-take}
 use Rattle.coding.specs.Leaves.{identifier}
 use Rattle.read_elements.proofs.{Shortcut.tiny-shown, identifier_at.Statement.statement}
 use Rattle.read_elements.proofs.identifier_at.Tie as tie
@@ -11,4 +11,6 @@ identifier-at-spec =
     (λ c.
     let t = c .before in
     (tiny-shown _ _ _ _ _ identifier (omega arith) (t .before .tiny .ensures .1 .1 (t .if1 .taken)) (c .pattern .ensures .0), omega (arith, c .pattern .ensures .1)))
-    (omega arith) (λ c. search needs))
+    (omega arith) (λ c. omega arith) (λ c. omega arith)
+    (λ c κs. simp (length-take) (omega (arith, c .before .before .before .before .pre)))
+    (λ c. let xs = c .before .before .before .before .before .args .s .now in rw (take-all (length xs - 0) xs (omega arith)) at (c .identifier-long .ensures)))

@@ -1,4 +1,4 @@
-use Rattle.prelude.proofs.Prelude.{needs, arith}
+use Rattle.prelude.proofs.Prelude.{_-_, arith, take-all, length, length-take}
 use Rattle.read_elements.proofs.{Shortcut.bare-null, null_at.Statement.statement}
 use Rattle.read_elements.proofs.null_at.Tie as tie
 
@@ -6,4 +6,6 @@ pub null-at-spec : {M : Type 1} → statement M
 null-at-spec =
     tie.close
     (tie.spec (omega arith) (λ c. omega (arith, c .before .short-length .ensures .1 .1 (omega arith) .inside))
-    (λ c. bare-null _ _ _ _ _ (c .before .short-length .ensures .1 .1 (omega arith)) (c .if1 .taken)) (omega arith) (λ c. search needs))
+    (λ c. bare-null _ _ _ _ _ (c .before .short-length .ensures .1 .1 (omega arith)) (c .if1 .taken)) (omega arith) (λ c. omega arith) (λ c. omega arith)
+    (λ c κs. simp (length-take) (omega (arith, c .before .before .before .before .pre)))
+    (λ c. let xs = c .before .before .before .before .before .args .s .now in rw (take-all (length xs - 0) xs (omega arith)) at (c .null-long .ensures)))

@@ -1,117 +1,72 @@
-use Rattle.prelude.proofs.Prelude.{needs, ℕ, List, _≤_, _-_, _≡_, sym, _∙_, ap, arith, length}
+-- At each place the first request of what is left is that of the whole element.
+use Rattle.prelude.proofs.Prelude.{needs, ℕ, List, _-_, _≡_, sym, _∙_, ap, arith, length, not-true, not-false}
 use Rattle.coding.specs.Reader.{part}
-use Rattle.facility.specs.Cut.{partsOf}
-use Rattle.pass.proofs.Order.{Rises}
-use Rattle.messages.specs.Trace.{componentsIn, firstRequest}
+use Rattle.facility.specs.{Element.elementOf, Cut.startsOf, Cut.partsOf}
+use Rattle.pass.proofs.Going.{Goes, Here, goes-first, goes-on, goes-none}
+use Rattle.messages.{specs.Trace.componentsIn, specs.Trace.firstRequest, proofs.Walk.in-other, proofs.Walk.in-parts}
 use Rattle.setups.specs.Asked.{askedOf}
-use Rattle.messages.proofs.Walk.{parts-none, parts-all, parts-over, tile-rises, tile-cons, rises-on, starts-long}
 use Rattle.setups.proofs.Requests.{asked-here, asked-next}
 use Rattle.setups.proofs.asked_in.Statement.{statement}
 use Rattle.setups.proofs.asked_in.Tie as tie
 
 abbrev Inv-loop : tie.InvT-loop
-Inv-loop s case starts count end i₀ i =
-    (i ≤ count) × (count ≤ 127) × (count ≤ length starts) × Rises (length s) (part starts i count)
-    × (firstRequest case (partsOf s (part starts i count)) ≡ firstRequest case (componentsIn s))
+Inv-loop s case place₀ found₀ place found =
+    (left : List ℕ) × Goes s place found left × (firstRequest case (partsOf s left) ≡ firstRequest case (componentsIn s))
 
 abbrev μ-loop : tie.MeasureT-loop
-μ-loop s case starts count end i₀ i = count - i
+μ-loop s case place₀ found₀ place found = length s - place
+
+-- the component that is found at the loop's place
+here : (c : tie.Then2 Inv-loop μ-loop) → let l = c .before .before in let e = l .before .before .before in let s = e .before .before in
+    Here (s .args .s .now) (l .loop .place) (l .loop .found) (l .loop .inv .0)
+here c = let l = c .before .before in goes-on _ _ _ (l .loop .inv .0) (l .loop .inv .1) (c .if2 .taken)
 
 returns : tie.Need-returns Inv-loop μ-loop
 returns c =
-    let e = c .before .before in
-    let s = e .before .before in
-    sym (ap (λ (l : List (List ℕ)). askedOf (firstRequest (s .args .case) l)) (parts-none (s .args .s .now) (e .tiles-of .result) (e .tiles-of .ensures .0) (c .if1 .taken)))
+    let p = c .before in
+    let x = p .before .before .args in
+    sym (ap (λ (l : List (List ℕ)). askedOf (firstRequest (x .case) l)) (in-other (x .s .now) (sym (p .is-profiled .ensures) ∙ not-true _ (c .if1 .taken))))
 
 loop-holds : tie.Need-loop-holds Inv-loop μ-loop
 loop-holds c =
-    let far = c .before .before .before in
-    let e = far .before in
-    let s = e .before .before in
-    let l = s .args .s .now in
-    let fine = c .before .before .if1 .left in
-    let w = c .wide .ensures .0 in (
-      omega arith,
-      omega (arith, w, e .tiles-of .ensures .1),
-      rw w (starts-long l (e .tiles-of .result) (e .tiles-of .ensures .0)),
-      rw w (tile-rises l (e .tiles-of .result) (e .tiles-of .ensures .0) fine),
-      rw w (ap (firstRequest (s .args .case)) (sym (parts-all l (e .tiles-of .result) (e .tiles-of .ensures .0) fine))),
+    let p = c .before .before in
+    let x = p .before .before .args in (
+      startsOf (elementOf (x .s .now)),
+      goes-first (x .s .now) (c .first .result) (c .first .ensures),
+      ap (firstRequest (x .case)) (sym (in-parts (x .s .now) (sym (p .is-profiled .ensures) ∙ not-false _ (c .before .if1 .left)))),
     )
-
-sub-asked-by : tie.Need-sub-asked-by Inv-loop μ-loop
-sub-asked-by c =
-    let a = c .before in
-    let l = a .before .before in
-    let far = l .before .before .before in
-    let far2 = far .before .before .before in
-    let s = far2 .before .args .s .now in
-    let r = rises-on s _ _ (l .loop .inv .2) (l .loop .i) (a .before .loop-test .taken) (a .wide2 .result) (c .stop-of .result) (a .wide2 .ensures .0) (c .stop-of .ensures) (l .loop .inv .3) in
-    omega (arith, r .1, r .2)
-
-part-start : tie.Need-part-asked-by-start Inv-loop μ-loop
-part-start c =
-    let a = c .before in
-    let l = a .before .before in
-    let far = l .before .before .before in
-    let far2 = far .before .before .before in
-    let s = far2 .before .args .s .now in
-    let r = rises-on s _ _ (l .loop .inv .2) (l .loop .i) (a .before .loop-test .taken) (a .wide2 .result) (c .stop-of .result) (a .wide2 .ensures .0) (c .stop-of .ensures) (l .loop .inv .3) in
-    omega (arith, r .1, r .2)
-
-part-end : tie.Need-part-asked-by-end Inv-loop μ-loop
-part-end c =
-    let a = c .before in
-    let l = a .before .before in
-    let far = l .before .before .before in
-    let far2 = far .before .before .before in
-    let s = far2 .before .args .s .now in
-    let r = rises-on s _ _ (l .loop .inv .2) (l .loop .i) (a .before .loop-test .taken) (a .wide2 .result) (c .stop-of .result) (a .wide2 .ensures .0) (c .stop-of .ensures) (l .loop .inv .3) in
-    omega (arith, r .1, r .2)
 
 returns-2 : tie.Need-returns-2 Inv-loop μ-loop
 unfolding part
 returns-2 c =
     let q = c .before .before in
     let t = q .before .before in
-    let a = t .before in
-    let l = a .before .before in
-    let far = l .before .before .before in
-    let far2 = far .before .before .before in
-    let x = far2 .before .args in
-    let s = x .s .now in
-    let more = tile-cons s _ _ (l .loop .inv .2) (l .loop .i) (a .before .loop-test .taken) (a .wide2 .result) (t .stop-of .result) (a .wide2 .ensures .0) (t .stop-of .ensures) in
-    asked-here (x .case) more (q .asked-by .result) (q .asked-by .ensures) (c .if2 .taken) ∙ ap askedOf (l .loop .inv .4)
+    let l = t .before .before in
+    asked-here _ (here t .parts) (q .asked-by .result) (q .asked-by .ensures) (c .if3 .taken) ∙ ap askedOf (l .loop .inv .2)
 
 loop-again : tie.Need-loop-again Inv-loop μ-loop
 unfolding part
 loop-again c =
-    let q = c .before .before in
+    let q = c .before .before .before in
     let t = q .before .before in
-    let a = t .before in
-    let l = a .before .before in
-    let far = l .before .before .before in
-    let far2 = far .before .before .before in
-    let x = far2 .before .args in
-    let s = x .s .now in
-    let r = rises-on s _ _ (l .loop .inv .2) (l .loop .i) (a .before .loop-test .taken) (a .wide2 .result) (t .stop-of .result) (a .wide2 .ensures .0) (t .stop-of .ensures) (l .loop .inv .3) in
-    let more = tile-cons s _ _ (l .loop .inv .2) (l .loop .i) (a .before .loop-test .taken) (a .wide2 .result) (t .stop-of .result) (a .wide2 .ensures .0) (t .stop-of .ensures) in (
-      omega arith,
-      l .loop .inv .1,
-      l .loop .inv .2,
-      r .0,
-      asked-next (x .case) more (q .asked-by .result) (q .asked-by .ensures) (c .if2 .left) ∙ l .loop .inv .4,
+    let l = t .before .before in (
+      here t .rest,
+      here t .onward (c .onward .result) (c .onward .ensures),
+      asked-next _ (here t .parts) (q .asked-by .result) (q .asked-by .ensures) (c .before .if3 .left) ∙ l .loop .inv .2,
     )
 
 returns-3 : tie.Need-returns-3 Inv-loop μ-loop
 returns-3 c =
-    let l = c .before in
-    let far = l .before .before .before in
-    let far2 = far .before .before .before in
-    let x = far2 .before .args in
-    ap askedOf (sym (ap (firstRequest (x .case)) (parts-over (x .s .now) _ _ (l .loop .inv .2) (l .loop .i) (c .loop-test .left))) ∙ l .loop .inv .4)
+    let l = c .before .before in
+    let p = l .before .before .before in
+    let x = p .before .before .args in
+    let none = goes-none _ _ _ (l .loop .inv .0) (l .loop .inv .1) (c .if2 .left) in
+    ap askedOf (sym (ap (λ (k : List ℕ). firstRequest (x .case) (partsOf (x .s .now) k)) none) ∙ l .loop .inv .2)
 
 pub asked-in-spec : {M : Type 1} → statement M
 asked-in-spec =
     tie.close
-    (tie.spec Inv-loop μ-loop (search needs) returns (search needs) loop-holds (λ c. omega (arith, c .before .loop .inv .1, c .loop-test .taken)) (search needs)
-    (λ c κs. (c .before .loop-test .taken, c .before .before .loop .inv .1)) sub-asked-by part-start part-end (search needs) returns-2 (omega arith) (omega arith) loop-again returns-3)
+    (tie.spec Inv-loop μ-loop (search needs) returns (search needs) loop-holds (λ c. omega (arith, here c .begins, here c .ends))
+    (λ c. omega (arith, here c .begins, here c .ends)) (λ c. omega (arith, here c .begins, here c .ends)) (search needs) returns-2
+    (λ c κs. let t = c .before .before .before in here (t .before) .along)
+    (λ c. let q = c .before .before .before in let t = q .before .before in omega (arith, here t .begins, here t .ends)) loop-again returns-3)

@@ -16,64 +16,62 @@ Inv-loop rows₀ out₀ s start end q₀ under₀ at₀ rows out q under at =
 abbrev μ-loop : tie.MeasureT-loop
 μ-loop rows₀ out₀ s start end q₀ under₀ at₀ rows out q under at = length s - at
 
+-- the function's start, the loop's place, and where an element's end is known
+abbrev start : tie.At-loop Inv-loop μ-loop → tie.Start Inv-loop μ-loop
+start l = let b = l .before .before .before in b .before
+
+abbrev loop : tie.After-element-end Inv-loop μ-loop → tie.At-loop Inv-loop μ-loop
+loop e = e .before .before
+
+abbrev ended : tie.After-put-at Inv-loop μ-loop → tie.After-element-end Inv-loop μ-loop
+ended p = p .before .before .before
+
+inside-at : (e : tie.After-element-end Inv-loop μ-loop) → e .element-end .result ≤ length (start (loop e) .args .s .now)
+inside-at e = let l = loop e in next-inside (start l .args .s .now) (l .loop .at) (e .before .loop-test .taken) (l .loop .inv .1) (e .element-end .result) (e .element-end .ensures)
+
 loop-holds : tie.Need-loop-holds Inv-loop μ-loop
 loop-holds c = let s = c .before .before .before in (s .pre .0, s .pre .1, progress-starts (s .pre .2))
 
 put-at-requires : tie.Need-put-at-requires Inv-loop μ-loop
 put-at-requires c κs =
     let e = c .before .before in
-    let l = e .before .before in
-    let far = l .before .before .before in
-    let s = far .before .args .s .now in
+    let l = loop e in
+    let s = start l .args .s .now in
     let at = l .loop .at in
-    let more = e .before .loop-test .taken in
     let is = e .element-end .ensures in
-    let inside = next-inside s at more (l .loop .inv .1) (e .element-end .result) is in
-    let octet : getD s (at + 1) 0 < 256 = omega (arith, l .before .shared-slice-known .given (at + 1)) in
-    let near = end-near s at octet in (
+    let octet : getD s (at + 1) 0 < 256 = omega (arith, l .before .shared-slice-known .given (at + 1)) in (
       omega (arith, is, end-past s at),
-      inside,
+      inside-at e,
       is,
-      omega (arith, is, near),
-      rooms-head _ (rooms-as (events-more s at more (l .loop .inv .1) (e .element-end .result) is (l .loop .under) _ refl) (l .loop .inv .2 .room)),
+      omega (arith, is, end-near s at octet),
+      rooms-head _ (rooms-as (events-more s at (e .before .loop-test .taken) (l .loop .inv .1) (e .element-end .result) is (l .loop .under) _ refl) (l .loop .inv .2 .room)),
     )
 
 loop-less : tie.Need-loop-less Inv-loop μ-loop
 loop-less c =
-    let far = c .before .before .before in
-    let far2 = far .before .before .before in
-    let e = far2 .before .before .before in
-    let l = e .before .before in
-    let far = l .before .before .before in
-    let s = far .before .args .s .now in
-    let more = e .before .loop-test .taken in
-    let is = e .element-end .ensures in
-    omega (arith, is, end-past s (l .loop .at), more, next-inside s (l .loop .at) more (l .loop .inv .1) (e .element-end .result) is)
+    let o = c .before .before .before in
+    let e = ended (o .before .before .before) in
+    omega (arith, e .element-end .ensures, end-past (start (loop e) .args .s .now) (loop e .loop .at), e .before .loop-test .taken, inside-at e)
 
 loop-again : tie.Need-loop-again Inv-loop μ-loop
 loop-again c =
-    let far = c .before .before .before in
-    let p = far .before .before .before in
-    let e = p .before .before .before in
-    let l = e .before .before in
-    let far = l .before .before .before in
-    let s = far .before .args .s .now in
-    let at = l .loop .at in
+    let o = c .before .before .before in
+    let p = o .before .before .before in
+    let e = ended p in
+    let l = loop e in
+    let s = start l .args .s .now in
     let more = e .before .loop-test .taken in
-    let is = e .element-end .ensures in
-    let inside = next-inside s at more (l .loop .inv .1) (e .element-end .result) is in (
-      inside,
-      sym (fit-more s at more (e .element-end .result) is inside) ∙ l .loop .inv .1,
-      progress-more _ (progress-as (events-more s at more (l .loop .inv .1) (e .element-end .result) is (l .loop .under) (c .under-after .result) (c .under-after .ensures))
+    let is = e .element-end .ensures in (
+      inside-at e,
+      sym (fit-more s (l .loop .at) more (e .element-end .result) is (inside-at e)) ∙ l .loop .inv .1,
+      progress-more _ (progress-as (events-more s (l .loop .at) more (l .loop .inv .1) (e .element-end .result) is (l .loop .under) (c .under-after .result) (c .under-after .ensures))
           (l .loop .inv .2)) (p .put-at .ensures),
     )
 
 returns : tie.Need-returns Inv-loop μ-loop
 returns c =
     let l = c .before in
-    let far = l .before .before .before in
-    let s = far .before .args .s .now in
-    progress-ends (progress-as (events-over s (l .loop .at) (l .loop .under) (l .loop .inv .0) (c .loop-test .left)) (l .loop .inv .2))
+    progress-ends (progress-as (events-over (start l .args .s .now) (l .loop .at) (l .loop .under) (l .loop .inv .0) (c .loop-test .left)) (l .loop .inv .2))
 
 pub put-elements-spec : {M : Type 1} → statement M
 put-elements-spec =

@@ -1,138 +1,79 @@
-use Rattle.prelude.proofs.Prelude.{_≤_, _-_, sym, ap, arith, length}
+-- At each place the components of what is left of the element are still to be laid.
+use Rattle.prelude.proofs.Prelude.{ℕ, List, _-_, sym, ap, _∙_, arith, length, not-true, not-false}
 use Rattle.coding.{specs.Reader.part, proofs.Parts.part-length}
-use Rattle.facility.specs.{Cut.partsOf}
-use Rattle.pass.proofs.Order.{Rises}
-use Rattle.messages.specs.Trace.{componentsIn, componentEvents}
+use Rattle.facility.specs.{Element.elementOf, Cut.startsOf, Cut.partsOf}
+use Rattle.pass.proofs.Going.{Goes, Here, goes-first, goes-on, goes-none}
+use Rattle.messages.{specs.Trace.componentsIn, specs.Trace.componentEvents, proofs.Walk.in-other, proofs.Walk.in-parts}
 use Rattle.trace.specs.Putting.{Progress}
 use Rattle.trace.proofs.Laying.{puts-none, puts-as, rooms-head, rooms-as, progress-starts, progress-as, progress-more, progress-ends}
-use Rattle.messages.proofs.Walk.{parts-none, parts-all, tile-rises, tile-more, rises-on, tile-over, starts-long}
 use Rattle.trace.proofs.put_tiles.Statement.{statement}
 use Rattle.trace.proofs.put_tiles.Tie as tie
 
 abbrev Inv-loop : tie.InvT-loop
-Inv-loop rows₀ out₀ s starts count end q₀ i₀ rows out q i =
-    (i ≤ count) × (count ≤ 127) × (count ≤ length starts) × Rises (length s) (part starts i count)
-    × Progress rows₀ rows out₀ out q₀ q (componentEvents (partsOf s (part starts i count))) (componentEvents (componentsIn s))
+Inv-loop rows₀ out₀ s q₀ place₀ found₀ rows out q place found =
+    (left : List ℕ) × Goes s place found left × Progress rows₀ rows out₀ out q₀ q (componentEvents (partsOf s left)) (componentEvents (componentsIn s))
 
 abbrev μ-loop : tie.MeasureT-loop
-μ-loop rows₀ out₀ s starts count end q₀ i₀ rows out q i = count - i
+μ-loop rows₀ out₀ s q₀ place₀ found₀ rows out q place found = length s - place
+
+-- the function's start, from the state after its first call
+abbrev start : tie.After-is-profiled Inv-loop μ-loop → tie.Start Inv-loop μ-loop
+start p = let k = p .before .before in k .before .before
+
+abbrev start-of : tie.At-loop Inv-loop μ-loop → tie.Start Inv-loop μ-loop
+start-of l = let e = l .before .before in start (e .before)
+
+-- the component that is found at the loop's place, and the events that are left then
+here : (c : tie.Then2 Inv-loop μ-loop) → let l = c .before .before in Here (start-of l .args .s .now) (l .loop .place) (l .loop .found) (l .loop .inv .0)
+here c = let l = c .before .before in goes-on _ _ _ (l .loop .inv .0) (l .loop .inv .1) (c .if2 .taken)
 
 returns : tie.Need-returns Inv-loop μ-loop
 returns c =
-    let e = c .before .before in
-    let far = e .before .before .before in
-    let s = far .before in
-    puts-as (sym (ap componentEvents (parts-none (s .args .s .now) (e .tiles-of .result) (e .tiles-of .ensures .0) (c .if1 .taken)))) (puts-none _ _ _)
+    let p = c .before in
+    puts-as (sym (ap componentEvents (in-other (start p .args .s .now) (sym (p .is-profiled .ensures) ∙ not-true _ (c .if1 .taken))))) (puts-none _ _ _)
 
 loop-holds : tie.Need-loop-holds Inv-loop μ-loop
 loop-holds c =
-    let far = c .before .before .before in
-    let e = far .before in
-    let far = e .before .before .before in
-    let s = far .before in
-    let l = s .args .s .now in
-    let fine = c .before .before .if1 .left in
-    let all = ap componentEvents (parts-all l (e .tiles-of .result) (e .tiles-of .ensures .0) fine) in
-    let w = c .wide .ensures .0 in (
-      omega arith,
-      omega (arith, w, e .tiles-of .ensures .1),
-      rw w (starts-long l (e .tiles-of .result) (e .tiles-of .ensures .0)),
-      rw w (tile-rises l (e .tiles-of .result) (e .tiles-of .ensures .0) fine),
-      rw w (progress-as all (progress-starts (s .pre .1))),
+    let p = c .before .before in
+    let s = start p .args .s .now in (
+      startsOf (elementOf s),
+      goes-first s (c .first .result) (c .first .ensures),
+      progress-as (ap componentEvents (in-parts s (sym (p .is-profiled .ensures) ∙ not-false _ (c .before .if1 .left)))) (progress-starts (start p .pre .1)),
     )
-
--- the facts of one turn
-sub-put-component : tie.Need-sub-put-component Inv-loop μ-loop
-sub-put-component c =
-    let b = c .before .before in
-    let a = b .before in
-    let l = a .before .before in
-    let far = l .before .before .before in
-    let far2 = far .before .before .before in
-    let s = far2 .before .before .before .args .s .now in
-    let r = rises-on s _ _ (l .loop .inv .2) (l .loop .i) (a .before .loop-test .taken) (a .wide2 .result) (b .stop-of .result) (a .wide2 .ensures .0) (b .stop-of .ensures) (l .loop .inv .3) in
-    omega (arith, r .1, r .2)
-
-part-start : tie.Need-part-put-component-start Inv-loop μ-loop
-part-start c =
-    let b = c .before .before in
-    let a = b .before in
-    let l = a .before .before in
-    let far = l .before .before .before in
-    let far2 = far .before .before .before in
-    let s = far2 .before .before .before .args .s .now in
-    let r = rises-on s _ _ (l .loop .inv .2) (l .loop .i) (a .before .loop-test .taken) (a .wide2 .result) (b .stop-of .result) (a .wide2 .ensures .0) (b .stop-of .ensures) (l .loop .inv .3) in
-    omega (arith, r .1, r .2)
-
-part-end : tie.Need-part-put-component-end Inv-loop μ-loop
-part-end c =
-    let b = c .before .before in
-    let a = b .before in
-    let l = a .before .before in
-    let far = l .before .before .before in
-    let far2 = far .before .before .before in
-    let s = far2 .before .before .before .args .s .now in
-    let r = rises-on s _ _ (l .loop .inv .2) (l .loop .i) (a .before .loop-test .taken) (a .wide2 .result) (b .stop-of .result) (a .wide2 .ensures .0) (b .stop-of .ensures) (l .loop .inv .3) in
-    omega (arith, r .1, r .2)
 
 put-component-requires : tie.Need-put-component-requires Inv-loop μ-loop
 unfolding part
 put-component-requires c κs =
-    let b = c .before .before .before in
-    let a = b .before in
-    let l = a .before .before in
-    let far = l .before .before .before in
-    let far2 = far .before .before .before in
-    let st = far2 .before .before .before in
-    let s = st .args .s .now in
-    let r = rises-on s _ _ (l .loop .inv .2) (l .loop .i) (a .before .loop-test .taken) (a .wide2 .result) (b .stop-of .result) (a .wide2 .ensures .0) (b .stop-of .ensures) (l .loop .inv .3) in
-    let more = tile-more s _ _ (l .loop .inv .2) (l .loop .i) (a .before .loop-test .taken) (a .wide2 .result) (b .stop-of .result) (a .wide2 .ensures .0) (b .stop-of .ensures) in
-    (omega (arith, st .pre .0, part-length s (a .wide2 .result) (b .stop-of .result) (r .2)), rooms-head _ (rooms-as more (l .loop .inv .4 .room)))
+    let t = c .before .before .before in
+    let h = here t in
+    let l = t .before .before in
+    (omega (arith, start-of l .pre .0, part-length (start-of l .args .s .now) (l .loop .place) (l .loop .found .after) (h .ends)), rooms-head _ (rooms-as (ap componentEvents (h .parts)) (l .loop .inv .2 .room)))
+
+-- the state after a component is laid, from the one at the turn's end
+abbrev laid : tie.After-slice-known4 Inv-loop μ-loop → tie.After-put-component Inv-loop μ-loop
+laid c = let o = c .before .before in o .before .before
+
+abbrev turn : tie.After-slice-known4 Inv-loop μ-loop → tie.Then2 Inv-loop μ-loop
+turn c = let a = laid c .before .before in a .before .before
 
 loop-again : tie.Need-loop-again Inv-loop μ-loop
 unfolding part
 loop-again c =
-    let far = c .before .before .before in
-    let p = far .before in
-    let far = p .before .before .before in
-    let b = far .before in
-    let a = b .before in
-    let l = a .before .before in
-    let far = l .before .before .before in
-    let far2 = far .before .before .before in
-    let s = far2 .before .before .before .args .s .now in
-    let r = rises-on s _ _ (l .loop .inv .2) (l .loop .i) (a .before .loop-test .taken) (a .wide2 .result) (b .stop-of .result) (a .wide2 .ensures .0) (b .stop-of .ensures) (l .loop .inv .3) in
-    let more = tile-more s _ _ (l .loop .inv .2) (l .loop .i) (a .before .loop-test .taken) (a .wide2 .result) (b .stop-of .result) (a .wide2 .ensures .0) (b .stop-of .ensures) in
-    (omega arith, l .loop .inv .1, l .loop .inv .2, r .0, progress-more _ (progress-as more (l .loop .inv .4)) (p .put-component .ensures))
+    let t = turn (c .before) in
+    let l = t .before .before in
+    let h = here t in
+    (h .rest, h .onward (c .onward .result) (c .onward .ensures), progress-more _ (progress-as (ap componentEvents (h .parts)) (l .loop .inv .2)) (laid (c .before) .put-component .ensures))
 
 returns-2 : tie.Need-returns-2 Inv-loop μ-loop
 returns-2 c =
-    let l = c .before in
-    let far = l .before .before .before in
-    let far2 = far .before .before .before in
-    let s = far2 .before .before .before .args .s .now in
-    progress-ends (progress-as (tile-over s _ _ (l .loop .inv .2) (l .loop .i) (c .loop-test .left)) (l .loop .inv .4))
+    let l = c .before .before in
+    let none = goes-none _ _ _ (l .loop .inv .0) (l .loop .inv .1) (c .if2 .left) in
+    progress-ends (progress-as (ap (λ (k : List ℕ). componentEvents (partsOf (start-of l .args .s .now) k)) none) (l .loop .inv .2))
 
 pub put-tiles-spec : {M : Type 1} → statement M
 put-tiles-spec =
     tie.close
-    (tie.spec
-    Inv-loop
-    μ-loop
-    (omega arith)
-    returns
-    (omega arith)
-    loop-holds
-    (λ c. omega (arith, c .before .loop .inv .1, c .loop-test .taken))
-    (omega arith)
-    (λ c κs. (c .before .loop-test .taken, c .before .before .loop .inv .1))
-    sub-put-component
-    part-start
-    part-end
-    put-component-requires
-    (omega arith)
-    (omega arith)
-    loop-again
-    (λ c. c .before .loop .inv .4 .laid .in-rows .kept)
-    (λ c. c .before .loop .inv .4 .laid .in-out .kept)
-    returns-2)
+    (tie.spec Inv-loop μ-loop (omega arith) returns (omega arith) loop-holds (λ c. let h = here (c .before .before) in omega (arith, h .begins, h .ends))
+    (λ c. let h = here (c .before .before) in omega (arith, h .begins, h .ends)) (λ c. let h = here (c .before .before) in omega (arith, h .begins, h .ends)) put-component-requires
+    (λ c κs. here (turn c) .along) (λ c. let h = here (turn (c .before)) in omega (arith, h .begins, h .ends)) loop-again
+    (λ c. let l = c .before .before in l .loop .inv .2 .laid .in-rows .kept) (λ c. let l = c .before .before in l .loop .inv .2 .laid .in-out .kept) returns-2)

@@ -1,5 +1,5 @@
-use Rattle.prelude.proofs.Prelude.{arith, _≡_, _-_, _/_, length, true, false, refl}
-use Rattle.framing.specs.Framing.{Passing, messagesFrom, messagesOf}
+use Rattle.prelude.proofs.Prelude.{arith, _≡_, _≤_, _+_, _-_, _/_, _∷_, length, take, drop, true, false, refl}
+use Rattle.framing.specs.Framing.{Passing, byNetwork, messagesFrom, messagesOf}
 use Rattle.messages.specs.Trace.{allFramed, traceFrom}
 use Rattle.trace.specs.Putting.{Progress}
 use Rattle.framing.proofs.Laws.{passing-starts, passes-on, inside, from-start, next-message, nothing-left}
@@ -16,6 +16,32 @@ Inv-loop rows₀ out₀ pairs octets call n q₀ cleared₀ at₀ i₀ rows out 
 abbrev μ-loop : tie.MeasureT-loop
 μ-loop rows₀ out₀ pairs octets call n q₀ cleared₀ at₀ i₀ rows out q cleared at i = n - i
 
+-- the function's start, the loop's place, and where a message's size is known
+abbrev start : tie.At-loop Inv-loop μ-loop → tie.Start Inv-loop μ-loop
+start l = let b = l .before .before .before in b .before .before
+
+abbrev loop : tie.After-size Inv-loop μ-loop → tie.At-loop Inv-loop μ-loop
+loop z = z .before .before .before
+
+abbrev sized : tie.After-put-next Inv-loop μ-loop → tie.After-size Inv-loop μ-loop
+sized p = let a = p .before .before .before in a .before .before
+
+-- the message at the loop's place lies inside, and the others come after it
+inside-at : (z : tie.After-size Inv-loop μ-loop) → loop z .loop .at + z .size .result ≤ length (start (loop z) .args .octets .now)
+inside-at z =
+    let l = loop z in
+    let x = start l .args in
+    omega (arith, z .size .ensures, inside (x .pairs .now) (x .octets .now) (l .loop .i) (l .loop .at) (l .loop .inv .0) (z .before .before .loop-test .taken))
+
+next : (z : tie.After-size Inv-loop μ-loop) → let l = loop z in let x = start l .args in
+    messagesFrom (x .pairs .now) (x .octets .now) (l .loop .i) (length (x .pairs .now) / 2 - l .loop .i) (l .loop .at)
+    ≡ record { octets = take (l .loop .at + z .size .result - l .loop .at) (drop (l .loop .at) (x .octets .now)); network = byNetwork (x .pairs .now) (l .loop .i) }
+    ∷ messagesFrom (x .pairs .now) (x .octets .now) (l .loop .i + 1) (length (x .pairs .now) / 2 - (l .loop .i + 1)) (l .loop .at + z .size .result)
+next z =
+    let l = loop z in
+    let x = start l .args in
+    next-message (x .pairs .now) (x .octets .now) (l .loop .i) (l .loop .at) (l .loop .inv .0) (z .before .before .loop-test .taken) (z .size .result) (z .size .ensures)
+
 loop-holds : tie.Need-loop-holds Inv-loop μ-loop
 loop-holds c =
     let far = c .before .before .before in
@@ -24,108 +50,45 @@ loop-holds c =
     let e = from-start (x .pairs .now) (x .octets .now) in
     (passing-starts (x .pairs .now) (x .octets .now) (s .pre .0), rw e (s .pre .1), rw e (progress-starts (s .pre .2)))
 
-add-end : tie.Need-add-end Inv-loop μ-loop
-add-end c =
-    let z = c in
-    let l = z .before .before .before in
-    let far = l .before .before .before in
-    let s = far .before .before in
-    let x = s .args in
-    let more = z .before .before .loop-test .taken in
-    let going = l .loop .inv .0 in
-    let next = next-message (x .pairs .now) (x .octets .now) (l .loop .i) (l .loop .at) going more (z .size .result) (z .size .ensures) in
-    let f = framed-more next (l .loop .inv .1) in
-    omega (arith, z .size .ensures, inside (x .pairs .now) (x .octets .now) (l .loop .i) (l .loop .at) going more)
-
-part-end : tie.Need-part-put-next-end Inv-loop μ-loop
-part-end c =
-    let z = c .before .before .before in
-    let l = z .before .before .before in
-    let far = l .before .before .before in
-    let s = far .before .before in
-    let x = s .args in
-    let more = z .before .before .loop-test .taken in
-    let going = l .loop .inv .0 in
-    let next = next-message (x .pairs .now) (x .octets .now) (l .loop .i) (l .loop .at) going more (z .size .result) (z .size .ensures) in
-    let f = framed-more next (l .loop .inv .1) in
-    omega (arith, z .size .ensures, inside (x .pairs .now) (x .octets .now) (l .loop .i) (l .loop .at) going more)
-
 put-next-requires : tie.Need-put-next-requires Inv-loop μ-loop
 put-next-requires c κs =
-    let far = c .before .before .before in
-    let z = far .before in
-    let l = z .before .before .before in
-    let far = l .before .before .before in
-    let s = far .before .before in
-    let x = s .args in
-    let more = z .before .before .loop-test .taken in
-    let going = l .loop .inv .0 in
-    let next = next-message (x .pairs .now) (x .octets .now) (l .loop .i) (l .loop .at) going more (z .size .result) (z .size .ensures) in
-    let f = framed-more next (l .loop .inv .1) in
-    (f .0, rooms-head _ (rooms-as (trace-more (x .call) (l .loop .cleared) next _ refl) (l .loop .inv .2 .room)))
+    let a = c .before .before in
+    let z = a .before .before in
+    let l = loop z in
+    (framed-more (next z) (l .loop .inv .1) .0, rooms-head _ (rooms-as (trace-more (start l .args .call) (l .loop .cleared) (next z) _ refl) (l .loop .inv .2 .room)))
 
 part-end-2 : tie.Need-part-cleared-by-end Inv-loop μ-loop
 part-end-2 c =
-    let far = c .before .before .before in
-    let far2 = far .before .before .before in
-    let z = far2 .before .before .before in
-    let l = z .before .before .before in
-    let far = l .before .before .before in
-    let s = far .before .before in
-    let x = s .args in
-    let more = z .before .before .loop-test .taken in
-    let going = l .loop .inv .0 in
-    let next = next-message (x .pairs .now) (x .octets .now) (l .loop .i) (l .loop .at) going more (z .size .result) (z .size .ensures) in
-    let f = framed-more next (l .loop .inv .1) in
-    omega (arith, z .size .ensures, inside (x .pairs .now) (x .octets .now) (l .loop .i) (l .loop .at) going more)
+    let o = c .before .before in
+    omega (arith, inside-at (sized (o .before .before)))
 
 cleared-by-requires : tie.Need-cleared-by-requires Inv-loop μ-loop
 cleared-by-requires c κs =
-    let far = c .before .before .before in
-    let far2 = far .before .before .before in
-    let far3 = far2 .before .before .before in
-    let z = far3 .before in
-    let l = z .before .before .before in
-    let far = l .before .before .before in
-    let s = far .before .before in
-    let x = s .args in
-    let more = z .before .before .loop-test .taken in
-    let going = l .loop .inv .0 in
-    let next = next-message (x .pairs .now) (x .octets .now) (l .loop .i) (l .loop .at) going more (z .size .result) (z .size .ensures) in
-    let f = framed-more next (l .loop .inv .1) in
-    f .0
+    let o = c .before .before .before in
+    let z = sized (o .before .before) in
+    framed-more (next z) (loop z .loop .inv .1) .0
 
 loop-again : tie.Need-loop-again Inv-loop μ-loop
 loop-again c =
-    let far = c .before .before .before in
-    let p = far .before .before .before in
-    let far = c .before .before .before in
-    let far2 = far .before .before .before in
-    let far3 = far2 .before .before .before in
-    let z = far3 .before .before in
-    let l = z .before .before .before in
-    let far = l .before .before .before in
-    let s = far .before .before in
-    let x = s .args in
-    let more = z .before .before .loop-test .taken in
-    let going = l .loop .inv .0 in
-    let next = next-message (x .pairs .now) (x .octets .now) (l .loop .i) (l .loop .at) going more (z .size .result) (z .size .ensures) in
-    let f = framed-more next (l .loop .inv .1) in (
-      passes-on (x .pairs .now) (x .octets .now) (l .loop .i) (l .loop .at) going more (z .size .result) (z .size .ensures),
-      f .1,
-      progress-more _ (progress-as (trace-more (x .call) (l .loop .cleared) next (c .cleared-by .result) (c .cleared-by .ensures)) (l .loop .inv .2)) (p .put-next .ensures),
+    let o = c .before .before .before in
+    let p = o .before .before .before in
+    let z = sized p in
+    let l = loop z in
+    let x = start l .args in (
+      passes-on (x .pairs .now) (x .octets .now) (l .loop .i) (l .loop .at) (l .loop .inv .0) (z .before .before .loop-test .taken) (z .size .result) (z .size .ensures),
+      framed-more (next z) (l .loop .inv .1) .1,
+      progress-more _ (progress-as (trace-more (x .call) (l .loop .cleared) (next z) (c .cleared-by .result) (c .cleared-by .ensures)) (l .loop .inv .2)) (p .put-next .ensures),
     )
 
 returns : tie.Need-returns Inv-loop μ-loop
 returns c =
     let l = c .before in
-    let far = l .before .before .before in
-    let x = far .before .before .args in
+    let x = start l .args in
     progress-ends (progress-as (trace-over (x .call) (l .loop .cleared) (nothing-left (x .pairs .now) (x .octets .now) (l .loop .i) (l .loop .at) (c .loop-test .left))) (l .loop .inv .2))
 
 pub put-trace-spec : {M : Type 1} → statement M
 put-trace-spec =
     tie.close
-    (tie.spec Inv-loop μ-loop loop-holds (omega arith) (omega arith) (omega arith) (omega arith) add-end (omega arith) (omega arith) (omega arith) (omega arith)
-    (omega arith) (omega arith) part-end put-next-requires (omega arith) (omega arith) part-end-2 cleared-by-requires (omega arith) (omega arith) loop-again
+    (tie.spec Inv-loop μ-loop loop-holds (omega arith) (omega arith) (omega arith) (omega arith) (λ c. omega (arith, inside-at c)) (omega arith) (omega arith) (omega arith) (omega arith)
+    (omega arith) (omega arith) (λ c. omega (arith, inside-at (c .before .before .before))) put-next-requires (omega arith) (omega arith) part-end-2 cleared-by-requires (omega arith) (omega arith) loop-again
     (λ c. c .before .loop .inv .2 .laid .in-rows .kept) (λ c. c .before .loop .inv .2 .laid .in-out .kept) returns)

@@ -23,10 +23,10 @@ invoke-at-spec =
     let e = o .before in
     let i = e .before .before in (
       rw invoke-read (refused _ _ (c .halted2 .ensures) (c .before .if2 .taken)
-          (step _ _ _ _ (i .identifier-at .ensures .0) (e .if1 .left) (stay _ _ _ _ (o .value-at .ensures .0) (c .before .if2 .taken)))),
+          (step _ _ _ _ (i .identifier-at .ensures .0) (e .if1 .left) (stay _ _ _ _ (o .operation-at .ensures .0) (c .before .if2 .taken)))),
       zero-spare (i .before .before .pre .1 .front-bare),
     ))
-    (λ c. let f = c .before in let h = has-below 256 trunkOperations _ refl (f .before .before .value-at .ensures .1 .1 (f .if2 .left)) in omega (arith, h))
+    (λ c. let f = c .before in let h = has-below 256 trunkOperations _ refl (f .before .before .operation-at .ensures .1 (f .if2 .left)) in omega (arith, h))
     (λ c κs.
     let l = c .before .before in
     let m = l .before .before .before in
@@ -35,7 +35,7 @@ invoke-at-spec =
     let e = o .before in
     let i = e .before .before in
     let p = i .before .before .pre in
-    ((p .0, o .value-at .ensures .1 .1 (f .if2 .left)), p .1)) (search needs) (search needs)
+    ((p .0, o .operation-at .ensures .1 (f .if2 .left)), p .1)) (search needs) (search needs)
     (λ c.
     let t = c .before .before in
     let b = t .before .before in
@@ -47,7 +47,7 @@ invoke-at-spec =
     let i = e .before .before in
     let told = c .before .inner .ensures in (
       rw invoke-read (refused _ _ (c .halted3 .ensures) (λ z. inner-some _ (t .if3 .taken) (sym told ∙ z)) (rw told
-          (step _ _ _ _ (i .identifier-at .ensures .0) (e .if1 .left) (step _ _ _ _ (o .value-at .ensures .0) (f .if2 .left) (stay-in _ _ _ _ (b .argument-at .ensures .0) (t .if3 .taken)))))),
+          (step _ _ _ _ (i .identifier-at .ensures .0) (e .if1 .left) (step _ _ _ _ (o .operation-at .ensures .0) (f .if2 .left) (stay-in _ _ _ _ (b .argument-at .ensures .0) (t .if3 .taken)))))),
       b .argument-at .ensures .1,
     )) (search needs)
     (λ c κs. let g = c .before .before in g .before .before .argument-at .ensures .1) (search needs)
@@ -62,6 +62,6 @@ invoke-at-spec =
     let e = o .before in
     let i = e .before .before in (
       arrived _ _ (c .reached .ensures)
-          (invoke-whole _ _ _ _ _ (i .identifier-at .ensures .0) (e .if1 .left) (o .value-at .ensures .0) (f .if2 .left) (b .argument-at .ensures .0) (g .if3 .left) (k .keep-lead .ensures .0 _ _)),
+          (invoke-whole _ _ _ _ _ (i .identifier-at .ensures .0) (e .if1 .left) (o .operation-at .ensures .0) (f .if2 .left) (b .argument-at .ensures .0) (g .if3 .left) (k .keep-lead .ensures .0 _ _)),
       k .keep-lead .ensures .1,
     )))

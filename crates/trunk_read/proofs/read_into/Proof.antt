@@ -4,7 +4,7 @@ use Rattle.coding.specs.Reader.{part}
 use Rattle.types.specs.Stored.{figureIn}
 use Rattle.trunks.specs.{Stored.bodyIn, Stored.trunkIn, Components.noTrunk, Components.trunkAccepted}
 use Rattle.read_figures.proofs.Answers.{is-stored}
-use Rattle.trunk_read.proofs.{Whole.too-long, Whole.accepts, Whole.refuses, Whole.placed, read_into.Statement.statement}
+use Rattle.trunk_read.proofs.{Whole.too-long, Whole.accepts, Whole.refuses, Whole.placed, Whole.one-octet, read_into.Statement.statement}
 use Rattle.trunk_read.proofs.read_into.Tie as tie
 
 pub read-into-spec : {M : Type 1} → statement M
@@ -19,15 +19,7 @@ read-into-spec =
     let short = a .before .before .before in
     let e = r .component-at .ensures in
     (ap trunkAccepted (sym (is-stored noTrunk _ (c .if2 .taken))) ∙ accepts _ (short .if1 .left) (e .0) (c .if2 .taken), e .1))
-    (search needs)
-    (λ c κs.
-    let w = c .before .before .before in
-    let bad = w .before .before .before in
-    let r = bad .before .before in
-    let a = r .before .before .before in
-    let short = a .before .before .before in
-    placed _ (short .if1 .left) (r .component-at .ensures .0))
-    (search needs)
+    (search needs) (search needs) (search needs)
     (λ c.
     let n = c .before in
     let w = n .before .before .before in
@@ -35,4 +27,4 @@ read-into-spec =
     let r = bad .before .before in
     let a = r .before .before .before in
     let short = a .before .before .before in
-    (rw (c .offset-of .ensures, n .number-of .ensures) (refuses _ (short .if1 .left) (r .component-at .ensures .0) (bad .if2 .left)), refl)))
+    (rw (c .offset-of .ensures, one-octet _ _ (placed _ (short .if1 .left) (r .component-at .ensures .0)), n .number-of .ensures) (refuses _ (short .if1 .left) (r .component-at .ensures .0) (bad .if2 .left)), refl)))

@@ -1,4 +1,4 @@
-use Rattle.prelude.proofs.Prelude.{arith, _∙_, sym}
+use Rattle.prelude.proofs.Prelude.{_-_, arith, _∙_, sym, take-all, length, length-take}
 use Rattle.read_heads.proofs.{Short.tiny-value, values.value_at.Statement.statement}
 use Rattle.read_heads.proofs.values.value_at.Tie as tie
 
@@ -11,4 +11,6 @@ value-at-spec =
           (sym (c .before .is-known .ensures) ∙ c .if2 .taken),
       omega arith,
     ))
-    (omega arith) (λ c. c .value-long .ensures))
+    (omega arith) (λ c. omega arith) (λ c. omega arith)
+    (λ c κs. simp (length-take) (omega (arith, c .before .before .before .before .pre)))
+    (λ c. let xs = c .before .before .before .before .before .args .s .now in rw (take-all (length xs - 0) xs (omega arith)) at (c .value-long .ensures)))

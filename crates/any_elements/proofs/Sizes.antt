@@ -1,0 +1,269 @@
+-- Elements up to an end, by the first of them: what the numbers that tell of them say.
+use Rattle.prelude.proofs.Prelude.{ℕ, _+_, _-_, _*_, _/_, _%_, _≤_, _<_, _≡_, refl, sym, ap, _∙_, List, _∷_, _++_, Bool, true, false, _&&_, not, cond, arith, length, getD, length-append}
+use Rattle.prelude.proofs.Ways.{by-cases}
+use Rattle.prelude.proofs.Prelude.{eqb, ltb, leb, lt-leb, le-leb, leb-false, lt-ltb, le-ltb, eq-eqb, ne-eqb, eqb-true, eqb-false, replicate, length-replicate, and-false}
+use Rattle.coding.{specs.declared.Extent.Extent, specs.Reader.Ans, specs.Reader.Fault, specs.Reader.got, specs.Reader.halt, specs.Reader.code, specs.Reader.after, specs.Reader.opened, specs.Reader.composite, specs.Reader.constructed, specs.Reader.choice, specs.Reader.lengthAt, specs.Reader.numberedAt}
+use Rattle.coding.{specs.Reader.closed, specs.Reader.primitive, specs.Reader.ruled, specs.Reader.part, specs.Reader.mapped, specs.Codec.isTag, specs.Codec.simple, specs.Codec.Spans, specs.Codec.lengthOctets}
+use Rattle.coding.specs.Normal.{asJudged, octetString, Any, ofOctets, ofElements, Several, none, more, opening, writeAny, writeSeveral, anyBy, severalAt}
+use Rattle.coding.{specs.Shown.shown, specs.Written.lead, proofs.Laws.Octets, proofs.Basic.never, proofs.Basic.picked, proofs.Basic.unpicked, proofs.Basic.followed}
+use Rattle.coding.{proofs.Basic.and-both, proofs.Header.opened-sound, proofs.Header.spans-range, proofs.Header.spans-shortest, proofs.Normal.several-unfolds, proofs.Normal.several-reads}
+use Rattle.coding.{proofs.Reading.some-code, proofs.Parts.part-length, proofs.Header.tagged-yes, proofs.Search.endless-simple}
+use Rattle.types.proofs.Places.{Ends, Plain, by-plain, pick, opened-ends, several-ends}
+use Rattle.any_elements.specs.Forms.{faultNumber, sized, openedAny, spanNumber}
+
+-- ---- tag and length octets
+
+pub lead-any : (tag n : ℕ) → length (lead tag n) ≡ length (lead 0 n)
+unfolding lead
+lead-any tag n = refl
+
+pub lead-2 : (n : ℕ) → n < 128 → 2 ≡ length (lead 0 n)
+unfolding lead lengthOctets
+lead-2 n h = simp (lt-ltb n 128 h)
+
+pub lead-3 : (n : ℕ) → 128 ≤ n → n < 256 → 3 ≡ length (lead 0 n)
+unfolding lead lengthOctets
+lead-3 n l h = simp (le-ltb n 128 l, lt-ltb n 256 h)
+
+pub lead-4 : (n : ℕ) → 128 ≤ n → 256 ≤ n → 4 ≡ length (lead 0 n)
+unfolding lead lengthOctets
+lead-4 n l h = simp (le-ltb n 128 l, le-ltb n 256 h)
+
+pub wrapped-length : (tag : ℕ) (xs : List ℕ) → length (tag ∷ lengthOctets (length xs) ++ xs) ≡ length (lead 0 (length xs)) + length xs
+unfolding lead
+wrapped-length tag xs = omega (arith, length-append (lengthOctets (length xs)) xs)
+
+-- ---- faults and spans as numbers
+
+few : (w : Fault) → Plain w → code w < 256
+few = by-plain (λ w. code w < 256) (omega arith) (omega arith) (omega arith) (omega arith) (omega arith) (omega arith) (omega arith)
+
+-- a fault inside 257 octets
+pub fault-told : (w : Fault) (p : ℕ) → Plain w → p ≤ 257
+    → (1000 ≤ faultNumber w p) × (faultNumber w p < 0x40000) × ((faultNumber w p - 1000) % 256 ≡ code w) × ((faultNumber w p - 1000) / 256 ≡ p)
+unfolding faultNumber
+fault-told w p h l = let c = few w h in (omega (arith, c), omega (arith, c, l), omega (arith, c), omega (arith, c))
+
+span-told : (x y n : ℕ) {m : ℕ} → x ≤ 257 → y ≤ 257 → m ≡ x + 512 * y + 0x40000 * n → (m % 512 ≡ x) × (m / 512 % 512 ≡ y) × (m / 0x40000 ≡ n)
+span-told x y n h l e = (omega arith, omega arith, omega arith)
+
+-- ---- the first element
+
+module _ (s : List ℕ) (a e : ℕ) (h : a < e) where
+  pub first : severalAt s a e ≡ after (anyBy severalAt s a e) (λ x next. after (severalAt s next e) (λ es last. got (more x es) last))
+  first = several-unfolds s a e ∙ unpicked _ _ (lt-leb e a h)
+
+  pub opens-any : {x : Extent} {n : ℕ} → openedAny s a e ≡ got x n → (getD s a 0 ≡ 0 → ⊥) × (opened (getD s a 0) s a e ≡ got x n)
+  unfolding openedAny
+  opens-any q = by-cases (eqb (getD s a 0) 0) (λ t. absurd (never (rw t at q))) (λ t. (eqb-false (getD s a 0) 0 t, rw t at q))
+
+  -- its number, as the code comes to it
+  pub span-none : getD s a 0 ≡ 0 → 1000 + 41 + 256 * a ≡ spanNumber (openedAny s a e)
+  unfolding openedAny spanNumber faultNumber
+  span-none z = rw (eq-eqb (getD s a 0) 0 z)
+
+  -- a primitive element's length has a number
+  pub leaf-opens : composite (getD s a 0) ≡ false → opened (getD s a 0) s a e ≡ numberedAt a s (a + 1) e
+  unfolding opened choice lengthAt
+  leaf-opens c = rw (tagged-yes s a e (getD s a 0) h refl, endless-simple s a (a + 1) e c)
+
+  module _ (z : getD s a 0 ≡ 0 → ⊥) (y : Extent) {k p n : ℕ} {x : Extent} (q : (k, p, x, n) ≡ shown y (opened (getD s a 0) s a e)) where
+    pub span-inside : (p ≤ e) × (n ≤ e)
+    unfolding shown
+    span-inside = go (opened (getD s a 0) s a e) (opened-ends (λ w i. Plain w) (λ w i u. u) (getD s a 0) s a e (omega arith)) q
+      where
+        go : (r : Ans Extent) → Ends (λ w i. Plain w) a e r → (k, p, x, n) ≡ shown y r → (p ≤ e) × (n ≤ e)
+        go (got v m) i d =
+            let u : p ≡ 0 = ap (λ (t : ℕ × ℕ × Extent × ℕ). t .1) d in
+            let w : n ≡ m = ap (λ (t : ℕ × ℕ × Extent × ℕ). t .3) d in
+            (omega (arith, u), omega (arith, w, i .1))
+        go (halt w j) i d =
+            let u : p ≡ j = ap (λ (t : ℕ × ℕ × Extent × ℕ). t .1) d in
+            let o : n ≡ 0 = ap (λ (t : ℕ × ℕ × Extent × ℕ). t .3) d in
+            (omega (arith, u, i .2), omega (arith, o))
+
+    pub span-is : {r : ℕ} → r ≡ cond (eqb k 0) (x .start + 512 * x .stop + 0x40000 * n) (1000 + k + 256 * p) → r ≡ spanNumber (openedAny s a e)
+    unfolding openedAny spanNumber faultNumber shown
+    span-is f = f ∙ go (opened (getD s a 0) s a e) refl q
+      where
+        go : (r : Ans Extent) → opened (getD s a 0) s a e ≡ r → (k, p, x, n) ≡ shown y r
+            → cond (eqb k 0) (x .start + 512 * x .stop + 0x40000 * n) (1000 + k + 256 * p) ≡ spanNumber (openedAny s a e)
+        go (got v m) c d =
+            let u : spanNumber (openedAny s a e) ≡ v .start + 512 * v .stop + 0x40000 * m = rw (ne-eqb (getD s a 0) 0 z, c) in
+            ap (λ (t : ℕ × ℕ × Extent × ℕ). cond (eqb (t .0) 0) (t .2 .start + 512 * t .2 .stop + 0x40000 * t .3) (1000 + t .0 + 256 * t .1)) d ∙ sym u
+        go (halt w j) c d =
+            let u : spanNumber (openedAny s a e) ≡ 1000 + code w + 256 * j = rw (ne-eqb (getD s a 0) 0 z, c) in
+            ap (λ (t : ℕ × ℕ × Extent × ℕ). cond (eqb (t .0) 0) (t .2 .start + 512 * t .2 .stop + 0x40000 * t .3) (1000 + t .0 + 256 * t .1)) d
+            ∙ unpicked _ _ (ne-eqb (code w) 0 (some-code w)) ∙ sym u
+
+  any-ends : Ends (λ w p. Plain w) a e (openedAny s a e)
+  unfolding openedAny
+  any-ends =
+      pick (Ends (λ w p. Plain w) a e) (eqb (getD s a 0) 0) _ _ (λ q. (tt, omega arith, omega arith)) (λ q. opened-ends (λ w p. Plain w) (λ w p i. i) (getD s a 0) s a e (omega arith))
+
+  -- by its tag's bit
+  module _ (os : Octets s) (l : e ≤ length s) (z : getD s a 0 ≡ 0 → ⊥) where
+    real : isTag (getD s a 0) ≡ true
+    real = and-both (ltb 0 (getD s a 0)) _ (lt-ltb 0 (getD s a 0) (omega (arith, z))) (lt-ltb (getD s a 0) 256 (os a))
+
+    pub leaf-tag : composite (getD s a 0) ≡ false → simple (getD s a 0) ≡ true
+    leaf-tag b = and-both (isTag (getD s a 0)) _ real (ap not b)
+
+    pub node-tag : composite (getD s a 0) ≡ true → (simple (getD s a 0) ≡ false) × (opening (getD s a 0) ≡ true)
+    node-tag b = (rw b (and-false (isTag (getD s a 0))), and-both (isTag (getD s a 0)) _ real b)
+
+  module _ (os : Octets s) (l : e ≤ length s) where
+    -- what is not opened is not read
+    pub stops : {w : Fault} {p : ℕ} → openedAny s a e ≡ halt w p → anyBy severalAt s a e ≡ halt w p
+    unfolding openedAny anyBy primitive constructed after
+    stops {w} {p} q =
+        by-cases (eqb (getD s a 0) 0)
+        (λ t.
+        let f : halt Fault.unexpected a ≡ halt w p = rw t at q in
+        let u : Fault.unexpected ≡ w = cc in
+        let v : a ≡ p = cc in
+        rw (lt-leb e a h, eqb-true (getD s a 0) 0 t, ← u, ← v))
+        (λ t.
+        let z = eqb-false (getD s a 0) 0 t in
+        let o : opened (getD s a 0) s a e ≡ halt w p = rw t at q in
+        by-cases (composite (getD s a 0))
+        (λ b. let g = node-tag os l z b in rw (lt-leb e a h, g .0, g .1, o))
+        (λ b. rw (lt-leb e a h, leaf-tag os l z b, o)))
+
+    pub stopped : {w : Fault} {p : ℕ} → openedAny s a e ≡ halt w p → severalAt s a e ≡ halt w p
+    unfolding after
+    stopped q = rw (first, stops q)
+
+    module _ {x : Extent} {n : ℕ} (o : opened (getD s a 0) s a e ≡ got x n) where
+      pub spans : Spans (getD s a 0) s a (x .start) (x .stop) n × (n ≤ e)
+      spans = opened-sound (getD s a 0) s a e x n o
+
+      pub moves : (a + 2 ≤ x .start) × (x .start ≤ x .stop) × (x .stop ≤ n) × (n ≤ e)
+      moves = let g = spans-range (spans .0) in (g .0, g .1, g .2, spans .1)
+
+    module _ (b : e ≤ 257) {m : ℕ} (q : m ≡ spanNumber (openedAny s a e)) where
+      -- a number below the spans is a fault
+      pub span-fault : m < 0x40000 → (w : Fault) × (p : ℕ) × (openedAny s a e ≡ halt w p) × (m ≡ faultNumber w p) × Plain w × (p ≤ 257)
+      unfolding spanNumber
+      span-fault k = go (openedAny s a e) refl any-ends q
+        where
+          go : (r : Ans Extent) → openedAny s a e ≡ r → Ends (λ w p. Plain w) a e r → m ≡ spanNumber r
+              → (w : Fault) × (p : ℕ) × (openedAny s a e ≡ halt w p) × (m ≡ faultNumber w p) × Plain w × (p ≤ 257)
+          go (got x n) c i d = absurd (omega (arith, d, k, moves (opens-any c .1)))
+          go (halt w p) c i d = (w, p, c, d, i .0, omega (arith, i .2, b))
+
+      -- another is a span
+      pub span-got : 0x40000 ≤ m → (getD s a 0 ≡ 0 → ⊥) × (opened (getD s a 0) s a e ≡ got (record { start = m % 512; stop = m / 512 % 512 }) (m / 0x40000))
+      unfolding spanNumber
+      span-got k = go (openedAny s a e) refl any-ends q
+        where
+          go : (r : Ans Extent) → openedAny s a e ≡ r → Ends (λ w p. Plain w) a e r → m ≡ spanNumber r
+              → (getD s a 0 ≡ 0 → ⊥) × (opened (getD s a 0) s a e ≡ got (record { start = m % 512; stop = m / 512 % 512 }) (m / 0x40000))
+          go (got x n) c i d =
+              let o = opens-any c in
+              let g = moves (o .1) in
+              let t = span-told (x .start) (x .stop) n (omega (arith, g, b)) (omega (arith, g, b)) d in
+              (o .0, rw (t .0, t .1, t .2) (o .1))
+          go (halt w p) c i d = absurd (omega (arith, d, k, fault-told w p (i .0) (omega (arith, i .2, b)) .1))
+
+      pub fault-sized : m < 0x40000 → m ≡ sized (severalAt s a e)
+      unfolding sized
+      fault-sized k = let f = span-fault k in f .3 ∙ sym (ap sized (stopped (f .2)))
+
+-- ---- the elements
+
+module _ (s : List ℕ) (a e : ℕ) (l : e ≤ length s) (b : e ≤ 257) where
+  pub sized-none : e ≤ a → 0 ≡ sized (severalAt s a e)
+  unfolding sized
+  sized-none h = rw (several-unfolds s a e, le-leb e a h)
+
+  module _ (os : Octets s) (ae : a ≤ e) where
+    -- they are read, and are small; or not, by a fault of theirs
+    pub read-small : (es : Several) (n : ℕ) → severalAt s a e ≡ got es n → (n ≡ e) × (a + length (writeSeveral es) ≤ e)
+    read-small es n r = let k = several-reads s os a e ae l es n r in (k .0, omega (arith, k .0, k .2))
+
+    module _ {m : ℕ} (q : m ≡ sized (severalAt s a e)) where
+      pub sized-small : m < 0x40000
+      unfolding sized
+      sized-small = go (severalAt s a e) refl (several-ends (λ w p. Plain w) (λ w p i. i) s a e ae) q
+        where
+          go : (r : Ans Several) → severalAt s a e ≡ r → Ends (λ w p. Plain w) a e r → m ≡ sized r → m < 0x40000
+          go (got es n) c i d = omega (arith, d, b, read-small es n c .1)
+          go (halt w p) c i d = omega (arith, d, fault-told w p (i .0) (omega (arith, i .2, b)) .1)
+
+      pub sized-got : m < 1000 → (es : Several) × (severalAt s a e ≡ got es e) × (length (writeSeveral es) ≡ m) × (a + m ≤ e)
+      unfolding sized
+      sized-got k = go (severalAt s a e) refl (several-ends (λ w p. Plain w) (λ w p i. i) s a e ae) q
+        where
+          go : (r : Ans Several) → severalAt s a e ≡ r → Ends (λ w p. Plain w) a e r → m ≡ sized r → (es : Several) × (severalAt s a e ≡ got es e) × (length (writeSeveral es) ≡ m) × (a + m ≤ e)
+          go (got es n) c i d = let g = read-small es n c in (es, c ∙ ap (λ (j : ℕ). got es j) (g .0), sym d, omega (arith, d, g .1))
+          go (halt w p) c i d = absurd (omega (arith, d, k, fault-told w p (i .0) (omega (arith, i .2, b)) .0))
+
+      pub sized-halt : 1000 ≤ m → (w : Fault) × (p : ℕ) × (severalAt s a e ≡ halt w p) × (m ≡ faultNumber w p) × Plain w × (p ≤ 257)
+      unfolding sized
+      sized-halt k = go (severalAt s a e) refl (several-ends (λ w p. Plain w) (λ w p i. i) s a e ae) q
+        where
+          go : (r : Ans Several) → severalAt s a e ≡ r → Ends (λ w p. Plain w) a e r → m ≡ sized r → (w : Fault) × (p : ℕ) × (severalAt s a e ≡ halt w p) × (m ≡ faultNumber w p) × Plain w × (p ≤ 257)
+          go (got es n) c i d = absurd (omega (arith, d, k, b, read-small es n c .1))
+          go (halt w p) c i d = (w, p, c, d, i .0, omega (arith, i .2, b))
+
+-- ---- an element and the rest
+
+-- the first has j octets of contents, and tag and length octets
+rest-joined : (y : Any) (j : ℕ) → length (writeAny y) ≡ length (lead 0 j) + j → (x : Ans Several) → ((es : Several) (n : ℕ) → x ≡ got es n → length (writeSeveral es) < 1000)
+    → {k : ℕ} → k ≡ sized x → cond (leb 1000 k) k (length (lead 0 j) + j + k) ≡ sized (after x (λ es n. got (more y es) n))
+unfolding sized faultNumber after
+rest-joined y j q (got es n) f {k} c =
+    let d : k < 1000 = omega (arith, c, f es n refl) in
+    rw (lt-leb 1000 k d) (omega (arith, q, c, length-append (writeAny y) (writeSeveral es)))
+rest-joined y j q (halt w p) f {k} c = let d : 1000 ≤ k = omega (arith, c) in rw (le-leb 1000 k d) c
+
+module _ (s : List ℕ) (a e : ℕ) (os : Octets s) (h : a < e) (l : e ≤ length s) (b : e ≤ 257) (z : getD s a 0 ≡ 0 → ⊥) {x : Extent} {n : ℕ} (o : opened (getD s a 0) s a e ≡ got x n) where
+  goes : (a + 2 ≤ x .start) × (x .start ≤ x .stop) × (x .stop ≤ n) × (n ≤ e)
+  goes = moves s a e h os l o
+
+  few-left : (es : Several) (m : ℕ) → severalAt s n e ≡ got es m → length (writeSeveral es) < 1000
+  few-left es m r = omega (arith, b, goes, read-small s n e l b os (omega (arith, goes)) es m r .1)
+
+  -- primitive
+  module _ (c : composite (getD s a 0) ≡ false) where
+    pub leaf-is : severalAt s a e ≡ after (severalAt s n e) (λ es last. got (more (ofOctets (getD s a 0) (part s (x .start) (x .stop))) es) last)
+    unfolding anyBy primitive octetString asJudged mapped ruled after
+    leaf-is = first s a e h ∙ rw (lt-leb e a h, leaf-tag s a e h os l z c, o)
+
+    pub leaf-joined : {k r : ℕ} → k ≡ sized (severalAt s n e)
+        → r ≡ cond (leb 1000 k) k (length (lead 0 (x .stop - x .start)) + (x .stop - x .start) + k) → r ≡ sized (severalAt s a e)
+    leaf-joined q d =
+        let k : length (part s (x .start) (x .stop)) ≡ x .stop - x .start = part-length s (x .start) (x .stop) (omega (arith, goes)) in
+        d
+        ∙ rest-joined (ofOctets (getD s a 0) (part s (x .start) (x .stop))) (x .stop - x .start)
+        (wrapped-length (getD s a 0) (part s (x .start) (x .stop)) ∙ ap (λ (i : ℕ). length (lead 0 i) + i) k) (severalAt s n e) few-left q
+        ∙ sym (ap sized leaf-is)
+
+  -- constructed
+  module _ (c : composite (getD s a 0) ≡ true) where
+    pub node-is : severalAt s a e
+        ≡ after (after (after (severalAt s (x .start) (x .stop)) (λ es last. closed es last (x .stop) n)) (λ es next. got (ofElements (getD s a 0) es) next))
+        (λ y next. after (severalAt s next e) (λ es last. got (more y es) last))
+    unfolding anyBy constructed after
+    node-is = let t = node-tag s a e h os l z c in first s a e h ∙ rw (lt-leb e a h, t .0, t .1, o)
+
+    pub node-read : (es : Several) → severalAt s (x .start) (x .stop) ≡ got es (x .stop)
+        → severalAt s a e ≡ after (severalAt s n e) (λ vs last. got (more (ofElements (getD s a 0) es) vs) last)
+    unfolding closed
+    node-read es r = node-is ∙ followed _ (followed _ (followed _ r ∙ picked _ _ (eq-eqb (x .stop) (x .stop) refl)))
+
+    pub node-fault : {m : ℕ} → m ≡ sized (severalAt s (x .start) (x .stop)) → 1000 ≤ m → m ≡ sized (severalAt s a e)
+    unfolding sized after
+    node-fault q k =
+        let f = sized-halt s (x .start) (x .stop) (omega (arith, goes)) (omega (arith, goes, b)) os (goes .1) q k in
+        let r : severalAt s a e ≡ halt (f .0) (f .1) = rw (node-is, f .2) in
+        f .3 ∙ sym (ap sized r)
+
+    pub node-joined : {j k r : ℕ} → j ≡ sized (severalAt s (x .start) (x .stop)) → j < 1000 → k ≡ sized (severalAt s n e)
+        → r ≡ cond (leb 1000 k) k (length (lead 0 j) + j + k) → r ≡ sized (severalAt s a e)
+    node-joined {j} q i p d =
+        let w = sized-got s (x .start) (x .stop) (omega (arith, goes)) (omega (arith, goes, b)) os (goes .1) q i in
+        d
+        ∙ rest-joined (ofElements (getD s a 0) (w .0)) j (wrapped-length (getD s a 0) (writeSeveral (w .0)) ∙ ap (λ (i : ℕ). length (lead 0 i) + i) (w .2)) (severalAt s n e) few-left p
+        ∙ sym (ap sized (node-read (w .0) (w .1)))

@@ -1,7 +1,0 @@
-use Rattle.prelude.proofs.Prelude.{arith}
-use Rattle.prelude.proofs.Ways.{ways}
-use Rattle.month_rows.proofs.places.Statement.{statement}
-use Rattle.month_rows.proofs.places.Tie as tie
-
-pub places-spec : {M : Type 1} → statement M
-places-spec = tie.close (tie.spec (λ c. search (ways, arith)) (λ c. search (ways, arith)))

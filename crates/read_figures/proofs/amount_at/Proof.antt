@@ -1,0 +1,22 @@
+-- Each return by the answers that led to it.
+use Rattle.prelude.proofs.Prelude.{arith, _∙_}
+use Rattle.coding.{specs.Reader.constructed, specs.Codec.cons, specs.Codec.shape, specs.Codec.over, specs.Codec.pair, proofs.Reading.flat, proofs.Reading.reading, proofs.Reading.remains}
+use Rattle.coding.{proofs.Reading.shut, proofs.Reading.step}
+use Rattle.types.specs.Charges.{scaled}
+use Rattle.read_figures.proofs.amount_at.Statement.{statement}
+use Rattle.read_figures.proofs.amount_at.Tie as tie
+
+pub amount-at-spec : {M : Type 1} → statement M
+unfolding scaled cons shape over pair constructed
+amount-at-spec =
+    tie.close
+    (tie.spec (omega arith) (omega arith) (λ c. (simp flat (c .no-scaled .ensures .0 ∙ (search reading depth 8)), omega arith)) (omega arith)
+    (omega arith) (λ c. (simp flat (c .no-scaled2 .ensures .0 ∙ (search reading depth 8)), omega arith)) (omega arith) (omega arith)
+    (λ c. (simp flat (c .no-scaled3 .ensures .0 ∙ (search reading depth 8)), omega arith)) (omega arith)
+    (λ c.
+    let c3 = c .before .before .before in
+    let c6 = c3 .before .before .before in
+    let c9 = c6 .before .before .before in
+    let opened = c9 .before .before .before .open-at .ensures .0 in
+    (simp flat (c .no-scaled4 .ensures .0 ∙ (search (step, remains) depth 8)), omega arith))
+    (omega arith) (λ c. (simp flat (search (step, shut) depth 8), omega arith)))
