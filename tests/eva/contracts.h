@@ -53,7 +53,7 @@ uint32_t aoc_layout_2(void);
 aoc_refusal_at aoc_read_into(const uint8_t *octets, size_t length, uint8_t (*front)[8], uint8_t (*figure)[48],
                              uint32_t (*numbers)[32], uint8_t (*rows)[192]);
 
-/* `one-of-four` (pass/proofs/Through.antt), and `answers` */
+/* `one-of-four` (element_pass/proofs/Through.antt), and `answers` */
 /*@ requires octets: LENT(octets, length);
     requires parts: LINE_TO && \separated(LINE_PARTS);
     requires apart: length == 0 || \separated(octets + (0 .. length - 1), LINE_PARTS);
@@ -109,7 +109,7 @@ aoc_written aoc_write_element_by(uint8_t profile, const uint8_t *octets, size_t 
 /* ------------------------------------------------------------------ by their profile octet */
 
 /* readBy, which fixes every octet of the parts (`spare` the four that hold nothing); `answers`, and `refusal`
- * (trunks/proofs/Theorems.antt) */
+ * (trunk_types/proofs/Theorems.antt) */
 /*@ requires octets: LENT(octets, length);
     requires parts: LINE_TO && TRUNK_TO && \separated(LINE_PARTS, TRUNK_PARTS);
     requires apart: length == 0 || \separated(octets + (0 .. length - 1), LINE_PARTS, TRUNK_PARTS);
@@ -121,7 +121,7 @@ aoc_judged aoc_read_by_into(uint8_t profile, const uint8_t *octets, size_t lengt
                             uint32_t (*numbers)[32], uint8_t (*rows)[192], uint8_t (*lead)[48], uint8_t (*extension)[244],
                             uint8_t (*trunk_figure)[48], uint32_t (*trunk_numbers)[32], uint8_t (*trunk_rows)[192]);
 
-/* `one-of-four` (pass/proofs/Through.antt), `answers` and `refusal` */
+/* `one-of-four` (element_pass/proofs/Through.antt), `answers` and `refusal` */
 /*@ requires octets: LENT(octets, length);
     requires parts: LINE_TO && TRUNK_TO && \separated(LINE_PARTS, TRUNK_PARTS);
     requires apart: length == 0 || \separated(octets + (0 .. length - 1), LINE_PARTS, TRUNK_PARTS);

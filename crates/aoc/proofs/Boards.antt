@@ -17,13 +17,13 @@ use denote.{Steps.peeks, Triple.Statement.Contract, Triple.Statement.Triple, Tri
 use denote.{Triple.Clauses.Lasts, Triple.Clauses.lasts, Triple.Clauses.atExit, Triple.Walked.Stays, Triple.Walked.gave-ref, Triple.Walked.stay-dropped, Triple.Walked.walkOf}
 use denote.{Triple.Walked.goes-gave-ref, Triple.Walked.goes-dropped, Triple.Walked.ends-at, Exit.yes}
 use Rattle.phases.specs.declared.{Event.Event, Outcome.Outcome}
-use Rattle.slots.specs.declared.{Board.Board, Collected.Collected, Viewed.Viewed}
+use Rattle.board_rules.specs.declared.{Board.Board, Collected.Collected, Viewed.Viewed}
 use Rattle.step.proofs.Machine.{vE, tellsE}
 use Rattle.aoc.proofs.Walk.{Coded, by-walk}
 use denote.Struct.Laws as LL
-use Rattle.slots.proofs.Board as T
-use Rattle.slots.proofs.Collected as K
-use Rattle.slots.proofs.Viewed as Vd
+use Rattle.board_rules.proofs.Board as T
+use Rattle.board_rules.proofs.Collected as K
+use Rattle.board_rules.proofs.Viewed as Vd
 use Rattle.phases.proofs.Event as E
 use Rattle.phases.proofs.Outcome as O
 use Rattle.board.proofs.event_in as event-in

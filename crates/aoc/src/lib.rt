@@ -14,19 +14,19 @@ ghost use Rattle.read.specs.Whole.{wholeAnswer};
 ghost use Rattle.write.specs.Handed.{handed};
 ghost use Rattle.write.specs.Outcome.{writeOf, leftOf};
 ghost use Rattle.reply.specs.Reply.{replyOf, replyLeft};
-ghost use Rattle.pass.specs.Pass.{passWith, passOf, wholeNext};
-ghost use Rattle.trunks.specs.Stored.{Spare};
-ghost use Rattle.profile.specs.Profile.{readBy, eitherIn};
+ghost use Rattle.element_pass.specs.Pass.{passWith, passOf, wholeNext};
+ghost use Rattle.trunk_types.specs.Stored.{Spare};
+ghost use Rattle.profile_read.specs.Profile.{readBy, eitherIn};
 ghost use Rattle.profile_pass.specs.Passing.{families, nextIn};
 ghost use Rattle.profile_reply.specs.Replies.{replyProfile, leftProfile};
 ghost use Rattle.types.specs.Stored.{recordIn, storedCharge};
-ghost use Rattle.trunks.specs.Stored.{trunkIn};
+ghost use Rattle.trunk_types.specs.Stored.{trunkIn};
 ghost use Rattle.trunk_write.specs.Outcome.{spareZero};
-ghost use Rattle.profile_writer.specs.Writes.{writeProfile, writeProfileLeft};
+ghost use Rattle.profile_write.specs.Writes.{writeProfile, writeProfileLeft};
 ghost use Rattle.types.specs.Thousandths.{powers};
 ghost use Rattle.requests.specs.Identifiers.{nextOf, oneUp};
 ghost use Rattle.requests.specs.Sets.{emptySet, isService, has, with};
-ghost use Rattle.reasons.specs.Reasons.{whyOf};
+ghost use Rattle.why_rules.specs.Reasons.{whyOf};
 ghost use Rattle.fault.specs.Rules.{faultAt};
 ghost use Rattle.phases.specs.Phases.{Connect, Clear, Released, Component, Suspend, Resume};
 ghost use Rattle.account.specs.History.{judged, currentRate, running, closing, marks, phase, requests, stepped, fresh, pendingOf};
@@ -35,11 +35,11 @@ ghost use Rattle.account.specs.Step.{closingOf, marksOf};
 ghost use Rattle.makers.specs.Events.{plainEvent, setupEvent, Took};
 ghost use Rattle.aoc.specs.Reading.{ReadsOff};
 ghost use Rattle.price.specs.Price.{priceOf};
-ghost use Rattle.slots.specs.Board.{boarded, eventOn, emptied, collectOn, viewOn};
+ghost use Rattle.board_rules.specs.Board.{boarded, eventOn, emptied, collectOn, viewOn};
 ghost use Rattle.month.specs.Month.{emptyMonth, addOf};
 ghost use Rattle.trace.specs.Into.{laidOf, rowsLeft, octetsLeft};
 ghost use Rattle.plain.specs.Answers.{plainOutcome, plainPhase, plainPending, plainCurrentRate, plainRunning, plainClosing, plainMarks};
-ghost use Rattle.element_writer.specs.Round.{elementInto, elementBy};
+ghost use Rattle.element_write.specs.Round.{elementInto, elementBy};
 
 // ---- the version
 
@@ -111,10 +111,10 @@ pub extern "C" fn aoc_next_into(
     figure: &mut [u8; 48],
     numbers: &mut [u32; 32],
     rows: &mut [u8; 192],
-) -> pass::Next
+) -> element_pass::Next
     ensures { λ r. ⌜ wholeNext r (now (front .exit)) (now (figure .exit)) (now (numbers .exit)) (now (rows .exit)) ≡ passOf (now (octets .entry)) place ⌝ }
 {
-    pass::next_into(octets, place, front, figure, numbers, rows)
+    element_pass::next_into(octets, place, front, figure, numbers, rows)
 }
 
 // ---- components with their profile octet: public lines and trunks
@@ -132,11 +132,11 @@ pub extern "C" fn aoc_read_by_into(
     trunk_figure: &mut [u8; 48],
     trunk_numbers: &mut [u32; 32],
     trunk_rows: &mut [u8; 192],
-) -> profile::Judged
+) -> profile_read::Judged
     ensures { λ r. ⌜ eitherIn r (now (front .exit)) (now (figure .exit)) (now (numbers .exit)) (now (rows .exit)) (now (lead .exit)) (now (lent .exit)) (now («trunk_figure» .exit)) (now («trunk_numbers» .exit)) (now («trunk_rows» .exit)) ≡ readBy profile (now (octets .entry)) ⌝ }
     ensures spare { λ _. ⌜ Spare (now (lead .exit)) ⌝ }
 {
-    profile::read_by(
+    profile_read::read_by(
         profile,
         octets,
         front,
@@ -200,7 +200,7 @@ pub extern "C" fn aoc_write_by_from(
     ensures { λ w. ⌜ w ≡ writeProfile profile (recordIn (now (front .entry)) (now (figure .entry)) (now (numbers .entry)) (now (rows .entry))) (spareZero (now (lead .entry))) (trunkIn (now (lead .entry)) (now (lent .entry)) (storedCharge (now («trunk_figure» .entry)) (now («trunk_numbers» .entry)) (now («trunk_rows» .entry)))) (length (now (buf .entry))) ⌝ }
     ensures left { λ w. ⌜ now (buf .exit) ≡ writeProfileLeft profile (recordIn (now (front .entry)) (now (figure .entry)) (now (numbers .entry)) (now (rows .entry))) (spareZero (now (lead .entry))) (trunkIn (now (lead .entry)) (now (lent .entry)) (storedCharge (now («trunk_figure» .entry)) (now («trunk_numbers» .entry)) (now («trunk_rows» .entry)))) (now (buf .entry)) ⌝ }
 {
-    profile_writer::write_by(
+    profile_write::write_by(
         profile,
         front,
         figure,
@@ -401,7 +401,7 @@ pub extern "C" fn aoc_phase_of(a: &account::Account) -> u8
 // ---- event lists
 
 #[no_mangle]
-pub extern "C" fn aoc_why(rows: &[u16], octets: &[u8]) -> reasons::Reason
+pub extern "C" fn aoc_why(rows: &[u16], octets: &[u8]) -> why_rules::Reason
     ensures { λ r. ⌜ r ≡ whyOf (now (rows .entry)) (now (octets .entry)) ⌝ }
 {
     why::why(rows, octets)
@@ -421,7 +421,7 @@ pub extern "C" fn aoc_price(c: account::Closing) -> price::Priced
 
 #[no_mangle]
 pub extern "C" fn aoc_board_event(
-    t: &mut slots::Board,
+    t: &mut board_rules::Board,
     reference: u16,
     e: phases::Event,
     octets: &[u8],
@@ -432,14 +432,17 @@ pub extern "C" fn aoc_board_event(
 }
 
 #[no_mangle]
-pub extern "C" fn aoc_board_collect(t: &mut slots::Board, reference: u16) -> slots::Collected
+pub extern "C" fn aoc_board_collect(
+    t: &mut board_rules::Board,
+    reference: u16,
+) -> board_rules::Collected
     ensures { λ r. ⌜ emptied r (now (t .exit)) ≡ collectOn (now (t .entry)) reference ⌝ }
 {
     board::collect_in(t, reference)
 }
 
 #[no_mangle]
-pub extern "C" fn aoc_board_view(t: &slots::Board, reference: u16) -> slots::Viewed
+pub extern "C" fn aoc_board_view(t: &board_rules::Board, reference: u16) -> board_rules::Viewed
     ensures { λ r. ⌜ r ≡ viewOn (now (t .entry)) reference ⌝ }
 {
     board::view_in(t, reference)
@@ -542,12 +545,12 @@ pub extern "C" fn aoc_plain_marks(rows: &[u16], octets: &[u8]) -> plain::PlainMa
 pub extern "C" fn aoc_write_element(octets: &[u8], buf: &mut [u8]) -> write::Written
     ensures { λ w. ⌜ (w, now (buf .exit)) ≡ elementInto (now (octets .entry)) (now (buf .entry)) ⌝ }
 {
-    element_writer::element_into(octets, buf)
+    element_write::element_into(octets, buf)
 }
 
 #[no_mangle]
 pub extern "C" fn aoc_write_element_by(profile: u8, octets: &[u8], buf: &mut [u8]) -> write::Written
     ensures { λ w. ⌜ (w, now (buf .exit)) ≡ elementBy profile (now (octets .entry)) (now (buf .entry)) ⌝ }
 {
-    element_writer::element_by(profile, octets, buf)
+    element_write::element_by(profile, octets, buf)
 }

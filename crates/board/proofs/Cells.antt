@@ -13,10 +13,10 @@ use denote.Shadow.{shadow}
 use denote.Array as Arr
 use Rattle.account.specs.declared.Account.{Account}
 use Rattle.account.specs.History.{fresh}
-use Rattle.slots.specs.declared.Board.{Board}
-use Rattle.slots.specs.Board.{withSlot}
-use Rattle.slots.proofs.Board as T
-use Rattle.slots.proofs.Board.Laws as T′
+use Rattle.board_rules.specs.declared.Board.{Board}
+use Rattle.board_rules.specs.Board.{withSlot}
+use Rattle.board_rules.proofs.Board as T
+use Rattle.board_rules.proofs.Board.Laws as T′
 use Rattle.account.proofs.Account as AC
 use Rattle.step.proofs.Machine.{vA}
 use Rattle.board.proofs.Item.{each-length, each-get, each-set, map-set}

@@ -11,10 +11,10 @@ use contract.Monad.{Fun, fact}
 use types.Kit.{Given, _$_, _∵_, !, qed, join, fjoin, frame, done}
 use denote.{Laws.Is, Array.Array, Array.arrayVal, Array.array-makes, Plain.uint-makes, Builtin.u16, Builtin.u32, Steps.owned, Steps.nothing}
 use denote.{Triple.Statement.Contract, Triple.Spec.tripleOf, Triple.Clauses.ensured, Triple.Clauses.lasts}
-use Rattle.slots.specs.{declared.Board.Board, Board.keyOf, Board.lowest}
+use Rattle.board_rules.specs.{declared.Board.Board, Board.keyOf, Board.lowest}
 use Rattle.board.proofs.Cells.{ks, is-list}
-use Rattle.slots.proofs.Board as T
-use Rattle.slots.proofs.slot_at as slot-at
+use Rattle.board_rules.proofs.Board as T
+use Rattle.board_rules.proofs.slot_at as slot-at
 
 module _ {M : Type 1} (𝓤 : URA M) (H : Heap 𝓤) (A : Atoms 𝓤) (W : Given 𝓤 H A) (at-mem : Memory → SProp 𝓤) (run : Routine → Fun 𝓤) where
   abbrev pub Find : Contract 𝓤

@@ -14,30 +14,30 @@ use denote.{RattleType.RattleType, Laws.Is, Laws.Tells, Laws.shows, Memory.cellA
 use denote.Struct.Steps.{spelt}
 use Rattle.account.specs.declared.Account.{Account}
 use Rattle.phases.specs.{declared.Outcome.Outcome, Phases.noService}
-use Rattle.slots.specs.declared.{Board.Board, Collected.Collected, Seat.Seat, Held.Held, Freed.Freed}
+use Rattle.board_rules.specs.declared.{Board.Board, Collected.Collected, Seat.Seat, Held.Held, Freed.Freed}
 use Rattle.step.proofs.{Machine.vA, Machine.vO, Machine.tellsA, Machine.tellsO, Lent.Typed}
 use Rattle.board.proofs.Lent.{Held-so, seatTy, seatVal, noVal}
 use denote.Struct.Laws as LL
 use Rattle.account.proofs.Account as AC
 use Rattle.phases.proofs.Outcome as O
-use Rattle.slots.proofs.Board as T
-use Rattle.slots.proofs.Collected as K
-use Rattle.slots.proofs.Seat as P
-use Rattle.slots.proofs.Held as S
-use Rattle.slots.proofs.Freed as F
+use Rattle.board_rules.proofs.Board as T
+use Rattle.board_rules.proofs.Collected as K
+use Rattle.board_rules.proofs.Seat as P
+use Rattle.board_rules.proofs.Held as S
+use Rattle.board_rules.proofs.Freed as F
 
--- the names of the structs in MIR: slots::Board, slots::Held, slots::Freed, slots::Seat
+-- the names of the structs in MIR: board_rules::Board, board_rules::Held, board_rules::Freed, board_rules::Seat
 abbrev pub board-name : List ℕ
-board-name = 115 ∷ 108 ∷ 111 ∷ 116 ∷ 115 ∷ 58 ∷ 58 ∷ 66 ∷ 111 ∷ 97 ∷ 114 ∷ 100 ∷ []
+board-name = 98 ∷ 111 ∷ 97 ∷ 114 ∷ 100 ∷ 95 ∷ 114 ∷ 117 ∷ 108 ∷ 101 ∷ 115 ∷ 58 ∷ 58 ∷ 66 ∷ 111 ∷ 97 ∷ 114 ∷ 100 ∷ []
 
 abbrev pub held-name : List ℕ
-held-name = 115 ∷ 108 ∷ 111 ∷ 116 ∷ 115 ∷ 58 ∷ 58 ∷ 72 ∷ 101 ∷ 108 ∷ 100 ∷ []
+held-name = 98 ∷ 111 ∷ 97 ∷ 114 ∷ 100 ∷ 95 ∷ 114 ∷ 117 ∷ 108 ∷ 101 ∷ 115 ∷ 58 ∷ 58 ∷ 72 ∷ 101 ∷ 108 ∷ 100 ∷ []
 
 abbrev pub freed-name : List ℕ
-freed-name = 115 ∷ 108 ∷ 111 ∷ 116 ∷ 115 ∷ 58 ∷ 58 ∷ 70 ∷ 114 ∷ 101 ∷ 101 ∷ 100 ∷ []
+freed-name = 98 ∷ 111 ∷ 97 ∷ 114 ∷ 100 ∷ 95 ∷ 114 ∷ 117 ∷ 108 ∷ 101 ∷ 115 ∷ 58 ∷ 58 ∷ 70 ∷ 114 ∷ 101 ∷ 101 ∷ 100 ∷ []
 
 abbrev pub seat-name : List ℕ
-seat-name = 115 ∷ 108 ∷ 111 ∷ 116 ∷ 115 ∷ 58 ∷ 58 ∷ 83 ∷ 101 ∷ 97 ∷ 116 ∷ []
+seat-name = 98 ∷ 111 ∷ 97 ∷ 114 ∷ 100 ∷ 95 ∷ 114 ∷ 117 ∷ 108 ∷ 101 ∷ 115 ∷ 58 ∷ 58 ∷ 83 ∷ 101 ∷ 97 ∷ 116 ∷ []
 
 unfoldable pub vB : Board → Val
 vB = LL.val T.the-type T.Laws.the-laws

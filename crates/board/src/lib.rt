@@ -1,19 +1,19 @@
 // A switchboard: a table of 64 accounts by call reference in the caller's memory, changed in place.
 //
-// Which slot an operation goes to and what is in it then is found by value, in the crate slots.
+// Which slot an operation goes to and what is in it then is found by value, in the crate board_rules.
+use board_rules::Board;
+use board_rules::Collected;
+use board_rules::Viewed;
 use phases::Event;
 use phases::Outcome;
-use slots::Board;
-use slots::Collected;
-use slots::Viewed;
 ghost use mathlib.Core.Path.{_≡_};
-ghost use Rattle.slots.specs.Board.{boarded, eventOn, emptied, collectOn, viewOn};
+ghost use Rattle.board_rules.specs.Board.{boarded, eventOn, emptied, collectOn, viewOn};
 
 // An event of a reference. Refused, nothing is stored; where the reference holds a slot, the account there is lent on to the step.
 pub fn event_in(t: &mut Board, reference: u16, e: Event, octets: &[u8]) -> Outcome
     ensures { λ r. ⌜ boarded r (now (t .exit)) ≡ eventOn (now (t .entry)) reference e (now (octets .entry)) ⌝ }
 {
-    let seat = slots::seat_of(t.keys, reference, e);
+    let seat = board_rules::seat_of(t.keys, reference, e);
     let at = seat.at % 64;
     if seat.number == 1 {
         return step::step_in(&mut t.calls[at], e, octets);
@@ -24,7 +24,7 @@ pub fn event_in(t: &mut Board, reference: u16, e: Event, octets: &[u8]) -> Outco
             service: 0,
         };
     }
-    let w = slots::taken_up(reference, e);
+    let w = board_rules::taken_up(reference, e);
     t.calls[at] = w.account;
     t.keys[at] = w.key;
     w.outcome
@@ -34,9 +34,9 @@ pub fn event_in(t: &mut Board, reference: u16, e: Event, octets: &[u8]) -> Outco
 pub fn collect_in(t: &mut Board, reference: u16) -> Collected
     ensures { λ r. ⌜ emptied r (now (t .exit)) ≡ collectOn (now (t .entry)) reference ⌝ }
 {
-    let slot = slots::slot_at(t.keys, reference);
+    let slot = board_rules::slot_at(t.keys, reference);
     let at = slot % 64;
-    let w = slots::free(t.calls[at], t.keys[at], slot);
+    let w = board_rules::free(t.calls[at], t.keys[at], slot);
     t.calls[at] = w.account;
     t.keys[at] = w.key;
     w.answer
@@ -46,7 +46,7 @@ pub fn collect_in(t: &mut Board, reference: u16) -> Collected
 pub fn view_in(t: &Board, reference: u16) -> Viewed
     ensures { λ r. ⌜ r ≡ viewOn (now (t .entry)) reference ⌝ }
 {
-    let slot = slots::slot_at(t.keys, reference);
+    let slot = board_rules::slot_at(t.keys, reference);
     let at = slot % 64;
-    slots::view(t.calls[at], slot)
+    board_rules::view(t.calls[at], slot)
 }

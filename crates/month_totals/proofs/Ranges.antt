@@ -7,7 +7,7 @@ use Rattle.phases.proofs.Choice.{by-number, never}
 use Rattle.types.specs.{declared.Units.Units, declared.Figure.Figure, declared.Charge.Charge, Entries.unit, Entries.unitAt, Entries.unitList, Arguments.isKind}
 use Rattle.write_tests.{specs.Fine.billingFine, specs.Fine.unbilled, specs.Fine.pricedMarks, specs.Fine.bareKind, specs.Fine.marksFine}
 use Rattle.write_tests.{specs.Fine.figureFine, specs.Fine.entriesFine, proofs.Valid.charge-fine}
-use Rattle.write_lists.proofs.{Charged.units-valid, Entry.unit-is}
+use Rattle.write_charges.proofs.{Charged.units-valid, Entry.unit-is}
 use Rattle.amounts.proofs.Bounded.{bounded}
 use Rattle.closing.{specs.Range.closingService, specs.Range.operationOf, specs.Range.inRange, proofs.Small.operation-range, proofs.Small.small}
 use Rattle.month_rows.specs.Places.{serviceLine, billingColumn}

@@ -28,9 +28,9 @@ fn last_kept(rows: &[u16], octets: &[u8], place: u16) -> Charge
     let mut i = rows.len() / 6;
     while i > 0 {
         i -= 1;
-        let o = scans::outcome_at(rows, octets, i);
+        let o = plain_scans::outcome_at(rows, octets, i);
         if outcomes::place_of(o) == place {
-            return scans::charge_at(rows, octets, i);
+            return plain_scans::charge_at(rows, octets, i);
         }
     }
     account::no_charge()
@@ -44,7 +44,7 @@ fn told(rows: &[u16], octets: &[u8], service: u8, number: u8) -> bool
     let mut i = rows.len() / 6;
     while i > 0 {
         i -= 1;
-        let o = scans::outcome_at(rows, octets, i);
+        let o = plain_scans::outcome_at(rows, octets, i);
         if outcomes::is_its(o, service, number) {
             return true;
         }
@@ -75,7 +75,7 @@ fn phase_in(rows: &[u16], octets: &[u8]) -> u8
     ensures { λ r. ⌜ r ≡ phase (judged (reverse (eventsOf (now (rows .entry)) (now (octets .entry))))) ⌝ }
 {
     let n = rows.len() / 6;
-    scans::phase_before(rows, n)
+    plain_scans::phase_before(rows, n)
 }
 
 fn pending_in(rows: &[u16], octets: &[u8]) -> Pending
@@ -83,7 +83,7 @@ fn pending_in(rows: &[u16], octets: &[u8]) -> Pending
     ensures { λ r. ⌜ r ≡ pendingOf (requests (judged (reverse (eventsOf (now (rows .entry)) (now (octets .entry)))))) ⌝ }
 {
     let n = rows.len() / 6;
-    let t = scans::status_before(rows, octets, n);
+    let t = plain_scans::status_before(rows, octets, n);
     let asked = t.asked;
     Pending {
         asked,
@@ -209,7 +209,7 @@ fn outcome_in(rows: &[u16], octets: &[u8], k: usize) -> Outcome
             service: 0,
         };
     }
-    scans::outcome_at(rows, octets, k - 1)
+    plain_scans::outcome_at(rows, octets, k - 1)
 }
 
 pub fn outcome(rows: &[u16], octets: &[u8], k: usize) -> PlainOutcome

@@ -1,7 +1,7 @@
 -- An answer and the parts of both records are told apart by what they say together: so `next_by` has one outcome.
 use Rattle.prelude.proofs.Prelude.{_≡_, ap}
-use Rattle.pass.specs.Pass.{Passed}
-use Rattle.profile.{specs.declared.Judged.Judged, specs.Profile.Either, proofs.One.Parts, proofs.One.Equal, proofs.One.one-either}
+use Rattle.element_pass.specs.Pass.{Passed}
+use Rattle.profile_read.{specs.declared.Judged.Judged, specs.Profile.Either, proofs.One.Parts, proofs.One.Equal, proofs.One.one-either}
 use Rattle.profile_pass.specs.{declared.NextBy.NextBy, Passing.nextIn}
 
 abbrev passedIn : NextBy → Parts → Passed Either

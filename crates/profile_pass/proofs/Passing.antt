@@ -2,11 +2,11 @@
 use Rattle.prelude.proofs.Prelude.{ℕ, _≤_, _<_, arith, _≡_, refl, sym, ap, _∙_, inl, inr, List, length, getD, ltb, ltb-true, ltb-false, eq-eqb, ne-eqb}
 use Rattle.coding.{specs.Reader.part, proofs.Basic.picked, proofs.Basic.unpicked}
 use Rattle.types.specs.{declared.Answer.Answer, Frames.noRecord, Frames.refused, Frames.readOf}
-use Rattle.trunks.specs.{declared.Trunk.Trunk, Components.noTrunk}
-use Rattle.pass.specs.{declared.Found.Found, Pass.foundAt, Pass.Passed, Pass.passWith, Pass.lines}
+use Rattle.trunk_types.specs.{declared.Trunk.Trunk, Components.noTrunk}
+use Rattle.element_pass.specs.{declared.Found.Found, Pass.foundAt, Pass.Passed, Pass.passWith, Pass.lines}
 use Rattle.prelude.proofs.Ways.{by-cases}
-use Rattle.pass.proofs.{Order.element-long, Order.find-malformed, Order.pass-none, Order.pass-some, Through.GivesOneOfFour, Through.one-of-four}
-use Rattle.profile.specs.Profile.{Either, readBy}
+use Rattle.element_pass.proofs.{Order.element-long, Order.find-malformed, Order.pass-none, Order.pass-some, Through.GivesOneOfFour, Through.one-of-four}
+use Rattle.profile_read.specs.Profile.{Either, readBy}
 use Rattle.profile_pass.specs.Passing.{families}
 
 module _ (s : List ℕ) (place : ℕ) (n : Passed Answer) (e : n ≡ passWith lines s place) where

@@ -1,8 +1,8 @@
 -- Both families, gone through by the element's own third octet.
 use Prim.Native.Nat.{ℕ}
 use mathlib.Core.List.{List}
-use Rattle.pass.specs.Pass.{Reads, Passed}
-use Rattle.profile.specs.Profile.{Either, ofNone, readBy, eitherIn}
+use Rattle.element_pass.specs.Pass.{Reads, Passed}
+use Rattle.profile_read.specs.Profile.{Either, ofNone, readBy, eitherIn}
 use Rattle.profile_pass.specs.declared.NextBy.{NextBy}
 
 abbrev pub families : Reads Either

@@ -1,8 +1,8 @@
 // The components of an element one after another, read by the element's own profile octet.
-use profile::Judged;
+use profile_read::Judged;
 ghost use mathlib.Core.Path.{_≡_};
-ghost use Rattle.trunks.specs.Stored.{Spare};
-ghost use Rattle.pass.specs.Pass.{passWith};
+ghost use Rattle.trunk_types.specs.Stored.{Spare};
+ghost use Rattle.element_pass.specs.Pass.{passWith};
 ghost use Rattle.profile_pass.specs.Passing.{families, nextIn};
 
 // after: the place after the component. ended: 1 at the end of the element, where all else is zero.
@@ -30,11 +30,11 @@ pub fn next_by(
     ensures { λ r. ⌜ nextIn r (now (front .exit)) (now (figure .exit)) (now (numbers .exit)) (now (rows .exit)) (now (lead .exit)) (now (lent .exit)) (now («trunk_figure» .exit)) (now («trunk_numbers» .exit)) (now («trunk_rows» .exit)) ≡ passWith families (now (octets .entry)) place ⌝ }
     ensures spare { λ _. ⌜ Spare (now (lead .exit)) ⌝ }
 {
-    let n = pass::next_into(octets, place, front, figure, numbers, rows);
+    let n = element_pass::next_into(octets, place, front, figure, numbers, rows);
     let after = n.after;
     let ended = n.ended;
     if after == 0 {
-        profile::no_trunk(lead, lent, trunk_figure, trunk_numbers, trunk_rows);
+        profile_read::no_trunk(lead, lent, trunk_figure, trunk_numbers, trunk_rows);
         return NextBy {
             after: 0,
             ended,
@@ -47,7 +47,7 @@ pub fn next_by(
     }
     let profile = octets[2];
     if profile == 0x91 {
-        profile::no_trunk(lead, lent, trunk_figure, trunk_numbers, trunk_rows);
+        profile_read::no_trunk(lead, lent, trunk_figure, trunk_numbers, trunk_rows);
         let a: read::Refusal = n.answer;
         return NextBy {
             after,
@@ -59,7 +59,7 @@ pub fn next_by(
             },
         };
     }
-    let answer = profile::trunk_by(
+    let answer = profile_read::trunk_by(
         profile,
         &octets[place..after],
         lead,

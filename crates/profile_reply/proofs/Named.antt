@@ -2,11 +2,11 @@
 use Rattle.prelude.proofs.Prelude.{ℕ, _+_, _≡_, refl, sym, subst, List, Bool, true, false, true≢false, cond, _&&_, inr, eqb, eqb-true}
 use Rattle.coding.specs.{Reader.Ans, Reader.after, Reader.blamed, Reader.Ans.got, Reader.Ans.halt, Codec.oneOf, Codec.pickRun, Codec.leads, Codec.over, Codec.marked, Codec.canonical}
 use Rattle.types.specs.Frames.{callerOf}
-use Rattle.trunks.specs.{declared.Body.Body, declared.TrunkAnswer.TrunkAnswer, Bodies.network, Components.noTrunk, Components.trunkInvoke, Components.trunkResult}
-use Rattle.trunks.specs.Components.{trunkBy, leadBy, trunkError, rejected, facility, inNetwork, tags, trunkFrame, trunkComponent, readWholeTrunk, readTrunk}
-use Rattle.rejections.specs.Rejects.{firstOf, identifierRead, isSilentTo, isNamed, rejectTo}
-use Rattle.rejections.proofs.Caller.{Stops, Begins}
-use Rattle.rejections.proofs.Caller.{number-by, begins, named-by}
+use Rattle.trunk_types.specs.{declared.Body.Body, declared.TrunkAnswer.TrunkAnswer, Bodies.network, Components.noTrunk, Components.trunkInvoke, Components.trunkResult}
+use Rattle.trunk_types.specs.Components.{trunkBy, leadBy, trunkError, rejected, facility, inNetwork, tags, trunkFrame, trunkComponent, readWholeTrunk, readTrunk}
+use Rattle.reply_rules.specs.Rejects.{firstOf, identifierRead, isSilentTo, isNamed, rejectTo}
+use Rattle.reply_rules.proofs.Caller.{Stops, Begins}
+use Rattle.reply_rules.proofs.Caller.{number-by, begins, named-by}
 use Rattle.profile_reply.specs.Replies.{trunkCalls}
 
 -- every failure inside a network facility extension is 6

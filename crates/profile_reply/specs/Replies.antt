@@ -3,10 +3,10 @@ use Prim.Native.Nat.{ℕ}
 use mathlib.Core.Bool.{_&&_, cond}
 use mathlib.Core.List.{List}
 use lib.Dec.{eqb}
-use Rattle.trunks.specs.Components.{readTrunk}
+use Rattle.trunk_types.specs.Components.{readTrunk}
 use Rattle.write.specs.declared.Written.{Written}
 use Rattle.write.specs.Outcome.{no}
-use Rattle.rejections.specs.Rejects.{firstOf}
+use Rattle.reply_rules.specs.Rejects.{firstOf}
 use Rattle.reply.specs.Reply.{replyGiven, leftGiven, replyOf, replyLeft}
 
 -- the number that calls for a reject: a network facility extension's failures inside draw none

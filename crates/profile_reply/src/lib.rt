@@ -42,6 +42,6 @@ pub fn reply_by(profile: u8, octets: &[u8], buf: &mut [u8]) -> write::Written
         &mut numbers,
         &mut rows,
     );
-    let number = called_for(a.number, rejections::first_of(octets));
+    let number = called_for(a.number, reply_rules::first_of(octets));
     reply::reply_to(number, octets, buf)
 }

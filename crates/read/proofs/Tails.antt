@@ -7,7 +7,7 @@ use Rattle.types.specs.Frames.{refusedAt, inArgument, sameRecord, request, carr
 use Rattle.types.proofs.{Places.pick, Theorems.offset-small}
 use Rattle.read_heads.{specs.declared.Head.Head, specs.Heads.faultBy, specs.Heads.tailOf, specs.Heads.restOf, proofs.Answers.goes-in, proofs.Answers.refuses-in}
 use Rattle.read_elements.specs.declared.Empty.{Empty}
-use Rattle.read_entries.specs.Answers.{whole}
+use Rattle.read_lists.specs.Answers.{whole}
 use Rattle.read.specs.{declared.Refusal.Refusal, Ways.isRequest, Ways.held, Ways.endsWell, Ways.endBy, Ways.endOf, Ways.Ended}
 
 -- ---- how an argument or result ends

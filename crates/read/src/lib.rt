@@ -10,7 +10,7 @@ ghost use Rattle.types.specs.Arguments.{noCharge, chargeOf};
 ghost use Rattle.types.specs.Frames.{frontBy, request, carrying, refusedAt, offsetOf, answered, readOf};
 ghost use Rattle.types.specs.Stored.{Blank, frontIn};
 ghost use Rattle.read_heads.specs.Heads.{faultBy, tailOf};
-ghost use Rattle.read_entries.specs.Answers.{whole};
+ghost use Rattle.read_lists.specs.Answers.{whole};
 ghost use Rattle.read.specs.Whole.{wholeAnswer};
 ghost use Rattle.read.specs.Ways.{isRequest, held, plainAnswer, endsWell, Ended};
 ghost use Rattle.read_lengths.specs.Bounds.{Bounded};
@@ -152,7 +152,7 @@ fn charge_at(
     if read_lengths::is_tag(s, at, end, 0x05) {
         return read_elements::null_at(s, at, end, 0x05);
     }
-    read_lists::charge_into(s, at, end, operation, figure, numbers, rows)
+    read_charges::charge_into(s, at, end, operation, figure, numbers, rows)
 }
 
 // An argument or result that holds a charge. A refusal leaves nothing of it, whatever was read before.
@@ -217,8 +217,8 @@ pub fn read(octets: &[u8]) -> types::Answer
     let mut numbers: [u32; 32] = [0; 32];
     let mut rows: [u8; 192] = [0; 192];
     let r = read_into(octets, &mut front, &mut figure, &mut numbers, &mut rows);
-    let front = parts::front_of(&front);
-    let figure = parts::figure_of(&figure);
+    let front = types_parts::front_of(&front);
+    let figure = types_parts::figure_of(&figure);
     types::Answer {
         number: r.number,
         offset: r.offset,

@@ -1,2 +1,2 @@
-pub mod Stores
-pub mod Steps
+pub mod Clear
+pub mod Kept

@@ -9,7 +9,7 @@ use Rattle.types.{proofs.ArgumentLaws.chargeEqual, proofs.Theorems.reads-back, 
 use Rattle.write.{specs.declared.Written.Written, specs.Halves.frontOf, specs.Halves.bodyOf, proofs.Valid.valid-parts, proofs.Octets.write-parts, specs.Outcome.writeOf}
 use Rattle.write_heads.specs.Fronts.{frontFine, frontOctets, idOctets, problemFine}
 use Rattle.read_heads.proofs.Entered.{tags, entered-ends}
-use Rattle.rejections.specs.Rejects.{valueOr0, identifierOf, firstOf, isSilentTo, replyBy, rejectTo, replyTo}
+use Rattle.reply_rules.specs.Rejects.{valueOr0, identifierOf, firstOf, isSilentTo, replyBy, rejectTo, replyTo}
 use Rattle.reply.specs.Reply.{replyGiven, replyOf}
 
 -- what is asked of a reply

@@ -2,7 +2,7 @@
 use Rattle.prelude.proofs.Prelude.{ℕ, _≡_, refl, Bool, true, false, _||_, List, length, eqb, eq-eqb, ne-eqb}
 use Rattle.types.specs.declared.Record.{Record}
 use Rattle.write.specs.{declared.Written.Written, Outcome.done, Outcome.writeOf, Outcome.leftOf}
-use Rattle.rejections.specs.Rejects.{firstOf, identifierOf, isSilentTo, replyBy}
+use Rattle.reply_rules.specs.Rejects.{firstOf, identifierOf, isSilentTo, replyBy}
 use Rattle.reply.specs.Reply.{replyGiven, leftGiven}
 
 or-true : (b : Bool) → b || true ≡ true

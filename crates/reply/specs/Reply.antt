@@ -3,7 +3,7 @@ use Prim.Native.Nat.{ℕ}
 use mathlib.Core.List.{List}
 use mathlib.Core.Bool.{cond}
 use Rattle.types.specs.Frames.{readOf}
-use Rattle.rejections.specs.Rejects.{isSilentTo, rejectTo}
+use Rattle.reply_rules.specs.Rejects.{isSilentTo, rejectTo}
 use Rattle.write.specs.declared.Written.{Written}
 use Rattle.write.specs.Outcome.{done, writeOf, leftOf}
 

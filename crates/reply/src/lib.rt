@@ -11,11 +11,11 @@ pub fn reply_to(number: u32, octets: &[u8], buf: &mut [u8]) -> write::Written
     if number == 0 {
         return nothing();
     }
-    let first = rejections::first_of(octets);
+    let first = reply_rules::first_of(octets);
     if first == 0xa4 {
         return nothing();
     }
-    let r = rejections::reject_for(number, first, rejections::identifier_of(octets));
+    let r = reply_rules::reject_for(number, first, reply_rules::identifier_of(octets));
     write::write(r, buf)
 }
 

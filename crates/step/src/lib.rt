@@ -14,7 +14,7 @@ ghost use Rattle.makers.specs.Events.{Took};
 pub fn step_in(a: &mut Account, e: Event, octets: &[u8]) -> Outcome
     ensures { λ r. ⌜ Took (now (a .entry)) e (now (octets .entry)) (stepped r (now (a .exit))) ⌝ }
 {
-    let w = changes::step(*a, e, octets);
+    let w = step_rules::step(*a, e, octets);
     a.status = w.status;
     if w.place == 1 {
         a.rate = w.charge;

@@ -5,16 +5,16 @@ use Rattle.coding.{specs.Reader.part, proofs.Basic.and-left, proofs.Basic.and-r
 use Rattle.types.specs.Frames.{readOf}
 use Rattle.phases.{specs.Phases.Given, proofs.Choice.never}
 use Rattle.prelude.proofs.Ways.{by-cases}
-use Rattle.facility.{specs.Cut.joined, proofs.Tiles.tiles}
+use Rattle.element.{specs.Cut.joined, proofs.Tiles.tiles}
 use Rattle.events.specs.Events.{eventsOf, addsUp}
-use Rattle.framing.specs.Framing.{elementEnd, elementsFit, typePlace, typeOf, headed, framed, Message}
-use Rattle.messages.specs.Trace.{reference, underAfter, tilesOf, componentsIn, componentsAt, componentsFrom, componentsOf, isRequest, firstRequest, componentEvents, setupBy}
-use Rattle.messages.specs.Trace.{phaseEvent, when, laidOut, givesBy, messageEvents, ofCall, clearedBy, allFramed, traceFrom, traceEvents}
-use Rattle.messages.specs.declared.Gives.{Gives}
+use Rattle.trace_framing.specs.Framing.{elementEnd, elementsFit, typePlace, typeOf, headed, framed, Message}
+use Rattle.trace_messages.specs.Trace.{reference, underAfter, tilesOf, componentsIn, componentsAt, componentsFrom, componentsOf, isRequest, firstRequest, componentEvents, setupBy}
+use Rattle.trace_messages.specs.Trace.{phaseEvent, when, laidOut, givesBy, messageEvents, ofCall, clearedBy, allFramed, traceFrom, traceEvents}
+use Rattle.trace_messages.specs.declared.Gives.{Gives}
 use Rattle.events.specs.Laid.{rowsOf, octetsOf}
-use Rattle.framing.proofs.Laws.{end-past, headed-long}
+use Rattle.trace_framing.proofs.Laws.{end-past, headed-long}
 use Rattle.events.proofs.Laid.{octets-append, AllFine, reads-back, adds-back}
-use Rattle.messages.proofs.{Theorems.total, Theorems.tiles-found, Theorems.joined-append, Walk.tiles-are}
+use Rattle.trace_messages.proofs.{Theorems.total, Theorems.tiles-found, Theorems.joined-append, Walk.tiles-are}
 
 -- ---- marks are 0 or 1
 

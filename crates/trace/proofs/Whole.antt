@@ -4,10 +4,10 @@ use Rattle.prelude.proofs.Prelude.{drop, sets-eq, eqb, eq-eqb, ne-eqb, le-leb, 
 use Rattle.phases.specs.Phases.{Given}
 use Rattle.coding.{specs.Written.Wrote, proofs.Basic.and-left}
 use Rattle.events.{specs.Laid.rowsOf, specs.Laid.octetsOf, proofs.Laid.rows-count}
-use Rattle.framing.specs.{declared.Verdict.Verdict, Framing.framed, Framing.lengthsAddUp, Framing.messagesFrom, Framing.messagesOf, Framing.verdictOf}
-use Rattle.framing.proofs.Laws.{passing-starts, inside}
-use Rattle.messages.specs.Trace.{reference, allFramed, traceFrom, traceEvents}
-use Rattle.messages.proofs.Theorems.{total-is, few-events}
+use Rattle.trace_framing.specs.{declared.Verdict.Verdict, Framing.framed, Framing.lengthsAddUp, Framing.messagesFrom, Framing.messagesOf, Framing.verdictOf}
+use Rattle.trace_framing.proofs.Laws.{passing-starts, inside}
+use Rattle.trace_messages.specs.Trace.{reference, allFramed, traceFrom, traceEvents}
+use Rattle.trace_messages.proofs.Theorems.{total-is, few-events}
 use Rattle.trace.proofs.Bounds.{few-octets}
 use Rattle.trace.specs.{declared.Put.Put, declared.Laid.Laid, Into.eventsIn, Into.fitsIn, Into.laid, Into.laidOf, Into.rowsLeft, Into.octetsLeft, Putting.Puts}
 use Rattle.trace.specs.{Putting.Rooms, Putting.Lays}

@@ -6,8 +6,8 @@ use lib.ListN.{length, drop}
 use lib.Dec.{eqb, leb}
 use Rattle.phases.specs.Phases.{Given}
 use Rattle.events.specs.Laid.{rowsOf, octetsOf}
-use Rattle.framing.specs.Framing.{messagesOf, verdictOf}
-use Rattle.messages.specs.Trace.{traceEvents}
+use Rattle.trace_framing.specs.Framing.{messagesOf, verdictOf}
+use Rattle.trace_messages.specs.Trace.{traceEvents}
 use Rattle.trace.specs.declared.Laid.{Laid}
 
 abbrev pub eventsIn : List ℕ → List ℕ → List Given

@@ -1,7 +1,7 @@
 // Writes the events of a trace as an event list into two buffers of the caller.
-use messages::Gives;
 use phases::Event;
 use requests::Services;
+use trace_messages::Gives;
 ghost use mathlib.Core.Path.{_≡_};
 ghost use mathlib.Core.Bool.{true, false, cond};
 ghost use mathlib.Core.List.{List, [], _∷_};
@@ -10,8 +10,8 @@ ghost use lib.ListN.{length};
 ghost use lib.Dec.{eqb};
 ghost use Rattle.coding.specs.Written.{Wrote, Room};
 ghost use Rattle.phases.specs.Phases.{event};
-ghost use Rattle.framing.specs.Framing.{message, elementEnd, elementsFit, framed, lengthsAddUp, messagesOf};
-ghost use Rattle.messages.specs.Trace.{componentsIn, componentsAt, componentsFrom, componentEvent, componentEvents, phaseEvent, setupBy, when, laidOut, messageEvents, ofCall, allFramed, traceFrom};
+ghost use Rattle.trace_framing.specs.Framing.{message, elementEnd, elementsFit, framed, lengthsAddUp, messagesOf};
+ghost use Rattle.trace_messages.specs.Trace.{componentsIn, componentsAt, componentsFrom, componentEvent, componentEvents, phaseEvent, setupBy, when, laidOut, messageEvents, ofCall, allFramed, traceFrom};
 ghost use Rattle.events.specs.Laid.{bitsOf, laidRow};
 ghost use Rattle.trace.specs.Into.{eventsIn, laidOf, rowsLeft, octetsLeft};
 ghost use Rattle.trace.specs.Putting.{Puts, Rooms, RowsFor, Lays};
@@ -107,18 +107,18 @@ fn put_tiles(rows: &mut [u16], out: &mut [u8], p: Put, s: &[u8]) -> Put
     requires { ⌜ (length (now s) ≤ 65535) × Rooms (now rows) (now out) p (componentEvents (componentsIn (now s))) ⌝ }
     ensures { λ r. ⌜ Puts (now (rows .entry)) (now (rows .exit)) (now (out .entry)) (now (out .exit)) p (componentEvents (componentsIn (now (s .entry)))) r ⌝ }
 {
-    if !messages::is_profiled(s) {
+    if !trace_messages::is_profiled(s) {
         return p;
     }
     let mut q = p;
     let mut place: usize = 3;
-    let mut found = pass::first(s);
+    let mut found = element_pass::first(s);
     while found.after != 0 {
         let after = found.after;
         let next = put_component(rows, out, q, &s[place..after]);
         q = next;
         place = after;
-        found = pass::onward(s, after);
+        found = element_pass::onward(s, after);
     }
     q
 }
@@ -155,9 +155,9 @@ fn put_elements(rows: &mut [u16], out: &mut [u8], p: Put, s: &[u8], start: usize
     let mut under: u8 = 0;
     let mut at = start;
     while at < end {
-        let next = framing::element_end(s, at);
+        let next = trace_framing::element_end(s, at);
         let after = put_at(rows, out, q, s, at, next, under);
-        let over = messages::under_after(under, s[at]);
+        let over = trace_messages::under_after(under, s[at]);
         q = after;
         under = over;
         at = next;
@@ -194,7 +194,7 @@ fn put_setup(rows: &mut [u16], p: Put, s: &[u8], start: usize, given: bool) -> P
     if !given {
         return p;
     }
-    let e = setups::setup_of(s, start);
+    let e = trace_setups::setup_of(s, start);
     put_bare(rows, p, e)
 }
 
@@ -233,7 +233,7 @@ fn put_message(
     requires { ⌜ (framed (now s) ≡ true) × Rooms (now rows) (now out) p (messageEvents cleared (message (now s) network)) ⌝ }
     ensures { λ r. ⌜ Puts (now (rows .entry)) (now (rows .exit)) (now (out .entry)) (now (out .exit)) p (messageEvents cleared (message (now (s .entry)) network)) r ⌝ }
 {
-    let g = messages::gives_of(messages::type_of(s), network, cleared);
+    let g = trace_messages::gives_of(trace_messages::type_of(s), network, cleared);
     let start = 3 + octets::wide(s[1]);
     put_all(rows, out, p, s, start, g)
 }
@@ -253,7 +253,7 @@ fn put_next(
     requires { ⌜ (framed (now s) ≡ true) × Rooms (now rows) (now out) p (ofCall call cleared (message (now s) network)) ⌝ }
     ensures { λ r. ⌜ Puts (now (rows .entry)) (now (rows .exit)) (now (out .entry)) (now (out .exit)) p (ofCall call cleared (message (now (s .entry)) network)) r ⌝ }
 {
-    if messages::reference_of(s) != call {
+    if trace_messages::reference_of(s) != call {
         return p;
     }
     put_message(rows, out, p, s, network, cleared)
@@ -277,10 +277,10 @@ fn put_trace(
     let mut at: usize = 0;
     let mut i: usize = 0;
     while i < n {
-        let end = at + framing::size(pairs[i * 2]);
+        let end = at + trace_framing::size(pairs[i * 2]);
         let network = pairs[i * 2 + 1] != 0;
         let next = put_next(rows, out, q, &octets[at..end], network, cleared, call);
-        let over = messages::cleared_by(&octets[at..end], call, cleared);
+        let over = trace_messages::cleared_by(&octets[at..end], call, cleared);
         q = next;
         cleared = over;
         at = end;
@@ -308,8 +308,8 @@ fn call_of(pairs: &[u32], octets: &[u8]) -> usize
     if pairs.len() < 2 {
         return 0;
     }
-    let end = framing::size(pairs[0]);
-    messages::reference_of(&octets[0..end])
+    let end = trace_framing::size(pairs[0]);
+    trace_messages::reference_of(&octets[0..end])
 }
 
 // The list of a trace that is framed, where there is room for as many events and octets as the trace has octets.
@@ -351,7 +351,7 @@ pub fn events_into(pairs: &[u32], octets: &[u8], rows: &mut [u16], out: &mut [u8
     ensures rows { λ r. ⌜ now (rows .exit) ≡ rowsLeft (now (pairs .entry)) (now (octets .entry)) (now (rows .entry)) (now (out .entry)) ⌝ }
     ensures out { λ r. ⌜ now (out .exit) ≡ octetsLeft (now (pairs .entry)) (now (octets .entry)) (now (rows .entry)) (now (out .entry)) ⌝ }
 {
-    let v = framing::judge(pairs, octets);
+    let v = trace_framing::judge(pairs, octets);
     if v.number != 0 {
         return Laid {
             number: v.number,

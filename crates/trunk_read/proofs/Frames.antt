@@ -5,9 +5,9 @@ use Rattle.coding.{specs.Codec.prim, specs.Codec.cons, specs.Codec.canonical, s
 use Rattle.coding.{specs.declared.Extent.Extent, specs.Shown.shown, proofs.Reading.step, proofs.Reading.gives, proofs.Reading.shut, proofs.Reading.remains}
 use Rattle.types.specs.{Frames.outside, Frames.inArgument, Frames.value, Stored.stored}
 use Rattle.read_figures.proofs.Answers.{goes}
-use Rattle.trunk_frames.proofs.Marked.{goes-under}
-use Rattle.trunks.specs.{declared.Body.Body, declared.Trunk.Trunk, Bodies.noBody, Bodies.argumentOf, Bodies.resultOf}
-use Rattle.trunks.specs.Components.{noTrunk, leadBy, trunkBy, trunkOperations, answerable, carryingBody, trunkInvoke, trunkResult, tags, trunkFrame, trunkComponent}
+use Rattle.trunk_read_frames.proofs.Marked.{goes-under}
+use Rattle.trunk_types.specs.{declared.Body.Body, declared.Trunk.Trunk, Bodies.noBody, Bodies.argumentOf, Bodies.resultOf}
+use Rattle.trunk_types.specs.Components.{noTrunk, leadBy, trunkBy, trunkOperations, answerable, carryingBody, trunkInvoke, trunkResult, tags, trunkFrame, trunkComponent}
 
 module _ (s : List ℕ) (at end : ℕ) where
   pub invoke-read :

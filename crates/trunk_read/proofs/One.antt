@@ -3,8 +3,8 @@ use Rattle.prelude.proofs.Prelude.{ℕ, zero, suc, _+_, _*_, _/_, _%_, _<_, ari
 use Rattle.coding.{specs.Reader.part, proofs.Laws.Octets, proofs.Basic.octets-none, proofs.Basic.octets-cons}
 use Rattle.types.{specs.declared.Charge.Charge, specs.Stored.frontIn, specs.Stored.storedCharge, proofs.Stored.by-octets}
 use Rattle.read.{specs.declared.Refusal.Refusal, proofs.One.Filled, proofs.One.one-answer}
-use Rattle.trunks.specs.{declared.Extension.Extension, declared.Trunk.Trunk, declared.TrunkAnswer.TrunkAnswer, Stored.extensionIn, Stored.bodyIn, Stored.trunkIn}
-use Rattle.trunks.specs.Stored.{Spare}
+use Rattle.trunk_types.specs.{declared.Extension.Extension, declared.Trunk.Trunk, declared.TrunkAnswer.TrunkAnswer, Stored.extensionIn, Stored.bodyIn, Stored.trunkIn}
+use Rattle.trunk_types.specs.Stored.{Spare}
 use Rattle.trunk_read.specs.Whole.{wholeTrunk}
 
 -- the octets of a front: those of a number, of the component, and the last four

@@ -5,8 +5,8 @@ use Rattle.coding.{specs.Shown.shown, proofs.Reading.got-of, proofs.Reading.hal
 use Rattle.types.specs.Frames.{numberOf, offsetOf}
 use Rattle.types.proofs.Faults.{Told}
 use Rattle.read_heads.{specs.Heads.faultBy, proofs.Codes.told}
-use Rattle.trunks.specs.{declared.Trunk.Trunk, Components.noTrunk, Components.trunkAccepted, Components.trunkRefused, Components.trunkComponent, Components.readWholeTrunk, Components.readTrunk}
-use Rattle.trunks.proofs.Faults.{whole-told}
+use Rattle.trunk_types.specs.{declared.Trunk.Trunk, Components.noTrunk, Components.trunkAccepted, Components.trunkRefused, Components.trunkComponent, Components.readWholeTrunk, Components.readTrunk}
+use Rattle.trunk_types.proofs.Faults.{whole-told}
 use Rattle.coding.{specs.Reader.Ans, specs.Reader.Fault, specs.Reader.Ans.got, specs.Reader.Ans.halt}
 use Rattle.types.proofs.Places.{Ends}
 

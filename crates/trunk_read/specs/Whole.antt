@@ -3,8 +3,8 @@ use Prim.Native.Nat.{ℕ}
 use mathlib.Core.List.{List}
 use Rattle.types.specs.Stored.{storedCharge}
 use Rattle.read.specs.declared.Refusal.{Refusal}
-use Rattle.trunks.specs.declared.TrunkAnswer.{TrunkAnswer}
-use Rattle.trunks.specs.Stored.{trunkIn}
+use Rattle.trunk_types.specs.declared.TrunkAnswer.{TrunkAnswer}
+use Rattle.trunk_types.specs.Stored.{trunkIn}
 
 -- what an answer and the parts say together
 abbrev pub wholeTrunk : Refusal → List ℕ → List ℕ → List ℕ → List ℕ → List ℕ → TrunkAnswer

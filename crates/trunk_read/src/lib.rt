@@ -6,10 +6,10 @@ ghost use Prim.Native.Nat.{_≤_};
 ghost use lib.ListN.{length};
 ghost use Rattle.coding.specs.Shown.{shown};
 ghost use Rattle.types.specs.Stored.{storedCharge};
-ghost use Rattle.trunks.specs.Components.{noTrunk, trunkInvoke, trunkResult, trunkFrame, trunkComponent, readTrunk};
-ghost use Rattle.trunks.specs.Stored.{Spare};
-ghost use Rattle.trunk_bodies.specs.Bodied.{Bare};
-ghost use Rattle.trunk_frames.specs.Framed.{framed};
+ghost use Rattle.trunk_types.specs.Components.{noTrunk, trunkInvoke, trunkResult, trunkFrame, trunkComponent, readTrunk};
+ghost use Rattle.trunk_types.specs.Stored.{Spare};
+ghost use Rattle.trunk_read_bodies.specs.Bodied.{Bare};
+ghost use Rattle.trunk_read_frames.specs.Framed.{framed};
 ghost use Rattle.trunk_read.specs.Whole.{wholeTrunk};
 ghost use Rattle.read_lengths.specs.Bounds.{Bounded};
 
@@ -35,12 +35,12 @@ fn invoke_at(
     if i.fault != 0 {
         return read_figures::halted(i.fault, i.place);
     }
-    let o = trunk_heads::operation_at(s, i.next, end);
+    let o = trunk_read_heads::operation_at(s, i.next, end);
     if o.fault != 0 {
         return read_figures::halted(o.fault, o.place);
     }
     let operation = o.value as u8;
-    let b = trunk_bodies::argument_at(
+    let b = trunk_read_bodies::argument_at(
         s,
         o.next,
         end,
@@ -55,7 +55,7 @@ fn invoke_at(
         return read_figures::halted(read_heads::inner(b.fault), b.place);
     }
     let id = i.value as u16;
-    trunk_frames::keep_lead(front, 1, 0, id, 0, operation, 0);
+    trunk_read_frames::keep_lead(front, 1, 0, id, 0, operation, 0);
     read_figures::reached(b.next)
 }
 
@@ -85,12 +85,12 @@ fn answer_at(
     }
     let start = e.value.start;
     let stop = e.value.stop;
-    let o = trunk_heads::value_at(s, start, stop, 2);
+    let o = trunk_read_heads::value_at(s, start, stop, 2);
     if o.fault != 0 {
         return read_figures::halted(o.fault, o.place);
     }
     let operation = o.value as u8;
-    let b = trunk_bodies::result_at(
+    let b = trunk_read_bodies::result_at(
         s,
         o.next,
         stop,
@@ -108,7 +108,7 @@ fn answer_at(
         return read_figures::halted(41, b.next);
     }
     let id = i.value as u16;
-    trunk_frames::keep_lead(front, 2, 0, id, 0, operation, 0);
+    trunk_read_frames::keep_lead(front, 2, 0, id, 0, operation, 0);
     read_figures::reached(e.next)
 }
 
@@ -136,12 +136,12 @@ fn frame_at(
         return answer_at(s, at, end, front, lent, figure, numbers, rows);
     }
     if tag == 0xa3 {
-        return trunk_frames::error_at(s, at, end, front, lent);
+        return trunk_read_frames::error_at(s, at, end, front, lent);
     }
     if tag == 0xa4 {
-        return trunk_frames::reject_at(s, at, end, front);
+        return trunk_read_frames::reject_at(s, at, end, front);
     }
-    trunk_frames::facility_at(s, at, end, front, figure)
+    trunk_read_frames::facility_at(s, at, end, front, figure)
 }
 
 // ---- whole
@@ -160,7 +160,7 @@ fn component_at(
     ensures { λ r. ⌜ framed r (now (front .exit)) (now (lent .exit)) (storedCharge (now (figure .exit)) (now (numbers .exit)) (now (rows .exit))) ≡ shown noTrunk (trunkComponent .read (now (s .entry)) 0 (length (now (s .entry)))) ⌝ }
     ensures spare { λ _. ⌜ Spare (now (front .exit)) ⌝ }
 {
-    let e = trunk_heads::enter(s);
+    let e = trunk_read_heads::enter(s);
     if e.fault != 0 {
         return read_figures::halted(e.fault, e.place);
     }

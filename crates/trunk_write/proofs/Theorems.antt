@@ -2,8 +2,8 @@
 use Rattle.prelude.proofs.Prelude.{ℕ, _+_, _≤_, _≡_, refl, ap, sym, _∙_, Bool, true, List, length, getD, getD-drop, take, drop, replicate, arith, eq-eqb}
 use Rattle.coding.proofs.{Laws.Octets, Whole.Encodes, Basic.and-both}
 use Rattle.prelude.proofs.Ways.{by-cases}
-use Rattle.trunks.specs.{declared.Trunk.Trunk, Components.trunkComponent, Components.readTrunk, Components.trunkAccepted}
-use Rattle.trunks.proofs.Theorems as Trunks
+use Rattle.trunk_types.specs.{declared.Trunk.Trunk, Components.trunkComponent, Components.readTrunk, Components.trunkAccepted}
+use Rattle.trunk_types.proofs.Theorems as Trunks
 use Rattle.write.specs.Outcome.{done}
 use Rattle.write.proofs.Family as Family
 use Rattle.trunk_write.specs.Outcome.{spareZero, trunkWriteOf, trunkLeftOf}

@@ -4,8 +4,8 @@ use mathlib.Core.List.{List}
 use mathlib.Core.Bool.{Bool, _&&_, cond}
 use lib.ListN.{getD}
 use lib.Dec.{eqb}
-use Rattle.trunks.specs.declared.Trunk.{Trunk}
-use Rattle.trunks.specs.Components.{trunkComponent}
+use Rattle.trunk_types.specs.declared.Trunk.{Trunk}
+use Rattle.trunk_types.specs.Components.{trunkComponent}
 use Rattle.write.specs.declared.Written.{Written}
 use Rattle.write.specs.Outcome.{no, writeFamily, leftFamily}
 

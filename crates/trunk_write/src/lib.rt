@@ -4,7 +4,7 @@ ghost use mathlib.Core.Path.{_≡_};
 ghost use lib.ListN.{length};
 ghost use Rattle.write.specs.Outcome.{no};
 ghost use Rattle.types.specs.Stored.{storedCharge};
-ghost use Rattle.trunks.specs.Stored.{trunkIn};
+ghost use Rattle.trunk_types.specs.Stored.{trunkIn};
 ghost use Rattle.trunk_write.specs.Outcome.{spareZero, trunkWriteOf, trunkLeftOf};
 
 fn refuse(number: u32) -> Written
@@ -44,10 +44,10 @@ pub fn write_from(
     if !spare_zero(front) {
         return refuse(10);
     }
-    if !trunk_tests::trunk_fine(front, lent, figure, numbers, rows) {
+    if !trunk_write_tests::trunk_fine(front, lent, figure, numbers, rows) {
         return refuse(10);
     }
-    let m = trunk_octets::contents_size(front, lent, figure, numbers, rows);
+    let m = trunk_write_frames::contents_size(front, lent, figure, numbers, rows);
     if 251 < m {
         return refuse(11);
     }
@@ -56,7 +56,7 @@ pub fn write_from(
         return refuse(12);
     }
     let p = write_elements::put_lead(buf, 0, 0xa0 + front[0], m);
-    let q = trunk_octets::put_contents(buf, p, front, lent, figure, numbers, rows);
+    let q = trunk_write_frames::put_contents(buf, p, front, lent, figure, numbers, rows);
     let count = q as u32;
     Written { number: 0, count }
 }

@@ -4,7 +4,7 @@ use Rattle.phases.specs.{declared.Event.Event, Phases.Given, Phases.event}
 use Rattle.account.{specs.History.judged, proofs.Demand.step-stands}
 use Rattle.events.specs.Events.{rowAt, countAt, eventsFrom, eventsOf, Going}
 use Rattle.events.proofs.Laws.{from-start, nothing-left, next-event}
-use Rattle.reasons.specs.{Reasons.explained, Reasons.reasonOf, Seeing.concluded}
+use Rattle.why_rules.specs.{Reasons.explained, Reasons.reasonOf, Seeing.concluded}
 use Rattle.why.specs.{declared.State.State, Seeing.start, Seeing.turnOf, Seeing.runFrom, Seeing.stateBy}
 
 -- a state that stands for a history goes on to one that stands for the history with the event

@@ -5,9 +5,9 @@ use Rattle.phases.specs.declared.Event.{Event}
 use Rattle.phases.specs.Phases.{Given}
 use Rattle.account.specs.History.{Judged, accountBy, fresh}
 use Rattle.account.specs.Step.{steppedOf}
-use Rattle.reasons.specs.declared.Reason.{Reason}
-use Rattle.reasons.specs.Reasons.{passedOver}
-use Rattle.reasons.specs.Seeing.{seenBy, seenNext, noneSeen, concluded}
+use Rattle.why_rules.specs.declared.Reason.{Reason}
+use Rattle.why_rules.specs.Reasons.{passedOver}
+use Rattle.why_rules.specs.Seeing.{seenBy, seenNext, noneSeen, concluded}
 use Rattle.why.specs.declared.State.{State}
 
 abbrev pub start : State

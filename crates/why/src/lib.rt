@@ -4,14 +4,14 @@
 use account::Account;
 use phases::Event;
 use phases::Outcome;
-use reasons::Reason;
-use reasons::Seen;
+use why_rules::Reason;
+use why_rules::Seen;
 ghost use mathlib.Core.Path.{_≡_};
 ghost use mathlib.Core.Bool.{true};
 ghost use lib.ListN.{length};
 ghost use Rattle.types.specs.Frames.{readOf};
 ghost use Rattle.events.specs.Events.{addsUp, eventsOf};
-ghost use Rattle.reasons.specs.Reasons.{isFigure, passedOver, reasonOf, whyOf};
+ghost use Rattle.why_rules.specs.Reasons.{isFigure, passedOver, reasonOf, whyOf};
 ghost use Rattle.why.specs.Seeing.{turnOf};
 
 #[repr(C)]
@@ -58,7 +58,7 @@ fn turn(t: State, e: Event, octets: &[u8], n: u64) -> State
     let account = w.account;
     let s = t.seen;
     let figure = passed_over(outcome, octets);
-    let seen = reasons::seen_next(s, outcome, figure, n);
+    let seen = why_rules::seen_next(s, outcome, figure, n);
     State { account, seen }
 }
 
@@ -90,7 +90,7 @@ fn explained(rows: &[u16], octets: &[u8]) -> Reason
         at = end;
     }
     let last = state.seen;
-    reasons::concluded(state.account.status.phase, last)
+    why_rules::concluded(state.account.status.phase, last)
 }
 
 // One reason, from an event list in slices.

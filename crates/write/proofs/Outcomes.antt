@@ -6,7 +6,7 @@ use Rattle.prelude.proofs.Ways.{by-cases}
 use Rattle.coding.{proofs.Writing.lead-length-long, proofs.Writing.Split, proofs.Writing.room-first, proofs.Writing.room-rest, proofs.Writing.wrote-parts, proofs.Writing.split-length}
 use Rattle.types.specs.{declared.Record.Record, Frames.component}
 use Rattle.write_heads.{specs.Fronts.frontFine, specs.Fronts.frontOctets, proofs.Sizes.front-least}
-use Rattle.write_prices.proofs.Prices.{was-false}
+use Rattle.write_rate.proofs.Prices.{was-false}
 use Rattle.write.specs.{declared.Written.Written, Outcome.done, Outcome.no, Outcome.writeOf, Outcome.leftOf, Halves.fineOf, Halves.chargeOctets, Halves.bodyOf}
 use Rattle.write.proofs.{Valid.valid-parts, Octets.write-parts}
 use Rattle.write.proofs.Family as Family

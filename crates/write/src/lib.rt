@@ -70,7 +70,7 @@ fn record_fine(
     if !may_hold(f, figure.kind) {
         return false;
     }
-    write_lists::charge_fine(figure, currency, digits, numbers, rows, tested_by(f))
+    write_charges::charge_fine(figure, currency, digits, numbers, rows, tested_by(f))
 }
 
 // The octets of a charge that follows.
@@ -79,7 +79,7 @@ fn charge_size(f: types::Front, figure: Figure, numbers: &[u32; 32], rows: &[u8;
     ensures { λ r. ⌜ r ≡ length (chargeOctets f (withList figure (now (numbers .entry)) (now (rows .entry)))) ⌝ }
 {
     if write_heads::is_charged(f) {
-        return write_lists::charge_size(figure, numbers, rows, f.operation);
+        return write_charges::charge_size(figure, numbers, rows, f.operation);
     }
     0
 }
@@ -101,7 +101,7 @@ fn put_body(
 {
     let p = write_heads::put_front(buf, at, f, n);
     if write_heads::is_charged(f) {
-        return write_lists::put_charge(buf, p, figure, numbers, rows, f.operation);
+        return write_charges::put_charge(buf, p, figure, numbers, rows, f.operation);
     }
     p
 }

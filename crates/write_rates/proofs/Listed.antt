@@ -5,7 +5,7 @@ use Rattle.coding.{proofs.Basic.and-left, proofs.Basic.and-right, proofs.Basic.
 use Rattle.coding.{proofs.Writing.room-rest, proofs.Writing.wrote-parts}
 use Rattle.types.specs.{declared.Entries.Entries, Rates.rate, Rates.rateAt, Rates.rateRows, Rates.rateList, Arguments.sameEntries}
 use Rattle.write_tests.specs.Fine.{ratesFine}
-use Rattle.write_prices.proofs.Octets.{rates-wider}
+use Rattle.write_rate.proofs.Octets.{rates-wider}
 use Rattle.write_rates.specs.Arrays.{ratesCharge}
 
 -- how many entries a list has, and that they are valid

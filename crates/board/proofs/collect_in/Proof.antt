@@ -18,8 +18,8 @@ use denote.{RattleType.owns, Laws.Is, Memory.mem, Memory.pointee, Array.arrayVal
 use denote.{Builtin.u16, Builtin.u32, Builtin.u64, Ref.RefT, Ref.ptr-vals, Ref.mut-tells, Signature.plain, Steps.owned, Steps.nothing, Exit.yes}
 use denote.{Triple.Statement.Contract, Triple.Statement.Triple, Triple.Entry.onEntry, Triple.Spec.tripleOf, Triple.Table.cited, Triple.Clauses.ensured, Triple.Clauses.lasts}
 use denote.Triple.Walked.{says, Stays, stay-ref, stay-none, walkOf, AllGo, goes-none, goes-ref, ends-at}
-use Rattle.slots.specs.{declared.Board.Board, declared.Collected.Collected, declared.Freed.Freed, Board.withSlot, Board.emptied, Board.collectOn, ByValue.freeOf}
-use Rattle.slots.proofs.ByValue.{off-thin}
+use Rattle.board_rules.specs.{declared.Board.Board, declared.Collected.Collected, declared.Freed.Freed, Board.withSlot, Board.emptied, Board.collectOn, ByValue.freeOf}
+use Rattle.board_rules.proofs.ByValue.{off-thin}
 use Rattle.step.proofs.Machine.{vA}
 use Rattle.board.proofs.Lent.{boardTy}
 use Rattle.board.proofs.LentFree.{lent}
@@ -29,11 +29,11 @@ use Rattle.board.proofs.Walk.{by-walk}
 use Rattle.board.proofs.Finds.{Find, to-find, asks-find, SaidFind, Found, said-find}
 use denote.Struct.Laws as LL
 use Rattle.account.proofs.Account as AC
-use Rattle.slots.proofs.Board as T
-use Rattle.slots.proofs.Collected as O
-use Rattle.slots.proofs.Freed as S
-use Rattle.slots.proofs.slot_at as slot-at
-use Rattle.slots.proofs.free as free
+use Rattle.board_rules.proofs.Board as T
+use Rattle.board_rules.proofs.Collected as O
+use Rattle.board_rules.proofs.Freed as S
+use Rattle.board_rules.proofs.slot_at as slot-at
+use Rattle.board_rules.proofs.free as free
 use Rattle.board.proofs.collect_in as own
 
 abbrev stayed : Stays (own.ended .signature .params) (own.ended .kept)
@@ -118,5 +118,5 @@ collect-in-spec 𝓤 H 𝓜 𝓖 𝓡 =
     (goes 𝓤 H (𝓖 .A) W (𝓜 .mem) (𝓡 .run)) (λ κs. (ptr-vals, (uint-vals w16, tt))) (λ κs. (mut-tells (named 0) (κs .0) T.the-row, (uint-tells w16, tt)))
     (λ fm κs qs bounds a _ are. walk 𝓤 H (𝓖 .A) W (𝓜 .mem) (𝓡 .run) (κs .0) (qs .0) (a .0 .ptr .0) (a .0 .ptr .1) (a .0 .name) (a .0 .now) (a .1 .0) (are .1 .0 .1)
     (tables 𝓤 H 𝓜 𝓡 own.Code.env .C) (tables 𝓤 H 𝓜 𝓡 own.Code.env .Λ) fm
-    (cited 𝓤 H (Find 𝓤 H (𝓖 .A) W (𝓜 .mem) (𝓡 .run)) 𝓜 𝓡 own.Code.env slot-at.Symbol.name slot-at.Symbol.routine own.Code.calls-slots·slot-at (slot-at.Met.met 𝓤 H 𝓜 𝓖 𝓡))
-    (cited 𝓤 H (Free 𝓤 H (𝓖 .A) W (𝓜 .mem) (𝓡 .run)) 𝓜 𝓡 own.Code.env free.Symbol.name free.Symbol.routine own.Code.calls-slots·free (free.Met.met 𝓤 H 𝓜 𝓖 𝓡)))
+    (cited 𝓤 H (Find 𝓤 H (𝓖 .A) W (𝓜 .mem) (𝓡 .run)) 𝓜 𝓡 own.Code.env slot-at.Symbol.name slot-at.Symbol.routine own.Code.calls-board-rules·slot-at (slot-at.Met.met 𝓤 H 𝓜 𝓖 𝓡))
+    (cited 𝓤 H (Free 𝓤 H (𝓖 .A) W (𝓜 .mem) (𝓡 .run)) 𝓜 𝓡 own.Code.env free.Symbol.name free.Symbol.routine own.Code.calls-board-rules·free (free.Met.met 𝓤 H 𝓜 𝓖 𝓡)))

@@ -26,8 +26,8 @@ use denote.{Triple.Statement.Contract, Triple.Statement.Triple, Triple.Entry.onE
 use denote.Triple.Walked.{says, Stays, stay-ref, stay-none, stay-none-slice, walkOf, AllGo, goes-none, goes-none-slice, goes-ref, ends-at}
 use Rattle.account.specs.{declared.Account.Account, History.judged, History.accountBy, History.steppedBy, History.stepped, Step.steppedOf}
 use Rattle.phases.specs.{declared.Event.Event, declared.Outcome.Outcome, Phases.Given as Gave, Phases.event, Phases.noService}
-use Rattle.slots.specs.{declared.Board.Board, declared.Seat.Seat, declared.Held.Held, Board.withSlot, Board.boarded, Board.eventOn, ByValue.seatOf, ByValue.takenUp}
-use Rattle.slots.proofs.ByValue.{lent-thin, refused-thin, taken-thin}
+use Rattle.board_rules.specs.{declared.Board.Board, declared.Seat.Seat, declared.Held.Held, Board.withSlot, Board.boarded, Board.eventOn, ByValue.seatOf, ByValue.takenUp}
+use Rattle.board_rules.proofs.ByValue.{lent-thin, refused-thin, taken-thin}
 use Rattle.step.proofs.Machine.{vA, vE, vO, tellsE}
 use Rattle.step.proofs.Lent.{Typed}
 use Rattle.board.proofs.Lent.{boardTy, lent}
@@ -38,12 +38,12 @@ use denote.Struct.Laws as LL
 use Rattle.account.proofs.Account as AC
 use Rattle.phases.proofs.Event as E
 use Rattle.phases.proofs.Outcome as O
-use Rattle.slots.proofs.Board as T
-use Rattle.slots.proofs.Seat as P
-use Rattle.slots.proofs.Held as S
+use Rattle.board_rules.proofs.Board as T
+use Rattle.board_rules.proofs.Seat as P
+use Rattle.board_rules.proofs.Held as S
 use Rattle.step.proofs.step_in as callee
-use Rattle.slots.proofs.seat_of as seat-of
-use Rattle.slots.proofs.taken_up as taken-up
+use Rattle.board_rules.proofs.seat_of as seat-of
+use Rattle.board_rules.proofs.taken_up as taken-up
 use Rattle.board.proofs.event_in as own
 
 abbrev stayed : Stays (own.ended .signature .params) (own.ended .kept)
@@ -230,6 +230,6 @@ event-in-spec 𝓤 H 𝓜 𝓖 𝓡 =
     (λ κs. (mut-tells (named 0) (κs .0) T.the-row, (uint-tells w16, (tellsE, (shr-slice-tells (named 1) (κs .1 .0) u8, tt)))))
     (λ fm κs qs bounds a _ are. walk 𝓤 H (𝓖 .A) W (𝓜 .mem) (𝓡 .run) (κs .0) (κs .1 .0) (qs .0) (qs .1 .0) (a .0 .ptr .0) (a .0 .ptr .1) (a .0 .name) (a .0 .now)
     (a .1 .0) (a .1 .1 .0) (are .1 .0 .1) (are .1 .1 .0) (a .1 .1 .1 .0) (tables 𝓤 H 𝓜 𝓡 own.Code.env .C) (tables 𝓤 H 𝓜 𝓡 own.Code.env .Λ) fm
-    (cited 𝓤 H (Find 𝓤 H (𝓖 .A) W (𝓜 .mem) (𝓡 .run)) 𝓜 𝓡 own.Code.env seat-of.Symbol.name seat-of.Symbol.routine own.Code.calls-slots·seat-of (seat-of.Met.met 𝓤 H 𝓜 𝓖 𝓡))
-    (cited 𝓤 H (Take 𝓤 H (𝓖 .A) W (𝓜 .mem) (𝓡 .run)) 𝓜 𝓡 own.Code.env taken-up.Symbol.name taken-up.Symbol.routine own.Code.calls-slots·taken-up (taken-up.Met.met 𝓤 H 𝓜 𝓖 𝓡))
+    (cited 𝓤 H (Find 𝓤 H (𝓖 .A) W (𝓜 .mem) (𝓡 .run)) 𝓜 𝓡 own.Code.env seat-of.Symbol.name seat-of.Symbol.routine own.Code.calls-board-rules·seat-of (seat-of.Met.met 𝓤 H 𝓜 𝓖 𝓡))
+    (cited 𝓤 H (Take 𝓤 H (𝓖 .A) W (𝓜 .mem) (𝓡 .run)) 𝓜 𝓡 own.Code.env taken-up.Symbol.name taken-up.Symbol.routine own.Code.calls-board-rules·taken-up (taken-up.Met.met 𝓤 H 𝓜 𝓖 𝓡))
     (cited 𝓤 H (Step 𝓤 H (𝓖 .A) W (𝓜 .mem) (𝓡 .run)) 𝓜 𝓡 own.Code.env callee.Symbol.name callee.Symbol.routine own.Code.calls-step·step-in (callee.Met.met 𝓤 H 𝓜 𝓖 𝓡)) (are .1 .1 .1 .0))

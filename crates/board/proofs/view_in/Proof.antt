@@ -17,8 +17,8 @@ use denote.{RattleType.owns, Laws.Is, Laws.shows, Memory.partAt, Memory.pointee,
 use denote.{Builtin.u16, Builtin.u32, Builtin.u64, Ref.RefT, Ref.ptr-vals, Ref.shr-tells, Signature.plain, Steps.owned, Steps.peeks, Steps.nothing, Exit.yes}
 use denote.{Triple.Statement.Contract, Triple.Statement.Triple, Triple.Entry.onEntry, Triple.Spec.tripleOf, Triple.Table.cited, Triple.Clauses.ensured, Triple.Clauses.lasts}
 use denote.Triple.Walked.{says, Stays, stay-none-ref, stay-none, walkOf, AllGo, goes-none, goes-none-ref, ends-at}
-use Rattle.slots.specs.{declared.Board.Board, declared.Viewed.Viewed, Board.viewOn, ByValue.viewedOf}
-use Rattle.slots.proofs.ByValue.{view-thin}
+use Rattle.board_rules.specs.{declared.Board.Board, declared.Viewed.Viewed, Board.viewOn, ByValue.viewedOf}
+use Rattle.board_rules.proofs.ByValue.{view-thin}
 use Rattle.step.proofs.Lent.{Typed}
 use Rattle.board.proofs.Lent.{boardTy}
 use Rattle.board.proofs.LentView.{reads}
@@ -28,10 +28,10 @@ use Rattle.board.proofs.Walk.{by-walk}
 use Rattle.board.proofs.Finds.{Find, to-find, asks-find, SaidFind, Found, said-find}
 use denote.Struct.Laws as LL
 use Rattle.account.proofs.Account as AC
-use Rattle.slots.proofs.Board as T
-use Rattle.slots.proofs.Viewed as O
-use Rattle.slots.proofs.slot_at as slot-at
-use Rattle.slots.proofs.view as view
+use Rattle.board_rules.proofs.Board as T
+use Rattle.board_rules.proofs.Viewed as O
+use Rattle.board_rules.proofs.slot_at as slot-at
+use Rattle.board_rules.proofs.view as view
 use Rattle.board.proofs.view_in as own
 
 abbrev stayed : Stays (own.ended .signature .params) (own.ended .kept)
@@ -114,5 +114,5 @@ view-in-spec 𝓤 H 𝓜 𝓖 𝓡 =
     (goes 𝓤 H (𝓖 .A) W (𝓜 .mem) (𝓡 .run)) (λ κs. (ptr-vals, (uint-vals w16, tt))) (λ κs. (shr-tells (named 0) (κs .0) T.the-row, (uint-tells w16, tt)))
     (λ fm κs qs bounds a _ are. walk 𝓤 H (𝓖 .A) W (𝓜 .mem) (𝓡 .run) (κs .0) (qs .0) (a .0 .ptr .0) (a .0 .ptr .1) (a .0 .name) (a .0 .now) (a .1 .0) (are .1 .0 .1)
     (tables 𝓤 H 𝓜 𝓡 own.Code.env .C) (tables 𝓤 H 𝓜 𝓡 own.Code.env .Λ) fm
-    (cited 𝓤 H (Find 𝓤 H (𝓖 .A) W (𝓜 .mem) (𝓡 .run)) 𝓜 𝓡 own.Code.env slot-at.Symbol.name slot-at.Symbol.routine own.Code.calls-slots·slot-at (slot-at.Met.met 𝓤 H 𝓜 𝓖 𝓡))
-    (cited 𝓤 H (Look 𝓤 H (𝓖 .A) W (𝓜 .mem) (𝓡 .run)) 𝓜 𝓡 own.Code.env view.Symbol.name view.Symbol.routine own.Code.calls-slots·view (view.Met.met 𝓤 H 𝓜 𝓖 𝓡)))
+    (cited 𝓤 H (Find 𝓤 H (𝓖 .A) W (𝓜 .mem) (𝓡 .run)) 𝓜 𝓡 own.Code.env slot-at.Symbol.name slot-at.Symbol.routine own.Code.calls-board-rules·slot-at (slot-at.Met.met 𝓤 H 𝓜 𝓖 𝓡))
+    (cited 𝓤 H (Look 𝓤 H (𝓖 .A) W (𝓜 .mem) (𝓡 .run)) 𝓜 𝓡 own.Code.env view.Symbol.name view.Symbol.routine own.Code.calls-board-rules·view (view.Met.met 𝓤 H 𝓜 𝓖 𝓡)))

@@ -1,6 +1,6 @@
 use Rattle.prelude.proofs.Prelude.{arith, sym, _∙_}
 use Rattle.coding.specs.Reader.{part}
-use Rattle.profile.proofs.Reading.{by-line, no-parts, beside}
+use Rattle.profile_read.proofs.Reading.{by-line, no-parts, beside}
 use Rattle.profile_pass.proofs.next_by.Statement.{statement}
 use Rattle.profile_pass.proofs.Passing.{next-none, next-some, line-here, no-line-here, inside}
 use Rattle.profile_pass.proofs.next_by.Tie as tie

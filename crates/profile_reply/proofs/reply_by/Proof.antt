@@ -1,5 +1,5 @@
 use Rattle.prelude.proofs.Prelude.{arith, refl, ap, _∙_, eq-eqb, ne-eqb}
-use Rattle.trunks.specs.declared.TrunkAnswer.{TrunkAnswer}
+use Rattle.trunk_types.specs.declared.TrunkAnswer.{TrunkAnswer}
 use Rattle.profile_reply.specs.Replies.{calledFor, replyProfile, leftProfile}
 use Rattle.profile_reply.proofs.reply_by.Statement.{statement}
 use Rattle.profile_reply.proofs.reply_by.Tie as tie

@@ -1,6 +1,6 @@
 -- Silent, or the reject by the number, the first octet and the identifier.
 use Rattle.prelude.proofs.Prelude.{arith, sym, _∙_}
-use Rattle.rejections.specs.Rejects.{replyBy}
+use Rattle.reply_rules.specs.Rejects.{replyBy}
 use Rattle.reply.proofs.{Silence.silent-accepted, Silence.silent-reject, Silence.spoken, Silence.replied, reply_to.Statement.statement}
 use Rattle.reply.proofs.reply_to.Tie as tie
 

@@ -22,7 +22,7 @@ use Rattle.account.specs.{History.judged, History.accountBy, History.steppedBy,
 use Rattle.account.specs.{declared.Stepped.Stepped}
 use Rattle.step.proofs.{Steps.promised, Steps.atPlace, Steps.stored-T, Steps.stored-none-T, Lent.accountTy, Lent.changeTy, Lent.changeVal, Lent.Typed, Lent.lent, Machine.account-name}
 use Rattle.step.proofs.{Machine.vA, Machine.vE, Machine.vO, Machine.vT, Machine.vF, Machine.tellsA, Machine.tellsE, Machine.spread, Machine.parts}
-use Rattle.changes.proofs.{step.Symbol.name as #changes·step}
+use Rattle.step_rules.proofs.{step.Symbol.name as #step-rules·step}
 use Rattle.step.proofs.{step_in.Key.name as #step·step-in}
 use denote.Struct.Laws as LL
 use Rattle.types.proofs.Charge as F
@@ -37,9 +37,9 @@ use Rattle.phases.proofs.Status as S
 use Rattle.phases.proofs.Status.Laws as S′
 use Rattle.account.proofs.Change as N
 use Rattle.account.proofs.Change.Laws as N′
-use Rattle.changes.proofs.step as step
-use Rattle.changes.proofs.step.Symbol as step-def
-use Rattle.changes.proofs.step.Met as step-thm
+use Rattle.step_rules.proofs.step as step
+use Rattle.step_rules.proofs.step.Symbol as step-def
+use Rattle.step_rules.proofs.step.Met as step-thm
 use Rattle.step.proofs.step_in as step-in
 use Rattle.step.proofs.step_in.Statement as stated
 use Rattle.step.proofs.step_in.Code as code
@@ -166,11 +166,11 @@ module _ {M : Type 1} (𝓤 : URA M) (H : Heap 𝓤) (A : Atoms 𝓤) (W : Given
       let efinal = either (eqb k 4) (r .charge) (h .efinal) (f .1) (o .1 .1 .1 .0) in
       LL.owes T.the-type T′.the-laws (last r k) (f .0, (rate, (running, (dfinal, (efinal, tt)))))
 
-  module _ (C : Calls 𝓤 H) (Λ : Loops 𝓤 H) (fm : FmC 𝓤 H (W .laws) C) (known : Triple 𝓤 (C #changes·step) (ByValue 𝓤 H A at-mem run)) where
+  module _ (C : Calls 𝓤 H) (Λ : Loops 𝓤 H) (fm : FmC 𝓤 H (W .laws) C) (known : Triple 𝓤 (C #step-rules·step) (ByValue 𝓤 H A at-mem run)) where
     walk : Is E.the-row ev (vE ev ∷ []) → Is (ShrSlice (named 1) κ′ u8) s (vS ∷ [])
         → ent 𝓤 (onEntry 𝓤 H A step-in.signature (κ, (κ′, tt)) (q, (q′, tt)) x at) (WpFn 𝓤 H C Λ code.function (vptr b o ∷ vE ev ∷ vS ∷ []) Post)
     walk is-event is-slice =
-        lent 𝓤 H A W C Λ fm S′.mir F′.mir E′.mir O′.mir (pointee (T.the-row .written)) account-name change-name #changes·step T.the-row vA tellsA (LL.makes T.the-type T′.the-plain 𝓤 H A)
+        lent 𝓤 H A W C Λ fm S′.mir F′.mir E′.mir O′.mir (pointee (T.the-row .written)) account-name change-name #step-rules·step T.the-row vA tellsA (LL.makes T.the-type T′.the-plain 𝓤 H A)
         b o (W .laws .raw-at fullShare (accountTy S′.mir F′.mir account-name) b o) (W .laws .at-raw fullShare
         (accountTy S′.mir F′.mir account-name) b o) κ κ′ q q′ γ h (vT (h .status)) (vF (h .rate)) (vF (h .running)) (vF (h .dfinal)) (vF (h .efinal)) (parts h) (typed-account 𝓤 H A W h)
         (vE ev) vS (LL.lawful E.the-type E′.the-laws 𝓤 H A W .typed ev _ is-event .0) (shr-slice-lawful 𝓤 H A W (named 1) κ′ u8 .typed s (vS ∷ []) is-slice .0)
@@ -181,7 +181,7 @@ module _ {M : Type 1} (𝓤 : URA M) (H : Heap 𝓤) (A : Atoms 𝓤) (W : Given
         last (is-last 1) (is-last 2) (is-last 3) (is-last 4) (is-last 0) Post Result (λ r k e t. stored-T h ev (now s) r e k t) (stored-none-T h ev (now s)) (λ r k e. exits r k e is-event)
 
 module _ {M : Type 1} (𝓤 : URA M) (H : Heap 𝓤) (A : Atoms 𝓤) (W : Given 𝓤 H A) (at-mem : Memory → SProp 𝓤) (run : Routine → Fun 𝓤) where
-  step-in-walks : (C : Calls 𝓤 H) (Λ : Loops 𝓤 H) → FmC 𝓤 H (W .laws) C → Triple 𝓤 (C #changes·step) (ByValue 𝓤 H A at-mem run)
+  step-in-walks : (C : Calls 𝓤 H) (Λ : Loops 𝓤 H) → FmC 𝓤 H (W .laws) C → Triple 𝓤 (C #step-rules·step) (ByValue 𝓤 H A at-mem run)
       → Walks 𝓤 H A step-in.ended stayed (WpFn 𝓤 H C Λ code.function) (step-in.clauses 𝓤 H A at-mem run)
   step-in-walks C Λ fm known = walked 𝓤 H A step-in.ended stayed (step-in.clauses 𝓤 H A at-mem run) (WpFn 𝓤 H C Λ code.function)
       (λ κs. (ptr-vals, ((λ (d : Event). vE d ∷ []), (slice-vals, tt)))) (λ κs. (mut-tells (named 0) (κs .0) T.the-row, (tellsE, (shr-slice-tells (named 1) (κs .1 .0) u8, tt))))
@@ -192,7 +192,7 @@ module _ {M : Type 1} (𝓤 : URA M) (H : Heap 𝓤) (A : Atoms 𝓤) (W : Given
   goes = (goes-ref 𝓤 H A W 2 0 tt (plain (λ _. T.the-row)), (goes-none 𝓤 H A W 2 (λ _. E.the-row) yes (λ κs x f. refl), (goes-none-slice 𝓤 H A W 2 (1 ∷ []) tt (plain (λ _. u8)) yes, tt)))
 
 step-in-meets : {M : Type 1} (𝓤 : URA M) (H : Heap 𝓤) (A : Atoms 𝓤) → Given 𝓤 H A → (at-mem : Memory → SProp 𝓤) (run : Routine → Fun 𝓤) (𝓣 : Tables 𝓤 H) → Triple 𝓤
-    (𝓣 .C #changes·step) (ByValue 𝓤 H A at-mem run)
+    (𝓣 .C #step-rules·step) (ByValue 𝓤 H A at-mem run)
     → Meets 𝓤 H A step-in.signature (WpFn 𝓤 H (𝓣 .C) (𝓣 .Λ) code.function) (step-in.spec 𝓤 H A at-mem run)
 step-in-meets 𝓤 H A W at-mem run 𝓣 known = walk-meets 𝓤 H A step-in.ended stayed W (goes 𝓤 H A W at-mem run) (step-in.clauses 𝓤 H A at-mem run) (WpFn 𝓤 H (𝓣 .C)
     (𝓣 .Λ) code.function) (WpFn-mono 𝓤 H (W .laws) 𝓣 code.function)
@@ -204,4 +204,4 @@ step-in-spec 𝓤 H 𝓜 𝓖 𝓡 =
     entered 𝓤 H (tripleOf 𝓤 H (𝓖 .A) step-in.signature (step-in.spec 𝓤 H (𝓖 .A) (𝓜 .mem) (𝓡 .run)))
     (tables 𝓤 H 𝓜 𝓡 code.env .C) (tables 𝓤 H 𝓜 𝓡 code.env .Λ) #step·step-in code.function (code.unfolded 𝓤 H 𝓜 𝓡)
     (step-in-meets 𝓤 H (𝓖 .A) (givenOf 𝓤 H 𝓜 𝓖) (𝓜 .mem) (𝓡 .run) (tablesOf 𝓤 H 𝓜 (tables 𝓤 H 𝓜 𝓡 code.env))
-    (cited 𝓤 H (ByValue 𝓤 H (𝓖 .A) (𝓜 .mem) (𝓡 .run)) 𝓜 𝓡 code.env #changes·step step-def.routine code.calls-changes·step (step-thm.met 𝓤 H 𝓜 𝓖 𝓡)))
+    (cited 𝓤 H (ByValue 𝓤 H (𝓖 .A) (𝓜 .mem) (𝓡 .run)) 𝓜 𝓡 code.env #step-rules·step step-def.routine code.calls-step-rules·step (step-thm.met 𝓤 H 𝓜 𝓖 𝓡)))

@@ -1,6 +1,6 @@
 use Rattle.prelude.proofs.Prelude.{arith, refl, sym, ap, _∙_}
-use Rattle.framing.specs.declared.Verdict.{Verdict}
-use Rattle.messages.proofs.Theorems.{not-refused}
+use Rattle.trace_framing.specs.declared.Verdict.{Verdict}
+use Rattle.trace_messages.proofs.Theorems.{not-refused}
 use Rattle.trace.proofs.{Whole.refused, Whole.accepted, events_into.Statement.statement}
 use Rattle.trace.proofs.events_into.Tie as tie
 

@@ -1,7 +1,7 @@
 -- Each need by the room for all, less what was put before.
 use Rattle.prelude.proofs.Prelude.{arith, suc, [], _∷_, _++_, List, length}
 use Rattle.phases.specs.Phases.{Given, Clear, Connect, Released}
-use Rattle.messages.specs.Trace.{when, phaseEvent, componentEvents, componentsFrom}
+use Rattle.trace_messages.specs.Trace.{when, phaseEvent, componentEvents, componentsFrom}
 use Rattle.trace.proofs.{Laying.rooms-head, Laying.rooms-tail, Laying.rows-head, Laying.rows-whole, Laying.puts-both, put_all.Statement.statement}
 use Rattle.trace.proofs.put_all.Tie as tie
 

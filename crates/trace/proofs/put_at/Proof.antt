@@ -1,7 +1,7 @@
 use Rattle.prelude.proofs.Prelude.{sym, arith, _-_}
 use Rattle.coding.{specs.Reader.part, proofs.Parts.part-length}
 use Rattle.trace.proofs.{Laying.puts-none, Laying.puts-as, Laying.rooms-as, put_at.Statement.statement}
-use Rattle.messages.proofs.Walk.{none-under, none-other, one-facility}
+use Rattle.trace_messages.proofs.Walk.{none-under, none-other, one-facility}
 use Rattle.trace.proofs.put_at.Tie as tie
 
 returns : tie.Need-returns

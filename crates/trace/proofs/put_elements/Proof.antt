@@ -1,10 +1,10 @@
 use Rattle.prelude.proofs.Prelude.{suc, _≤_, _<_, _-_, _+_, _≡_, true, refl, sym, _∙_, arith, length, getD}
-use Rattle.framing.specs.Framing.{elementsFit}
-use Rattle.messages.specs.Trace.{componentsFrom, componentEvents}
+use Rattle.trace_framing.specs.Framing.{elementsFit}
+use Rattle.trace_messages.specs.Trace.{componentsFrom, componentEvents}
 use Rattle.trace.specs.Putting.{Progress}
-use Rattle.framing.proofs.Laws.{end-past, end-near, fit-more}
+use Rattle.trace_framing.proofs.Laws.{end-past, end-near, fit-more}
 use Rattle.trace.proofs.Laying.{rooms-head, rooms-as, progress-starts, progress-as, progress-more, progress-ends}
-use Rattle.messages.proofs.Walk.{next-inside, events-more, events-over}
+use Rattle.trace_messages.proofs.Walk.{next-inside, events-more, events-over}
 use Rattle.trace.proofs.put_elements.Statement.{statement}
 use Rattle.trace.proofs.put_elements.Tie as tie
 

@@ -1,7 +1,7 @@
 use Rattle.prelude.proofs.Prelude.{arith, _≡_, _+_, sym, getD}
-use Rattle.framing.proofs.Laws.{framed-head}
+use Rattle.trace_framing.proofs.Laws.{framed-head}
 use Rattle.trace.proofs.{Laying.rooms-as, Laying.puts-as, put_message.Statement.statement}
-use Rattle.messages.proofs.Walk.{message-is, message-fits}
+use Rattle.trace_messages.proofs.Walk.{message-is, message-fits}
 use Rattle.trace.proofs.put_message.Tie as tie
 
 read-wide : tie.Need-shared-slice-read-wide

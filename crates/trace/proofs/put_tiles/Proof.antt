@@ -1,9 +1,9 @@
 -- At each place the components of what is left of the element are still to be laid.
 use Rattle.prelude.proofs.Prelude.{ℕ, List, _-_, sym, ap, _∙_, arith, length, not-true, not-false}
 use Rattle.coding.{specs.Reader.part, proofs.Parts.part-length}
-use Rattle.facility.specs.{Element.elementOf, Cut.startsOf, Cut.partsOf}
-use Rattle.pass.proofs.Going.{Goes, Here, goes-first, goes-on, goes-none}
-use Rattle.messages.{specs.Trace.componentsIn, specs.Trace.componentEvents, proofs.Walk.in-other, proofs.Walk.in-parts}
+use Rattle.element.specs.{Element.elementOf, Cut.startsOf, Cut.partsOf}
+use Rattle.element_pass.proofs.Going.{Goes, Here, goes-first, goes-on, goes-none}
+use Rattle.trace_messages.{specs.Trace.componentsIn, specs.Trace.componentEvents, proofs.Walk.in-other, proofs.Walk.in-parts}
 use Rattle.trace.specs.Putting.{Progress}
 use Rattle.trace.proofs.Laying.{puts-none, puts-as, rooms-head, rooms-as, progress-starts, progress-as, progress-more, progress-ends}
 use Rattle.trace.proofs.put_tiles.Statement.{statement}

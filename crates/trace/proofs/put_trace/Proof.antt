@@ -1,10 +1,10 @@
 use Rattle.prelude.proofs.Prelude.{arith, _≡_, _≤_, _+_, _-_, _/_, _∷_, length, take, drop, true, false, refl}
-use Rattle.framing.specs.Framing.{Passing, byNetwork, messagesFrom, messagesOf}
-use Rattle.messages.specs.Trace.{allFramed, traceFrom}
+use Rattle.trace_framing.specs.Framing.{Passing, byNetwork, messagesFrom, messagesOf}
+use Rattle.trace_messages.specs.Trace.{allFramed, traceFrom}
 use Rattle.trace.specs.Putting.{Progress}
-use Rattle.framing.proofs.Laws.{passing-starts, passes-on, inside, from-start, next-message, nothing-left}
+use Rattle.trace_framing.proofs.Laws.{passing-starts, passes-on, inside, from-start, next-message, nothing-left}
 use Rattle.trace.proofs.Laying.{rooms-head, rooms-as, progress-starts, progress-as, progress-more, progress-ends}
-use Rattle.messages.proofs.Walk.{trace-more, framed-more, trace-over}
+use Rattle.trace_messages.proofs.Walk.{trace-more, framed-more, trace-over}
 use Rattle.trace.proofs.put_trace.Statement.{statement}
 use Rattle.trace.proofs.put_trace.Tie as tie
 

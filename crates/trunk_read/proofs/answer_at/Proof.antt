@@ -4,9 +4,9 @@ use Rattle.coding.proofs.Reading.{stay, step, remains}
 use Rattle.types.specs.Frames.{inArgument}
 use Rattle.read_heads.proofs.Codes.{has-below}
 use Rattle.read_figures.proofs.Answers.{refused, surplus, arrived}
-use Rattle.trunks.specs.Components.{answerable}
-use Rattle.trunk_fields.proofs.Stores.{zero-spare}
-use Rattle.trunk_frames.proofs.Marked.{stay-in, goes-under, inner-some}
+use Rattle.trunk_types.specs.Components.{answerable}
+use Rattle.trunk_read_fields.proofs.Stores.{zero-spare}
+use Rattle.trunk_read_frames.proofs.Marked.{stay-in, goes-under, inner-some}
 use Rattle.trunk_read.proofs.{Frames.answer-read, Frames.answer-whole, answer_at.Statement.statement}
 use Rattle.trunk_read.proofs.answer_at.Tie as tie
 

@@ -2,7 +2,7 @@
 use Rattle.prelude.proofs.Prelude.{arith, needs, refl}
 use Rattle.coding.proofs.Reading.{stay, step}
 use Rattle.read_figures.proofs.Answers.{refused, surplus, arrived}
-use Rattle.trunk_fields.proofs.Stores.{zero-spare}
+use Rattle.trunk_read_fields.proofs.Stores.{zero-spare}
 use Rattle.trunk_read.proofs.{Frames.component-read, Frames.component-over, Frames.component-whole, component_at.Statement.statement}
 use Rattle.trunk_read.proofs.component_at.Tie as tie
 

@@ -1,7 +1,7 @@
 -- By the first octet.
 use Rattle.prelude.proofs.Prelude.{needs, eq-eqb, ne-eqb}
-use Rattle.trunks.specs.Components.{trunkFrame}
-use Rattle.trunk_bodies.proofs.Stores.{blank-none}
+use Rattle.trunk_types.specs.Components.{trunkFrame}
+use Rattle.trunk_read_bodies.proofs.Stores.{blank-none}
 use Rattle.trunk_read.proofs.frame_at.Statement.{statement}
 use Rattle.trunk_read.proofs.frame_at.Tie as tie
 

@@ -3,9 +3,9 @@ use Rattle.prelude.proofs.Prelude.{needs, refl, sym, _∙_, arith}
 use Rattle.coding.proofs.Reading.{stay, step}
 use Rattle.read_heads.proofs.Codes.{has-below}
 use Rattle.read_figures.proofs.Answers.{refused, arrived}
-use Rattle.trunks.specs.Components.{trunkOperations}
-use Rattle.trunk_fields.proofs.Stores.{zero-spare}
-use Rattle.trunk_frames.proofs.Marked.{stay-in, inner-some}
+use Rattle.trunk_types.specs.Components.{trunkOperations}
+use Rattle.trunk_read_fields.proofs.Stores.{zero-spare}
+use Rattle.trunk_read_frames.proofs.Marked.{stay-in, inner-some}
 use Rattle.trunk_read.proofs.{Frames.invoke-read, Frames.invoke-whole, invoke_at.Statement.statement}
 use Rattle.trunk_read.proofs.invoke_at.Tie as tie
 

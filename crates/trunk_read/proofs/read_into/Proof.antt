@@ -2,7 +2,7 @@
 use Rattle.prelude.proofs.Prelude.{arith, needs, refl, ap, sym, _∙_}
 use Rattle.coding.specs.Reader.{part}
 use Rattle.types.specs.Stored.{figureIn}
-use Rattle.trunks.specs.{Stored.bodyIn, Stored.trunkIn, Components.noTrunk, Components.trunkAccepted}
+use Rattle.trunk_types.specs.{Stored.bodyIn, Stored.trunkIn, Components.noTrunk, Components.trunkAccepted}
 use Rattle.read_figures.proofs.Answers.{is-stored}
 use Rattle.trunk_read.proofs.{Whole.too-long, Whole.accepts, Whole.refuses, Whole.placed, Whole.one-octet, read_into.Statement.statement}
 use Rattle.trunk_read.proofs.read_into.Tie as tie

@@ -1,6 +1,6 @@
 use Rattle.prelude.proofs.Prelude.{sym, _∙_, arith, needs, not-false}
-use Rattle.trunks.specs.{declared.Trunk.Trunk, Stored.trunkIn}
-use Rattle.trunk_octets.{specs.Octets.given, proofs.Frames.known-frame}
+use Rattle.trunk_types.specs.{declared.Trunk.Trunk, Stored.trunkIn}
+use Rattle.trunk_write_frames.{specs.Octets.given, proofs.Frames.known-frame}
 use Rattle.trunk_write.specs.Outcome.{spareZero}
 use Rattle.trunk_write.proofs.{Outcomes.Sized, Outcomes.Whole, Outcomes.not-spare, Outcomes.not-fine, Outcomes.too-long, Outcomes.no-room, Outcomes.lead-room, Outcomes.contents-room}
 use Rattle.trunk_write.proofs.{Outcomes.written, Outcomes.written-few, write_from.Statement.statement}

@@ -1,6 +1,6 @@
 use Rattle.prelude.proofs.Prelude.{sym, _∙_, not-false, arith}
 use Rattle.outcomes.proofs.Refusals.{ways}
-use Rattle.reasons.specs.Reasons.{whyOf}
+use Rattle.why_rules.specs.Reasons.{whyOf}
 use Rattle.why.proofs.why.Statement.{statement}
 use Rattle.why.proofs.why.Tie as tie
 

@@ -1,6 +1,6 @@
 use Rattle.prelude.proofs.Prelude.{arith, _∙_, needs}
 use Rattle.types.specs.Stored.{withList}
-use Rattle.write_prices.proofs.Prices.{was-true, was-false}
+use Rattle.write_rate.proofs.Prices.{was-true, was-false}
 use Rattle.write.proofs.{Fits.held-not, Fits.held-tested, record_fine.Statement.statement}
 use Rattle.write.proofs.record_fine.Tie as tie
 

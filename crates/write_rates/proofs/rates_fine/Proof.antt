@@ -1,6 +1,6 @@
 use Rattle.prelude.proofs.Prelude.{arith, needs}
 use Rattle.coding.proofs.Tests.{tests}
-use Rattle.write_prices.proofs.Prices.{was-true, was-false}
+use Rattle.write_rate.proofs.Prices.{was-true, was-false}
 use Rattle.write_rates.proofs.{Places.rates-is, rates_fine.Statement.statement}
 use Rattle.write_rates.proofs.rates_fine.Tie as tie
 

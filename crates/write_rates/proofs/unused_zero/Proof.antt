@@ -1,5 +1,5 @@
 use Rattle.prelude.proofs.Prelude.{needs}
-use Rattle.write_prices.proofs.Prices.{was-true, was-false}
+use Rattle.write_rate.proofs.Prices.{was-true, was-false}
 use Rattle.write_rates.proofs.unused_zero.Statement.{statement}
 use Rattle.write_rates.proofs.unused_zero.Tie as tie
 

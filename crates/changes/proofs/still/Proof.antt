@@ -1,6 +1,0 @@
-use Rattle.prelude.proofs.Prelude.{arith}
-use Rattle.changes.proofs.still.Statement.{statement}
-use Rattle.changes.proofs.still.Tie as tie
-
-pub still-spec : {M : Type 1} → statement M
-still-spec = tie.close (tie.spec (omega arith) (λ c. rw (c .no-charge .ensures)))

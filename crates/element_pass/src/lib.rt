@@ -1,0 +1,142 @@
+// One pass over a Facility element: the next component's record or refusal with the place after it, or the end.
+ghost use mathlib.Core.Path.{_≡_};
+ghost use Prim.Native.Nat.{_≤_, _<_};
+ghost use lib.ListN.{length, replicate};
+ghost use Rattle.types.specs.Frames.{refused};
+ghost use Rattle.element_pass.specs.Pass.{foundAt, passOf, wholeNext};
+ghost use Rattle.element.specs.Places.{Along};
+
+// after: the place after the component. ended: 1 at the end of the element, where all else is zero.
+// answer: the component's, or 15 for a malformed element, 16 for a place where no component begins, 17 for one of another family.
+#[repr(C)]
+pub struct Next {
+    pub after: usize,
+    pub ended: usize,
+    pub answer: read::Refusal,
+}
+
+// Where a component lies that begins at a place: up to `after`; where that is 0, none does, and the place is the end or is refused.
+pub struct Found {
+    pub after: usize,
+    pub ended: usize,
+    pub number: u32,
+}
+
+// The whole tiling is judged first.
+fn find(octets: &[u8], place: usize) -> Found
+    ensures { λ r. ⌜ r ≡ foundAt (now (octets .entry)) place ⌝ }
+    ensures inside { λ r. ⌜ ((r .after ≡ 0 → ⊥) → (place < r .after) × (r .after ≤ length (now (octets .entry))) × (3 < length (now (octets .entry)))) ⌝ }
+{
+    let cut = element::cut_at(octets, place);
+    if cut.tiles.number != 0 {
+        return Found {
+            after: 0,
+            ended: 0,
+            number: 15,
+        };
+    }
+    if place == octets.len() {
+        return Found {
+            after: 0,
+            ended: 1,
+            number: 0,
+        };
+    }
+    let after = cut.after;
+    if after == 0 {
+        return Found {
+            after: 0,
+            ended: 0,
+            number: 16,
+        };
+    }
+    Found {
+        after,
+        ended: 0,
+        number: 0,
+    }
+}
+
+// What `find` gives at a place where a component begins, or at the end, once the tiling has been judged: the tile there alone is looked at.
+pub fn onward(octets: &[u8], place: usize) -> Found
+    requires { ⌜ Along (now octets) place ⌝ }
+    ensures { λ r. ⌜ r ≡ foundAt (now (octets .entry)) place ⌝ }
+{
+    let end = octets.len();
+    if place == end {
+        return Found {
+            after: 0,
+            ended: 1,
+            number: 0,
+        };
+    }
+    let tile = read_lengths::open_at(octets, place, end, octets[place]);
+    Found {
+        after: tile.next,
+        ended: 0,
+        number: 0,
+    }
+}
+
+// What `find` gives at the first place. Going through an element by this and `onward` walks it twice, and by `find` once for each place.
+pub fn first(octets: &[u8]) -> Found
+    ensures { λ r. ⌜ r ≡ foundAt (now (octets .entry)) 3 ⌝ }
+{
+    let tiles = element::element(octets);
+    if tiles.number == 0 {
+        return onward(octets, 3);
+    }
+    Found {
+        after: 0,
+        ended: 0,
+        number: 15,
+    }
+}
+
+// Nothing read: a number, or the end. All four parts are zero beside it.
+fn without(after: usize, ended: usize, number: u32) -> Next
+    ensures { λ r. ⌜ wholeNext r (replicate 8 0) (replicate 48 0) (replicate 32 0) (replicate 192 0) ≡ record { ended = ended; after = after; answer = refused number } ⌝ }
+{
+    Next {
+        after,
+        ended,
+        answer: read::Refusal { number, offset: 0 },
+    }
+}
+
+// What stands at a place of an element: the next component, its record in four parts that are lent, whatever they hold, with the place after it; or the end.
+// A component of an element with another third octet than 91 is not read: 17.
+pub fn next_into(
+    octets: &[u8],
+    place: usize,
+    front: &mut [u8; 8],
+    figure: &mut [u8; 48],
+    numbers: &mut [u32; 32],
+    rows: &mut [u8; 192],
+) -> Next
+    ensures { λ r. ⌜ wholeNext r (now (front .exit)) (now (figure .exit)) (now (numbers .exit)) (now (rows .exit)) ≡ passOf (now (octets .entry)) place ⌝ }
+{
+    let f = find(octets, place);
+    let after = f.after;
+    let ended = f.ended;
+    if after == 0 {
+        *front = [0; 8];
+        *figure = [0; 48];
+        *numbers = [0; 32];
+        *rows = [0; 192];
+        return without(0, ended, f.number);
+    }
+    if octets[2] != 0x91 {
+        *front = [0; 8];
+        *figure = [0; 48];
+        *numbers = [0; 32];
+        *rows = [0; 192];
+        return without(after, ended, 17);
+    }
+    let answer = read::read_into(&octets[place..after], front, figure, numbers, rows);
+    Next {
+        after,
+        ended,
+        answer,
+    }
+}

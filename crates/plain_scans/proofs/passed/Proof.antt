@@ -1,0 +1,14 @@
+use Rattle.prelude.proofs.Prelude.{_∙_, ap, arith}
+use Rattle.phases.specs.{declared.Moving.Moving}
+use Rattle.plain_scans.proofs.Histories.{moving-phase}
+use Rattle.plain_scans.proofs.passed.Statement.{statement}
+use Rattle.plain_scans.proofs.passed.Tie as tie
+
+returns : tie.Need-returns
+returns c =
+    let step = c .before in
+    let x = step .before .before .args in
+    ap (λ (m : Moving). m .status .phase) (step .phase-step .ensures) ∙ rw (step .before .bare .ensures) (moving-phase (x .phase) (x .e))
+
+pub passed-spec : {M : Type 1} → statement M
+passed-spec = tie.close (tie.spec (omega arith) (omega arith) returns)

@@ -1,0 +1,120 @@
+// Reads a component by the profile octet of its element: hex 91 is a public line, hex 9F a trunk, and any other octet is refused (17) before all else.
+ghost use mathlib.Core.Path.{_≡_};
+ghost use lib.ListN.{replicate};
+ghost use Rattle.types.specs.Frames.{noRecord};
+ghost use Rattle.types.specs.Stored.{recordIn, storedCharge};
+ghost use Rattle.trunk_types.specs.Components.{noTrunk};
+ghost use Rattle.trunk_types.specs.Stored.{trunkIn};
+ghost use Rattle.trunk_types.specs.Stored.{Spare};
+ghost use Rattle.profile_read.specs.Profile.{readBy, eitherIn};
+
+// number: 0, or a refusal's, with 40 to 45 an offset. family: that of the profile octet, 1 of public lines, 2 of trunks; 0 where it names none.
+#[repr(C)]
+pub struct Judged {
+    pub number: u32,
+    pub offset: u32,
+    pub family: u32,
+}
+
+// ---- a record of zeros, in its parts
+
+fn no_line(
+    front: &mut [u8; 8],
+    figure: &mut [u8; 48],
+    numbers: &mut [u32; 32],
+    rows: &mut [u8; 192],
+)
+    ensures { λ _. ⌜ recordIn (now (front .exit)) (now (figure .exit)) (now (numbers .exit)) (now (rows .exit)) ≡ noRecord ⌝ }
+{
+    *front = [0; 8];
+    *figure = [0; 48];
+    *numbers = [0; 32];
+    *rows = [0; 192];
+}
+
+pub fn no_trunk(
+    lead: &mut [u8; 48],
+    lent: &mut [u8; 244],
+    figure: &mut [u8; 48],
+    numbers: &mut [u32; 32],
+    rows: &mut [u8; 192],
+)
+    ensures { λ _. ⌜ trunkIn (now (lead .exit)) (now (lent .exit)) (storedCharge (now (figure .exit)) (now (numbers .exit)) (now (rows .exit))) ≡ noTrunk ⌝ }
+    ensures spare { λ _. ⌜ Spare (now (lead .exit)) ⌝ }
+{
+    *lead = [0; 48];
+    *lent = [0; 244];
+    *figure = [0; 48];
+    *numbers = [0; 32];
+    *rows = [0; 192];
+}
+
+// ---- components
+
+// Reads a component of another octet than 91, beside a record of zeros of the other family.
+pub fn trunk_by(
+    profile: u8,
+    octets: &[u8],
+    lead: &mut [u8; 48],
+    lent: &mut [u8; 244],
+    figure: &mut [u8; 48],
+    numbers: &mut [u32; 32],
+    rows: &mut [u8; 192],
+) -> Judged
+    requires { ⌜ (profile ≡ 0x91 → ⊥) ⌝ }
+    ensures { λ r. ⌜ eitherIn r (replicate 8 0) (replicate 48 0) (replicate 32 0) (replicate 192 0) (now (lead .exit)) (now (lent .exit)) (now (figure .exit)) (now (numbers .exit)) (now (rows .exit)) ≡ readBy profile (now (octets .entry)) ⌝ }
+    ensures spare { λ _. ⌜ Spare (now (lead .exit)) ⌝ }
+{
+    if profile == 0x9f {
+        let a = trunk_read::read_into(octets, lead, lent, figure, numbers, rows);
+        return Judged {
+            number: a.number,
+            offset: a.offset,
+            family: 2,
+        };
+    }
+    no_trunk(lead, lent, figure, numbers, rows);
+    Judged {
+        number: 17,
+        offset: 0,
+        family: 0,
+    }
+}
+
+// Reads a component with its profile octet into the parts of both records, whatever they hold: the record of the family that is not read is zero.
+pub fn read_by(
+    profile: u8,
+    octets: &[u8],
+    front: &mut [u8; 8],
+    figure: &mut [u8; 48],
+    numbers: &mut [u32; 32],
+    rows: &mut [u8; 192],
+    lead: &mut [u8; 48],
+    lent: &mut [u8; 244],
+    trunk_figure: &mut [u8; 48],
+    trunk_numbers: &mut [u32; 32],
+    trunk_rows: &mut [u8; 192],
+) -> Judged
+    ensures { λ r. ⌜ eitherIn r (now (front .exit)) (now (figure .exit)) (now (numbers .exit)) (now (rows .exit)) (now (lead .exit)) (now (lent .exit)) (now («trunk_figure» .exit)) (now («trunk_numbers» .exit)) (now («trunk_rows» .exit)) ≡ readBy profile (now (octets .entry)) ⌝ }
+    ensures spare { λ _. ⌜ Spare (now (lead .exit)) ⌝ }
+{
+    if profile == 0x91 {
+        no_trunk(lead, lent, trunk_figure, trunk_numbers, trunk_rows);
+        let a = read::read_into(octets, front, figure, numbers, rows);
+        return Judged {
+            number: a.number,
+            offset: a.offset,
+            family: 1,
+        };
+    }
+    no_line(front, figure, numbers, rows);
+    trunk_by(
+        profile,
+        octets,
+        lead,
+        lent,
+        trunk_figure,
+        trunk_numbers,
+        trunk_rows,
+    )
+}

@@ -1,9 +1,0 @@
-use Rattle.prelude.proofs.Prelude.{needs, arith}
-use Rattle.read_lengths.proofs.Answers.{when}
-use Rattle.read_terms.specs.Readers.{typeBy}
-use Rattle.read_terms.proofs.type_at.Statement.{statement}
-use Rattle.read_terms.proofs.type_at.Tie as tie
-
-pub type-at-spec : {M : Type 1} → statement M
-unfolding typeBy
-type-at-spec = tie.close (tie.spec (search needs) (search needs) (λ c. (search when, omega arith)) (λ c. (search when, omega arith)))

@@ -1,6 +1,0 @@
-use Rattle.prelude.proofs.Ways.{ways}
-use Rattle.scans.proofs.asking.Statement.{statement}
-use Rattle.scans.proofs.asking.Tie as tie
-
-pub asking-spec : {M : Type 1} → statement M
-asking-spec = tie.close (tie.spec (λ c. search ways) (λ c. search ways))

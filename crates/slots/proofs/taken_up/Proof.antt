@@ -1,9 +1,0 @@
-use Rattle.prelude.proofs.Prelude.{arith, refl}
-use Rattle.slots.specs.ByValue.{takenUp}
-use Rattle.slots.proofs.taken_up.Statement.{statement}
-use Rattle.slots.proofs.taken_up.Tie as tie
-
-pub taken-up-spec : {M : Type 1} → statement M
-unfolding takenUp
-taken-up-spec = tie.close (tie.spec (omega arith) (omega arith) (omega arith) (λ c. let t = c .before .before in rw
-    (c .key-of .ensures, c .before .no-charge .ensures, t .before .before .begin .ensures) refl))

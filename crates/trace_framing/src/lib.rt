@@ -1,0 +1,149 @@
+// The framing of layer 3 messages, and of a trace of them.
+//
+// A trace is two slices: the octets of all messages end to end, and for each message a pair of length and direction (0 the user, any other the network).
+ghost use mathlib.Core.Path.{_≡_};
+ghost use mathlib.Core.Bool.{true};
+ghost use Prim.Native.Nat.{suc, _≤_, _<_, _/_};
+ghost use lib.ListN.{length};
+ghost use Rattle.trace_framing.specs.Framing.{elementEnd, elementsFit, headed, framed, lengthsFit, lengthsAddUp, messagesOf, firstUnframed, verdictOf};
+
+// number: 0, 48 or 49. message: with 49 the number of the first message that is not framed, from 1.
+#[repr(C)]
+pub struct Verdict {
+    pub number: u64,
+    pub message: u64,
+}
+
+// ---- one message
+
+// The place after the element at a place, or one past the end where it does not fit.
+pub fn element_end(s: &[u8], at: usize) -> usize
+    requires { ⌜ at < length (now s) ⌝ }
+    ensures { λ r. ⌜ r ≡ elementEnd (now (s .entry)) at ⌝ }
+{
+    if s[at] >= 0x80 {
+        return at + 1;
+    }
+    let next = at + 1;
+    if next < s.len() {
+        return at + 2 + octets::wide(s[next]);
+    }
+    at + 2
+}
+
+// Whether elements stand from a place to the exact end.
+fn elements_fit(s: &[u8], start: usize) -> bool
+    requires { ⌜ start ≤ length (now s) ⌝ }
+    ensures { λ r. ⌜ r ≡ elementsFit (suc (length (now (s .entry)))) (now (s .entry)) start ⌝ }
+{
+    let end = s.len();
+    let mut at = start;
+    while at < end {
+        let next = element_end(s, at);
+        if end < next {
+            return false;
+        }
+        at = next;
+    }
+    true
+}
+
+fn is_headed(s: &[u8]) -> bool
+    ensures { λ r. ⌜ r ≡ headed (now (s .entry)) ⌝ }
+{
+    if s.len() < 3 {
+        return false;
+    }
+    if s[0] != 0x08 {
+        return false;
+    }
+    if s[1] > 2 {
+        return false;
+    }
+    3 + octets::wide(s[1]) <= s.len()
+}
+
+fn is_framed(s: &[u8]) -> bool
+    ensures { λ r. ⌜ r ≡ framed (now (s .entry)) ⌝ }
+{
+    if !is_headed(s) {
+        return false;
+    }
+    let start = 3 + octets::wide(s[1]);
+    elements_fit(s, start)
+}
+
+// ---- a trace
+
+pub fn size(n: u32) -> usize
+    ensures { λ r. ⌜ r ≡ n ⌝ }
+{
+    n as usize
+}
+
+fn lengths_fit(pairs: &[u32], total: usize) -> bool
+    ensures { λ r. ⌜ r ≡ lengthsFit (now (pairs .entry)) 0 (length (now (pairs .entry)) / 2) total ⌝ }
+{
+    let n = pairs.len() / 2;
+    let mut left = total;
+    let mut i: usize = 0;
+    while i < n {
+        let count = size(pairs[i * 2]);
+        if left < count {
+            return false;
+        }
+        left -= count;
+        i += 1;
+    }
+    left == 0
+}
+
+fn adds_up(pairs: &[u32], total: usize) -> bool
+    ensures { λ r. ⌜ r ≡ lengthsAddUp (now (pairs .entry)) total ⌝ }
+{
+    if pairs.len() % 2 != 0 {
+        return false;
+    }
+    lengths_fit(pairs, total)
+}
+
+// The number of the first message that is not framed, from 1; 0 if all are.
+fn first_unframed(pairs: &[u32], octets: &[u8]) -> usize
+    requires { ⌜ lengthsAddUp (now pairs) (length (now octets)) ≡ true ⌝ }
+    ensures { λ r. ⌜ r ≡ firstUnframed 1 (messagesOf (now (pairs .entry)) (now (octets .entry))) ⌝ }
+{
+    let n = pairs.len() / 2;
+    let mut at: usize = 0;
+    let mut i: usize = 0;
+    while i < n {
+        let end = at + size(pairs[i * 2]);
+        i += 1;
+        if !is_framed(&octets[at..end]) {
+            return i;
+        }
+        at = end;
+    }
+    0
+}
+
+pub fn judge(pairs: &[u32], octets: &[u8]) -> Verdict
+    ensures { λ r. ⌜ r ≡ verdictOf (now (pairs .entry)) (now (octets .entry)) ⌝ }
+{
+    if !adds_up(pairs, octets.len()) {
+        return Verdict {
+            number: 48,
+            message: 0,
+        };
+    }
+    let n = first_unframed(pairs, octets);
+    if n == 0 {
+        return Verdict {
+            number: 0,
+            message: 0,
+        };
+    }
+    Verdict {
+        number: 49,
+        message: n as u64,
+    }
+}

@@ -1,0 +1,117 @@
+// The requests of a SETUP: the first ChargingRequest for each service among its components.
+use phases::Event;
+use requests::Services;
+ghost use mathlib.Core.Path.{_≡_};
+ghost use mathlib.Core.Bool.{true};
+ghost use Prim.Native.Nat.{suc, _≤_, _<_};
+ghost use lib.ListN.{length};
+ghost use Rattle.types.specs.Frames.{readOf};
+ghost use Rattle.trace_framing.specs.Framing.{elementEnd, elementsFit};
+ghost use Rattle.trace_messages.specs.Trace.{componentsIn, componentsAt, componentsFrom, firstRequest, setupBy};
+ghost use Rattle.trace_setups.specs.Asked.{askedOf, askedBy};
+
+// Whether a component is an accepted ChargingRequest for a case: 0 S, 1 D, 2 E. Its identifier, with a mark.
+pub struct Asked {
+    pub mark: u8,
+    pub id: u16,
+}
+
+fn asked_by(octets: &[u8], case: u8) -> Asked
+    ensures { λ r. ⌜ r ≡ askedBy case (readOf (now (octets .entry))) ⌝ }
+{
+    let a = read::read(octets);
+    let front = a.value.front;
+    if a.number != 0 {
+        return Asked { mark: 0, id: 0 };
+    }
+    if front.frame != 1 {
+        return Asked { mark: 0, id: 0 };
+    }
+    if front.operation != 30 {
+        return Asked { mark: 0, id: 0 };
+    }
+    if front.detail != case {
+        return Asked { mark: 0, id: 0 };
+    }
+    Asked {
+        mark: 1,
+        id: front.id,
+    }
+}
+
+// The first request for a case among the components of a Facility element.
+fn asked_in(s: &[u8], case: u8) -> Asked
+    ensures { λ r. ⌜ r ≡ askedOf (firstRequest case (componentsIn (now (s .entry)))) ⌝ }
+{
+    if !trace_messages::is_profiled(s) {
+        return Asked { mark: 0, id: 0 };
+    }
+    let mut place: usize = 3;
+    let mut found = element_pass::first(s);
+    while found.after != 0 {
+        let after = found.after;
+        let q = asked_by(&s[place..after], case);
+        if q.mark != 0 {
+            return q;
+        }
+        place = after;
+        found = element_pass::onward(s, after);
+    }
+    Asked { mark: 0, id: 0 }
+}
+
+// Of the element at a place.
+fn asked_at(s: &[u8], at: usize, next: usize, under: u8, case: u8) -> Asked
+    requires { ⌜ (at < next) × (next ≤ length (now s)) × (next ≡ elementEnd (now s) at) ⌝ }
+    ensures { λ r. ⌜ r ≡ askedOf (firstRequest case (componentsAt (now (s .entry)) at under)) ⌝ }
+{
+    if under != 0 {
+        return Asked { mark: 0, id: 0 };
+    }
+    if s[at] != 0x1c {
+        return Asked { mark: 0, id: 0 };
+    }
+    asked_in(&s[at..next], case)
+}
+
+// Of a message's elements, from a place to the end.
+fn asked_from(s: &[u8], start: usize, case: u8) -> Asked
+    requires { ⌜ (start ≤ length (now s)) × (elementsFit (suc (length (now s))) (now s) start ≡ true) ⌝ }
+    ensures { λ r. ⌜ r ≡ askedOf (firstRequest case (componentsFrom (suc (length (now (s .entry)))) (now (s .entry)) start 0)) ⌝ }
+{
+    let end = s.len();
+    let mut under: u8 = 0;
+    let mut at = start;
+    while at < end {
+        let next = trace_framing::element_end(s, at);
+        let q = asked_at(s, at, next, under, case);
+        if q.mark != 0 {
+            return q;
+        }
+        let over = trace_messages::under_after(under, s[at]);
+        under = over;
+        at = next;
+    }
+    Asked { mark: 0, id: 0 }
+}
+
+pub fn setup_of(s: &[u8], start: usize) -> Event
+    requires { ⌜ (start ≤ length (now s)) × (elementsFit (suc (length (now s))) (now s) start ≡ true) ⌝ }
+    ensures { λ r. ⌜ r ≡ setupBy (componentsFrom (suc (length (now (s .entry)))) (now (s .entry)) start 0) .event ⌝ }
+{
+    let s0 = asked_from(s, start, 0);
+    let d0 = asked_from(s, start, 1);
+    let e0 = asked_from(s, start, 2);
+    let asked = Services {
+        s: s0.mark,
+        d: d0.mark,
+        e: e0.mark,
+    };
+    Event {
+        kind: 1,
+        asked,
+        s: s0.id,
+        d: d0.id,
+        e: e0.id,
+    }
+}

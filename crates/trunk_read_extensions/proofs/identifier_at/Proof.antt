@@ -1,0 +1,20 @@
+-- Each return by the answers that led to it.
+use Rattle.prelude.proofs.Prelude.{arith}
+use Rattle.coding.{specs.Reader.primitive, proofs.Reading.reading, proofs.Reading.step, proofs.Reading.fails, proofs.Reading.passes}
+use Rattle.trunk_read_extensions.proofs.identifier_at.Statement.{statement}
+use Rattle.trunk_read_extensions.proofs.identifier_at.Tie as tie
+
+pub identifier-at-spec : {M : Type 1} → statement M
+unfolding primitive
+identifier-at-spec =
+    tie.close
+    (tie.spec (omega arith) (omega arith) (λ c. rw (c .halted .ensures) (search reading)) (omega arith) (omega arith)
+    (λ c.
+    let i = c .before .before in
+    let e = i .before in
+    rw (c .halted2 .ensures) (step _ _ _ _ (e .before .before .open-at .ensures .0) (e .if1 .left) (fails tt _ _ _ (i .identifier-in .ensures) (c .before .if2 .taken))))
+    (omega arith)
+    (λ c.
+    let i = c .before .before in
+    let e = i .before in
+    rw (c .reached .ensures) (step _ _ _ _ (e .before .before .open-at .ensures .0) (e .if1 .left) (passes tt _ _ _ (i .identifier-in .ensures) (c .before .if2 .left)))))

@@ -1,0 +1,238 @@
+// Extensions of a manufacturer: what is in one is passed over to the bottom, and kept in its shortest form.
+ghost use mathlib.Core.Path.{_≡_};
+ghost use mathlib.Core.Bool.{true, _&&_};
+ghost use Prim.Native.Nat.{_-_, _≤_};
+ghost use lib.Dec.{eqb};
+ghost use lib.ListN.{length, replicate};
+ghost use Rattle.coding.specs.Reader.{part, primitive};
+ghost use Rattle.coding.specs.Shown.{shown, verdict};
+ghost use Rattle.types.specs.Stored.{stored};
+ghost use Rattle.trunk_types.specs.Extensions.{arcs, objectIdentifier, noExtension, extensionAt, someExtension, extension, parameter};
+ghost use Rattle.trunk_types.specs.Stored.{extensionIn};
+ghost use Rattle.read_lengths.specs.Bounds.{Bounded};
+ghost use Rattle.trunk_read_extensions.specs.Judges.{oneTold, entryTold, listTold, judgeOf, insideOf};
+
+// A number that is to begin here does so with 80.
+fn begins_badly(fresh: bool, x: u8) -> bool
+    ensures { λ r. ⌜ r ≡ fresh && eqb x 0x80 ⌝ }
+{
+    if !fresh {
+        return false;
+    }
+    x == 0x80
+}
+
+// The numbers of an object identifier: each ends with an octet below 80, and none begins with 80. Answers the fault.
+fn arcs_in(s: &[u8], start: usize, stop: usize) -> u8
+    requires { ⌜ (start ≤ stop) × (stop ≤ length (now s)) ⌝ }
+    ensures { λ r. ⌜ (r, tt) ≡ verdict tt (arcs true (part (now (s .entry)) start stop)) ⌝ }
+{
+    let mut fresh = true;
+    let mut i = start;
+    while i < stop {
+        let x = s[i];
+        if begins_badly(fresh, x) {
+            return 43;
+        }
+        fresh = x < 0x80;
+        i += 1;
+    }
+    if fresh {
+        return 0;
+    }
+    44
+}
+
+// The contents of an object identifier. Answers the fault.
+fn identifier_in(s: &[u8], start: usize, stop: usize) -> u8
+    requires { ⌜ (start ≤ stop) × (stop ≤ length (now s)) ⌝ }
+    ensures { λ r. ⌜ (r, tt) ≡ verdict tt (objectIdentifier (part (now (s .entry)) start stop)) ⌝ }
+{
+    if start == stop {
+        return 43;
+    }
+    arcs_in(s, start, stop)
+}
+
+fn identifier_at(s: &[u8], at: usize, end: usize) -> read_elements::Empty
+    requires { ⌜ Bounded (now s) end ⌝ }
+    ensures { λ r. ⌜ (r .fault, r .place, tt, r .next) ≡ shown tt (primitive 0x06 objectIdentifier (now (s .entry)) at end) ⌝ }
+{
+    let e = read_lengths::open_at(s, at, end, 0x06);
+    if e.fault != 0 {
+        return read_figures::halted(e.fault, e.place);
+    }
+    let fault = identifier_in(s, e.value.start, e.value.stop);
+    if fault != 0 {
+        return read_figures::halted(fault, at);
+    }
+    read_figures::reached(e.next)
+}
+
+// 06 identifier, and one element of any tag.
+fn one_at(s: &[u8], at: usize, end: usize) -> read_elements::Empty
+    requires { ⌜ Bounded (now s) end ⌝ }
+    ensures { λ r. ⌜ (r .fault, r .place, tt, r .next) ≡ shown tt (oneTold (now (s .entry)) at end) ⌝ }
+{
+    let i = identifier_at(s, at, end);
+    if i.fault != 0 {
+        return read_figures::halted(i.fault, i.place);
+    }
+    let e = any_elements::any_at(s, i.next, end);
+    if e.fault != 0 {
+        return read_figures::halted(e.fault, e.place);
+    }
+    read_figures::reached(e.next)
+}
+
+// An entry of a list: 30 with one.
+fn entry_at(s: &[u8], at: usize, end: usize) -> read_elements::Empty
+    requires { ⌜ Bounded (now s) end ⌝ }
+    ensures { λ r. ⌜ (r .fault, r .place, tt, r .next) ≡ shown tt (entryTold (now (s .entry)) at end) ⌝ }
+{
+    let e = read_lengths::open_at(s, at, end, 0x30);
+    if e.fault != 0 {
+        return read_figures::halted(e.fault, e.place);
+    }
+    let o = one_at(s, e.value.start, e.value.stop);
+    if o.fault != 0 {
+        return read_figures::halted(o.fault, o.place);
+    }
+    if o.next != e.value.stop {
+        return read_figures::halted(41, o.next);
+    }
+    read_figures::reached(e.next)
+}
+
+// Any number of entries, up to the end.
+fn list_at(s: &[u8], at: usize, end: usize) -> read_elements::Empty
+    requires { ⌜ Bounded (now s) end ⌝ }
+    ensures { λ r. ⌜ (r .fault, r .place, tt, r .next) ≡ shown tt (listTold (now (s .entry)) at end) ⌝ }
+{
+    if end <= at {
+        return read_figures::reached(at);
+    }
+    let mut count: usize = 0;
+    let mut i = at;
+    while i < end {
+        if 254 <= count {
+            if s[i] == 0x30 {
+                return read_figures::halted(45, i);
+            }
+            return read_figures::halted(41, i);
+        }
+        let e = entry_at(s, i, end);
+        if e.fault != 0 {
+            return read_figures::halted(e.fault, e.place);
+        }
+        count += 1;
+        i = e.next;
+    }
+    read_figures::reached(i)
+}
+
+// One, or a list where the kind is 2.
+fn inside_at(s: &[u8], at: usize, end: usize, kind: u8) -> read_elements::Empty
+    requires { ⌜ Bounded (now s) end ⌝ }
+    ensures { λ r. ⌜ (r .fault, r .place, tt, r .next) ≡ shown tt (judgeOf kind (now (s .entry)) at end) ⌝ }
+{
+    if kind == 2 {
+        return list_at(s, at, end);
+    }
+    one_at(s, at, end)
+}
+
+// Whether octets are what is kept of an extension: read to their end, and no more than their shortest form has.
+pub fn is_form(xs: &[u8], kind: u8) -> bool
+    ensures { λ r. ⌜ r ≡ (insideOf kind) .valid (now (xs .entry)) ⌝ }
+{
+    let n = xs.len();
+    if 242 < n {
+        return false;
+    }
+    let o = inside_at(xs, 0, n, kind);
+    if o.fault != 0 {
+        return false;
+    }
+    if o.next != n {
+        return false;
+    }
+    let size = any_elements::forms_size(xs, 0, n);
+    size == n
+}
+
+// An extension in an element with this tag: one, or a list where the kind is 2.
+fn extension_at(
+    s: &[u8],
+    at: usize,
+    end: usize,
+    tag: u8,
+    kind: u8,
+    lent: &mut [u8; 244],
+) -> read_elements::Empty
+    requires { ⌜ Bounded (now s) end ⌝ }
+    requires { ⌜ now lent ≡ replicate 244 0 ⌝ }
+    ensures { λ r. ⌜ (r .fault, r .place, stored noExtension (r .fault) (extensionIn (now (lent .exit))), r .next) ≡ shown noExtension ((extensionAt tag kind (insideOf kind)) .read (now (s .entry)) at end) ⌝ }
+{
+    let e = read_lengths::open_at(s, at, end, tag);
+    if e.fault != 0 {
+        return read_figures::halted(e.fault, e.place);
+    }
+    let start = e.value.start;
+    let stop = e.value.stop;
+    let o = inside_at(s, start, stop, kind);
+    if o.fault != 0 {
+        return read_figures::halted(o.fault, o.place);
+    }
+    let last = o.next;
+    let size = any_elements::forms_size(s, start, last);
+    if 242 < size {
+        return read_figures::halted(44, start);
+    }
+    if last != stop {
+        return read_figures::halted(41, last);
+    }
+    any_elements::put_sized(s, start, stop, size, lent, 2);
+    lent[0] = kind;
+    lent[1] = size as u8;
+    read_figures::reached(e.next)
+}
+
+// One or a list, or none.
+pub fn extension_if(s: &[u8], at: usize, end: usize, lent: &mut [u8; 244]) -> read_elements::Empty
+    requires { ⌜ Bounded (now s) end ⌝ }
+    requires { ⌜ now lent ≡ replicate 244 0 ⌝ }
+    ensures { λ r. ⌜ (r .fault, r .place, stored noExtension (r .fault) (extensionIn (now (lent .exit))), r .next) ≡ shown noExtension (extension .read (now (s .entry)) at end) ⌝ }
+{
+    if read_lengths::is_tag(s, at, end, 0xa1) {
+        return extension_at(s, at, end, 0xa1, 1, lent);
+    }
+    if read_lengths::is_tag(s, at, end, 0xa2) {
+        return extension_at(s, at, end, 0xa2, 2, lent);
+    }
+    read_figures::reached(at)
+}
+
+// One or a list.
+pub fn some_at(s: &[u8], at: usize, end: usize, lent: &mut [u8; 244]) -> read_elements::Empty
+    requires { ⌜ Bounded (now s) end ⌝ }
+    requires { ⌜ now lent ≡ replicate 244 0 ⌝ }
+    ensures { λ r. ⌜ (r .fault, r .place, stored noExtension (r .fault) (extensionIn (now (lent .exit))), r .next) ≡ shown noExtension (someExtension .read (now (s .entry)) at end) ⌝ }
+{
+    if read_lengths::is_tag(s, at, end, 0xa1) {
+        return extension_at(s, at, end, 0xa1, 1, lent);
+    }
+    extension_at(s, at, end, 0xa2, 2, lent)
+}
+
+// The optional parameter of error 1008.
+pub fn parameter_at(s: &[u8], at: usize, end: usize, lent: &mut [u8; 244]) -> read_elements::Empty
+    requires { ⌜ Bounded (now s) end ⌝ }
+    requires { ⌜ now lent ≡ replicate 244 0 ⌝ }
+    ensures { λ r. ⌜ (r .fault, r .place, stored noExtension (r .fault) (extensionIn (now (lent .exit))), r .next) ≡ shown noExtension (parameter .read (now (s .entry)) at end) ⌝ }
+{
+    if read_lengths::is_tag(s, at, end, 0x30) {
+        return extension_at(s, at, end, 0x30, 1, lent);
+    }
+    read_figures::reached(at)
+}

@@ -1,0 +1,7 @@
+use Rattle.prelude.proofs.Prelude.{arith}
+use Rattle.coding.proofs.Tests.{tests}
+use Rattle.trunk_read_heads.proofs.is_known.Statement.{statement}
+use Rattle.trunk_read_heads.proofs.is_known.Tie as tie
+
+pub is-known-spec : {M : Type 1} → statement M
+is-known-spec = tie.close (tie.spec (omega arith) (λ c. search tests) (omega arith) (λ c. search tests) (omega arith) (λ c. search tests))

@@ -1,0 +1,525 @@
+// Components of a trunk: which may be written. Each `_fine` is the writer's test of a part, by the component's form.
+use trunk_types::Lead;
+use types::Association;
+use types::Figure;
+ghost use mathlib.Core.Path.{_≡_};
+ghost use mathlib.Core.Bool.{true, _||_};
+ghost use Rattle.types.specs.Charges.{association};
+ghost use lib.Dec.{eqb};
+ghost use lib.ListN.{length};
+ghost use Rattle.types.specs.Stored.{storedCharge, associationIn, figureIn};
+ghost use Rattle.write_tests.specs.Fine.{laid};
+ghost use Rattle.trunk_types.specs.Stored.{leadIn, modesIn, extensionIn, bodyIn, trunkIn};
+ghost use Rattle.trunk_types.specs.Components.{trunkComponent};
+ghost use Rattle.trunk_write_tests.specs.Fine.{leadFine, formOf, detailFine, entityFine, modesFine, numberIf, names, userFine, otherFine, kindFine, isBilling, billedFine, markedFine, amountIf, listIf, chargeFits, mostExtension, extensionFine, frontFits, bodyFine};
+
+// ---- the lead
+
+fn lead_of(front: &[u8; 48]) -> Lead
+    ensures { λ r. ⌜ r ≡ leadIn (now (front .entry)) ⌝ }
+{
+    Lead {
+        frame: front[0],
+        unnamed: front[1],
+        id: types_parts::number16(front[2], front[3]),
+        error: types_parts::number16(front[4], front[5]),
+        operation: front[6],
+        problem: front[7],
+    }
+}
+
+fn invoke_fine(l: Lead) -> bool
+    requires { ⌜ l .frame ≡ 1 ⌝ }
+    ensures { λ r. ⌜ r ≡ leadFine l ⌝ }
+{
+    if l.unnamed != 0 {
+        return false;
+    }
+    if l.error != 0 {
+        return false;
+    }
+    if l.problem != 0 {
+        return false;
+    }
+    trunk_read_heads::known_operation(l.operation as u32)
+}
+
+fn result_fine(l: Lead) -> bool
+    requires { ⌜ l .frame ≡ 2 ⌝ }
+    ensures { λ r. ⌜ r ≡ leadFine l ⌝ }
+{
+    if l.unnamed != 0 {
+        return false;
+    }
+    if l.error != 0 {
+        return false;
+    }
+    if l.problem != 0 {
+        return false;
+    }
+    trunk_read_heads::is_answerable(l.operation as u32)
+}
+
+fn error_fine(l: Lead) -> bool
+    requires { ⌜ l .frame ≡ 3 ⌝ }
+    ensures { λ r. ⌜ r ≡ leadFine l ⌝ }
+{
+    if l.unnamed != 0 {
+        return false;
+    }
+    if l.operation != 0 {
+        return false;
+    }
+    if l.problem != 0 {
+        return false;
+    }
+    trunk_read_heads::known_error(l.error as u32)
+}
+
+fn reject_fine(l: Lead) -> bool
+    requires { ⌜ l .frame ≡ 4 ⌝ }
+    ensures { λ r. ⌜ r ≡ leadFine l ⌝ }
+{
+    if l.error != 0 {
+        return false;
+    }
+    if l.operation != 0 {
+        return false;
+    }
+    write_heads::is_called(l.unnamed, l.id)
+}
+
+// A network facility extension has no identifier.
+fn network_fine(l: Lead) -> bool
+    requires { ⌜ l .frame ≡ 10 ⌝ }
+    ensures { λ r. ⌜ r ≡ leadFine l ⌝ }
+{
+    if l.unnamed != 0 {
+        return false;
+    }
+    if l.id != 0 {
+        return false;
+    }
+    if l.error != 0 {
+        return false;
+    }
+    if l.operation != 0 {
+        return false;
+    }
+    if l.problem != 0 {
+        return false;
+    }
+    true
+}
+
+fn lead_fine(l: Lead) -> bool
+    ensures { λ r. ⌜ r ≡ leadFine l ⌝ }
+{
+    if l.frame == 1 {
+        return invoke_fine(l);
+    }
+    if l.frame == 2 {
+        return result_fine(l);
+    }
+    if l.frame == 3 {
+        return error_fine(l);
+    }
+    if l.frame == 4 {
+        return reject_fine(l);
+    }
+    if l.frame == 10 {
+        return network_fine(l);
+    }
+    false
+}
+
+// The form by which a body is tested.
+fn form_of(l: Lead) -> u8
+    ensures { λ r. ⌜ r ≡ formOf l ⌝ }
+{
+    if l.frame == 1 {
+        return l.operation;
+    }
+    if l.frame == 2 {
+        if l.operation == 59 {
+            return 1;
+        }
+        return 2;
+    }
+    if l.frame == 3 {
+        if l.error == 1008 {
+            return 8;
+        }
+        return 3;
+    }
+    l.frame
+}
+
+// ---- the small fields
+
+fn detail_fine(form: u8, problem: u8, detail: u8) -> bool
+    ensures { λ r. ⌜ r ≡ detailFine form problem detail ⌝ }
+{
+    if form == 1 {
+        return detail <= 6;
+    }
+    if form == 2 {
+        return detail <= 2;
+    }
+    if form == 65 {
+        return detail <= 3;
+    }
+    if form == 10 {
+        return detail <= 1;
+    }
+    if form == 4 {
+        return write_heads::problem_fine(problem, detail);
+    }
+    if detail != 0 {
+        return false;
+    }
+    true
+}
+
+fn entity_fine(form: u8, entity: u8) -> bool
+    ensures { λ r. ⌜ r ≡ entityFine form entity ⌝ }
+{
+    if form == 10 {
+        return entity <= 1;
+    }
+    if entity != 0 {
+        return false;
+    }
+    true
+}
+
+// The modes where they lie in the front: 59 alone has some.
+fn modes_fine(front: &[u8; 48], form: u8) -> bool
+    ensures { λ r. ⌜ r ≡ modesFine form (modesIn (now (front .entry))) ⌝ }
+{
+    // As a slice the array shows its length to the proof.
+    let all: &[u8] = front;
+    let n = all[8] as usize;
+    if form != 59 {
+        if n != 0 {
+            return false;
+        }
+        return octets::below(all, 9, 16, 1);
+    }
+    if 7 < n {
+        return false;
+    }
+    if !octets::below(all, 9 + n, 16, 1) {
+        return false;
+    }
+    octets::below(all, 9, 9 + n, 7)
+}
+
+// ---- numbers and associations, their digits lent beside them
+
+fn number_if(a: Association, digits: &[u8; 20]) -> bool
+    requires { ⌜ now digits ≡ a .digits ⌝ }
+    ensures { λ r. ⌜ r ≡ numberIf a ⌝ }
+{
+    if a.kind == 0 {
+        return write_tests::no_association(a, digits);
+    }
+    write_tests::number_fine(a)
+}
+
+// 64 and 65 name a user.
+fn names(form: u8) -> bool
+    ensures { λ r. ⌜ r ≡ names form ⌝ }
+{
+    if form == 64 {
+        return true;
+    }
+    form == 65
+}
+
+fn user_fine(a: Association, digits: &[u8; 20], form: u8) -> bool
+    requires { ⌜ now digits ≡ a .digits ⌝ }
+    ensures { λ r. ⌜ r ≡ userFine form a ⌝ }
+{
+    if names(form) {
+        return write_tests::number_fine(a);
+    }
+    if form == 10 {
+        return number_if(a, digits);
+    }
+    write_tests::no_association(a, digits)
+}
+
+// 61, 64 and 65 may have an association.
+fn associates(form: u8) -> bool
+    ensures { λ r. ⌜ r ≡ eqb form 61 || names form ⌝ }
+{
+    if form == 61 {
+        return true;
+    }
+    names(form)
+}
+
+// As `write_tests::association_fine`, which stays with one caller and is compiled into it.
+fn association_fine(a: Association, digits: &[u8; 20]) -> bool
+    requires { ⌜ now digits ≡ a .digits ⌝ }
+    ensures { λ r. ⌜ r ≡ (association true) .valid a ⌝ }
+{
+    if a.kind == 0 {
+        return write_tests::no_association(a, digits);
+    }
+    if a.kind == 1 {
+        return write_tests::identified_fine(a, digits);
+    }
+    write_tests::number_fine(a)
+}
+
+// An association that was taken out of a figure.
+fn associated_fine(a: Association, digits: &[u8; 20], form: u8) -> bool
+    requires { ⌜ now digits ≡ a .digits ⌝ }
+    ensures { λ r. ⌜ r ≡ otherFine form a ⌝ }
+{
+    if associates(form) {
+        return association_fine(a, digits);
+    }
+    if form == 10 {
+        return number_if(a, digits);
+    }
+    write_tests::no_association(a, digits)
+}
+
+// None is zeros where one would lie, and is not copied.
+fn other_fine(figure: &[u8; 48], form: u8) -> bool
+    ensures { λ r. ⌜ r ≡ otherFine form (associationIn (now (figure .entry))) ⌝ }
+{
+    let all: &[u8] = figure;
+    if all[20] == 0 {
+        return octets::zeros(&all[16..42]);
+    }
+    let a = types_parts::association_of(figure);
+    let digits = a.digits;
+    associated_fine(a, &digits, form)
+}
+
+// ---- the charge
+
+fn kind_fine(form: u8, kind: u8) -> bool
+    ensures { λ r. ⌜ r ≡ kindFine form kind ⌝ }
+{
+    if kind == 0 {
+        return true;
+    }
+    if kind <= 2 {
+        if form == 61 {
+            return true;
+        }
+        return form == 62;
+    }
+    if kind != 4 {
+        return false;
+    }
+    form == 63
+}
+
+// A billing identification that money may have.
+fn is_billing(form: u8, billing: u8) -> bool
+    ensures { λ r. ⌜ r ≡ isBilling form billing ⌝ }
+{
+    if billing == 1 {
+        return false;
+    }
+    if form == 61 {
+        return billing <= 7;
+    }
+    billing <= 2
+}
+
+fn billed_fine(f: Figure, form: u8) -> bool
+    ensures { λ r. ⌜ r ≡ billedFine form f ⌝ }
+{
+    if f.billed == 1 {
+        if f.kind != 2 {
+            return false;
+        }
+        return is_billing(form, f.billing);
+    }
+    if f.billed != 0 {
+        return false;
+    }
+    if f.billing != 0 {
+        return false;
+    }
+    true
+}
+
+fn marked_fine(f: Figure, form: u8) -> bool
+    ensures { λ r. ⌜ r ≡ markedFine form f ⌝ }
+{
+    if !kind_fine(form, f.kind) {
+        return false;
+    }
+    if f.total != 0 {
+        return false;
+    }
+    if f.arrangement != 0 {
+        return false;
+    }
+    billed_fine(f, form)
+}
+
+// Money, or zeros where it would lie.
+fn amount_fine(figure: &[u8; 48]) -> bool
+    ensures { λ r. ⌜ r ≡ amountIf (figureIn (now (figure .entry))) ⌝ }
+{
+    let all: &[u8] = figure;
+    if all[42] == 2 {
+        let m = types_parts::money_of(figure);
+        return write_tests::money_fine(m, true);
+    }
+    octets::zeros(&all[0..16])
+}
+
+// Rates, or none.
+fn list_fine(f: Figure, numbers: &[u32; 32], rows: &[u8; 192]) -> bool
+    requires { ⌜ (length (now numbers) ≡ 32) × (length (now rows) ≡ 192) ⌝ }
+    ensures { λ r. ⌜ r ≡ listIf (record { figure = f; entries = laid (now (numbers .entry)) (now (rows .entry)) }) ⌝ }
+{
+    if f.kind == 4 {
+        return write_rates::rates_fine(numbers, rows, f.count, true);
+    }
+    if f.count != 0 {
+        return false;
+    }
+    write_tests::no_entries(numbers, rows)
+}
+
+fn charge_fine(figure: &[u8; 48], numbers: &[u32; 32], rows: &[u8; 192], form: u8) -> bool
+    ensures { λ r. ⌜ r ≡ chargeFits form (storedCharge (now (figure .entry)) (now (numbers .entry)) (now (rows .entry))) ⌝ }
+{
+    let places: &[u32] = numbers;
+    let octets: &[u8] = rows;
+    let f = types_parts::figure_of(figure);
+    if !marked_fine(f, form) {
+        return false;
+    }
+    if !amount_fine(figure) {
+        return false;
+    }
+    if !other_fine(figure, form) {
+        return false;
+    }
+    list_fine(f, numbers, rows)
+}
+
+// ---- the extension
+
+// How great the kind of an extension may be.
+fn most_extension(form: u8) -> u8
+    ensures { λ r. ⌜ r ≡ mostExtension form ⌝ }
+{
+    if 59 <= form {
+        return 2;
+    }
+    if form <= 2 {
+        return 2;
+    }
+    if form == 8 {
+        return 1;
+    }
+    0
+}
+
+// Its contents are judged as the reader judges them, and what is past them is zero.
+fn extended_fine(lent: &[u8; 244], form: u8) -> bool
+    ensures { λ r. ⌜ r ≡ extensionFine form (extensionIn (now (lent .entry))) ⌝ }
+{
+    let all: &[u8] = lent;
+    let kind = all[0];
+    let n = all[1] as usize;
+    if most_extension(form) < kind {
+        return false;
+    }
+    if 242 < n {
+        return false;
+    }
+    if !octets::zeros(&all[2 + n..244]) {
+        return false;
+    }
+    if kind == 0 {
+        return n == 0;
+    }
+    trunk_read_extensions::is_form(&all[2..2 + n], kind)
+}
+
+// None fits every form.
+fn extension_fine(lent: &[u8; 244], form: u8) -> bool
+    ensures { λ r. ⌜ r ≡ extensionFine form (extensionIn (now (lent .entry))) ⌝ }
+{
+    let all: &[u8] = lent;
+    if octets::zeros(all) {
+        return true;
+    }
+    extended_fine(lent, form)
+}
+
+// ---- the whole
+
+// What lies in the front beside the lead.
+fn front_fine(front: &[u8; 48], form: u8, problem: u8) -> bool
+    ensures { λ r. ⌜ r ≡ frontFits form problem (now (front .entry)) ⌝ }
+{
+    if !detail_fine(form, problem, front[42]) {
+        return false;
+    }
+    if !entity_fine(form, front[43]) {
+        return false;
+    }
+    // No modes and no user.
+    let all: &[u8] = front;
+    if octets::zeros(&all[8..42]) {
+        return !names(form);
+    }
+    if !modes_fine(front, form) {
+        return false;
+    }
+    let user = types_parts::association_of(front);
+    let digits = user.digits;
+    user_fine(user, &digits, form)
+}
+
+fn body_fine(
+    front: &[u8; 48],
+    lent: &[u8; 244],
+    figure: &[u8; 48],
+    numbers: &[u32; 32],
+    rows: &[u8; 192],
+    form: u8,
+    problem: u8,
+) -> bool
+    ensures { λ r. ⌜ r ≡ bodyFine form problem (bodyIn (now (front .entry)) (now (lent .entry)) (storedCharge (now (figure .entry)) (now (numbers .entry)) (now (rows .entry)))) ⌝ }
+{
+    if !front_fine(front, form, problem) {
+        return false;
+    }
+    if !charge_fine(figure, numbers, rows, form) {
+        return false;
+    }
+    extension_fine(lent, form)
+}
+
+// Whether the component that lies in the five parts may be written.
+pub fn trunk_fine(
+    front: &[u8; 48],
+    lent: &[u8; 244],
+    figure: &[u8; 48],
+    numbers: &[u32; 32],
+    rows: &[u8; 192],
+) -> bool
+    ensures { λ r. ⌜ r ≡ trunkComponent .valid (trunkIn (now (front .entry)) (now (lent .entry)) (storedCharge (now (figure .entry)) (now (numbers .entry)) (now (rows .entry)))) ⌝ }
+{
+    let l = lead_of(front);
+    if !lead_fine(l) {
+        return false;
+    }
+    body_fine(front, lent, figure, numbers, rows, form_of(l), l.problem)
+}

@@ -1,0 +1,102 @@
+// Says why a call has no price, by value: what is remembered of the events so far, and the reason that follows from it.
+use phases::Outcome;
+ghost use mathlib.Core.Path.{_≡_};
+ghost use Rattle.why_rules.specs.Reasons.{toldAbsent, unread, because, ifFound};
+ghost use Rattle.why_rules.specs.Seeing.{concluded, seenNext};
+
+// number: 48 for slices that are no event list, and then the rest is 0. reason: 1 to 7. event: its number, from 1; 0 for none.
+#[repr(C)]
+pub struct Reason {
+    pub number: u32,
+    pub reason: u32,
+    pub event: u64,
+}
+
+// The earliest event of each sort, by its number; 0 for none yet.
+#[repr(C)]
+pub struct Seen {
+    pub efinal: u64,
+    pub dfinal: u64,
+    pub figure: u64,
+    pub absent: u64,
+    pub running: u64,
+    pub refused: u64,
+}
+
+// ---- which outcomes count
+
+fn told_absent(o: Outcome) -> bool
+    ensures { λ r. ⌜ r ≡ toldAbsent o ⌝ }
+{
+    if outcomes::is_its(o, 2, 23) {
+        return true;
+    }
+    outcomes::is_its(o, 3, 23)
+}
+
+fn is_unread(o: Outcome) -> bool
+    ensures { λ r. ⌜ r ≡ unread o ⌝ }
+{
+    if events::within(1, o.number, 9) {
+        return true;
+    }
+    events::within(40, o.number, 45)
+}
+
+// ---- one event
+
+// Event n has an outcome; figure: whether it is a figure that was passed over.
+pub fn seen_next(s: Seen, o: Outcome, figure: bool, n: u64) -> Seen
+    ensures { λ r. ⌜ r ≡ seenNext s o figure n ⌝ }
+{
+    let efinal = events::or_else(s.efinal, outcomes::is_its(o, 3, 22), n);
+    let dfinal = events::or_else(s.dfinal, outcomes::is_its(o, 2, 22), n);
+    let passed = events::or_else(s.figure, figure, n);
+    let absent = events::or_else(s.absent, told_absent(o), n);
+    let running = events::or_else(s.running, o.number == 21, n);
+    let refused = events::or_else(s.refused, is_unread(o), n);
+    Seen {
+        efinal,
+        dfinal,
+        figure: passed,
+        absent,
+        running,
+        refused,
+    }
+}
+
+// ---- the reason
+
+fn because(reason: u32, event: u64) -> Reason
+    ensures { λ r. ⌜ r ≡ because reason event ⌝ }
+{
+    Reason {
+        number: 0,
+        reason,
+        event,
+    }
+}
+
+fn if_found(reason: u32, event: u64, rest: Reason) -> Reason
+    ensures { λ r. ⌜ r ≡ ifFound reason event rest ⌝ }
+{
+    if event == 0 {
+        return rest;
+    }
+    because(reason, event)
+}
+
+pub fn concluded(phase: u8, s: Seen) -> Reason
+    ensures { λ r. ⌜ r ≡ concluded phase s ⌝ }
+{
+    if phase != 4 {
+        return because(1, 0);
+    }
+    let nothing = because(7, 0);
+    let refused = if_found(6, s.refused, nothing);
+    let running = if_found(5, s.running, refused);
+    let absent = if_found(4, s.absent, running);
+    let figure = if_found(3, s.figure, absent);
+    let dfinal = if_found(2, s.dfinal, figure);
+    if_found(2, s.efinal, dfinal)
+}

@@ -1,0 +1,12 @@
+use Rattle.prelude.proofs.Prelude.{arith, needs}
+use Rattle.coding.proofs.Tests.{tests}
+use Rattle.write_rate.proofs.Prices.{was-true, was-false}
+use Rattle.write_charges.proofs.{Listed.units-is, units_fine.Statement.statement}
+use Rattle.write_charges.proofs.units_fine.Tie as tie
+
+pub units-fine-spec : {M : Type 1} → statement M
+units-fine-spec =
+    tie.close
+    (tie.spec (λ c. search (tests, arith, units-is)) (λ c. search (tests, arith, units-is)) (λ c. search needs) (λ c κs. search needs)
+    (λ c. search (tests, arith, units-is, was-false (c .before .unused-zero .ensures) (c .if3 .taken))) (λ c κs. search needs)
+    (λ c. search (tests, arith, units-is, was-true (c .before .before .unused-zero .ensures) (c .before .if3 .left))))

@@ -1,6 +1,0 @@
-use Rattle.coding.proofs.Tests.{tests}
-use Rattle.write_prices.proofs.{Prices.zero-first, no_step.Statement.statement}
-use Rattle.write_prices.proofs.no_step.Tie as tie
-
-pub no-step-spec : {M : Type 1} → statement M
-no-step-spec = tie.close (tie.spec (λ c. search (tests, zero-first)) (λ c. search (tests, zero-first)) (λ c. search (tests, zero-first)))

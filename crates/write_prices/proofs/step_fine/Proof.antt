@@ -1,7 +1,0 @@
-use Rattle.prelude.proofs.Prelude.{needs}
-use Rattle.coding.proofs.Tests.{tests}
-use Rattle.write_prices.proofs.step_fine.Statement.{statement}
-use Rattle.write_prices.proofs.step_fine.Tie as tie
-
-pub step-fine-spec : {M : Type 1} → statement M
-step-fine-spec = tie.close (tie.spec (λ c κs. search needs) (λ c. search (tests, c .scaled-fine .ensures)) (λ c κs. search needs) (λ c. search tests))

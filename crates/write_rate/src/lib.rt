@@ -1,0 +1,276 @@
+// One rate: whether it may be written, how many octets it takes, and its octets.
+//
+// Tests are over the mark of the family; octets are those of a trunk, which writes all that document 01 has, and alike.
+use types::Money;
+use types::Rate;
+use types::Scaled;
+ghost use mathlib.Core.Path.{_≡_};
+ghost use mathlib.Core.Bool.{true};
+ghost use lib.Dec.{leb};
+ghost use Prim.Native.Nat.{_≤_};
+ghost use lib.ListN.{length};
+ghost use Rattle.coding.specs.Written.{Wrote, Room};
+ghost use Rattle.types.specs.Rates.{moneyOf, rate};
+ghost use Rattle.write_rate.specs.Prices.{lastKind, detailFine, unstepped, stepFine, timesFine, amountFine, stepOctets, termOctets, pricedOctets, priceOctets};
+
+// ---- which rates may be written
+
+fn money_of(r: Rate) -> Money
+    ensures { λ m. ⌜ m ≡ moneyOf r ⌝ }
+{
+    let currency = r.currency;
+    Money {
+        currency,
+        multiplier: r.multiplier,
+        number: r.number,
+    }
+}
+
+// Whether there is such a kind of rate.
+fn is_kind(kind: u8, trunk: bool) -> bool
+    ensures { λ r. ⌜ r ≡ leb kind (lastKind trunk) ⌝ }
+{
+    if trunk {
+        return kind <= 7;
+    }
+    kind <= 6
+}
+
+// The type of a duration, the unit of a volume, a code; no other kind has one.
+fn detail_fine(kind: u8, detail: u8, trunk: bool) -> bool
+    ensures { λ r. ⌜ r ≡ detailFine trunk kind detail ⌝ }
+{
+    if kind == 1 {
+        return detail <= 1;
+    }
+    if kind == 3 {
+        return detail <= 2;
+    }
+    if kind == 4 {
+        if detail < 1 {
+            return false;
+        }
+        return detail <= 10;
+    }
+    if kind < 2 {
+        return false;
+    }
+    if !is_kind(kind, trunk) {
+        return false;
+    }
+    detail == 0
+}
+
+fn no_step(r: Rate) -> bool
+    ensures { λ b. ⌜ b ≡ unstepped r ⌝ }
+{
+    if r.stepped != 0 {
+        return false;
+    }
+    if r.stepscale != 0 {
+        return false;
+    }
+    r.step == 0
+}
+
+fn step_fine(r: Rate) -> bool
+    ensures { λ b. ⌜ b ≡ stepFine r ⌝ }
+{
+    if r.stepped == 1 {
+        return write_tests::scaled_fine(Scaled {
+            number: r.step,
+            scale: r.stepscale,
+        });
+    }
+    no_step(r)
+}
+
+// A duration has a time, and a step or none; the others have neither.
+fn times_fine(r: Rate) -> bool
+    ensures { λ b. ⌜ b ≡ timesFine r ⌝ }
+{
+    if r.kind == 1 {
+        if !write_tests::scaled_fine(Scaled {
+            number: r.time,
+            scale: r.scale,
+        }) {
+            return false;
+        }
+        return step_fine(r);
+    }
+    if r.scale != 0 {
+        return false;
+    }
+    if r.time != 0 {
+        return false;
+    }
+    no_step(r)
+}
+
+// Durations, flat rates and volumes have an amount.
+fn amount_fine(r: Rate, trunk: bool) -> bool
+    ensures { λ b. ⌜ b ≡ amountFine trunk r ⌝ }
+{
+    let m = money_of(r);
+    let currency = m.currency;
+    let octets = currency.octets;
+    if r.kind <= 3 {
+        return write_tests::money_fine(m, trunk);
+    }
+    write_tests::no_money(m, &octets)
+}
+
+pub fn rate_fine(r: Rate, trunk: bool) -> bool
+    ensures { λ b. ⌜ b ≡ (rate trunk) .valid r ⌝ }
+{
+    if 4 < r.item {
+        return false;
+    }
+    if !detail_fine(r.kind, r.detail, trunk) {
+        return false;
+    }
+    if !times_fine(r) {
+        return false;
+    }
+    amount_fine(r, trunk)
+}
+
+// ---- the octets of a rate
+
+fn step_size(r: Rate) -> usize
+    requires { ⌜ (rate true) .valid r ≡ true ⌝ }
+    ensures { λ n. ⌜ n ≡ length (stepOctets r) ⌝ }
+    ensures few { λ n. ⌜ n ≤ 11 ⌝ }
+{
+    if r.stepped == 1 {
+        return write_figures::scaled_size(Scaled {
+            number: r.step,
+            scale: r.stepscale,
+        });
+    }
+    0
+}
+
+// What comes after the amount.
+fn terms_size(r: Rate) -> usize
+    requires { ⌜ (rate true) .valid r ≡ true ⌝ }
+    ensures { λ n. ⌜ n ≡ length (termOctets r) ⌝ }
+    ensures few { λ n. ⌜ n ≤ 25 ⌝ }
+{
+    if r.kind == 2 {
+        return 0;
+    }
+    if r.kind == 3 {
+        return 3;
+    }
+    let t = Scaled {
+        number: r.time,
+        scale: r.scale,
+    };
+    3 + write_figures::scaled_size(t) + step_size(r)
+}
+
+// The amount, and what comes after it.
+fn priced_size(r: Rate) -> usize
+    requires { ⌜ ((rate true) .valid r ≡ true) × (r .kind ≤ 3) ⌝ }
+    ensures { λ n. ⌜ n ≡ length (pricedOctets r) ⌝ }
+    ensures few { λ n. ⌜ n ≤ 48 ⌝ }
+{
+    let m = money_of(r);
+    write_figures::money_size(m) + terms_size(r)
+}
+
+fn price_size(r: Rate) -> usize
+    requires { ⌜ (rate true) .valid r ≡ true ⌝ }
+    ensures { λ n. ⌜ n ≡ length (priceOctets r) ⌝ }
+    ensures few { λ n. ⌜ n ≤ 50 ⌝ }
+{
+    if r.kind <= 3 {
+        return 2 + priced_size(r);
+    }
+    if r.kind == 4 {
+        return 3;
+    }
+    2
+}
+
+pub fn rate_size(r: Rate) -> usize
+    requires { ⌜ (rate true) .valid r ≡ true ⌝ }
+    ensures { λ n. ⌜ n ≡ length ((rate true) .write r) ⌝ }
+    ensures few { λ n. ⌜ n ≤ 55 ⌝ }
+{
+    5 + price_size(r)
+}
+
+fn put_step(buf: &mut [u8], at: usize, r: Rate) -> usize
+    requires { ⌜ ((rate true) .valid r ≡ true) × Room (now buf) at (stepOctets r) ⌝ }
+    ensures { λ n. ⌜ Wrote (now (buf .entry)) (now (buf .exit)) at (stepOctets r) n ⌝ }
+{
+    let t = Scaled {
+        number: r.step,
+        scale: r.stepscale,
+    };
+    if r.stepped == 1 {
+        return write_figures::put_scaled(buf, at, 0xa5, t);
+    }
+    at
+}
+
+fn put_terms(buf: &mut [u8], at: usize, r: Rate) -> usize
+    requires { ⌜ ((rate true) .valid r ≡ true) × Room (now buf) at (termOctets r) ⌝ }
+    ensures { λ n. ⌜ Wrote (now (buf .entry)) (now (buf .exit)) at (termOctets r) n ⌝ }
+{
+    let t = Scaled {
+        number: r.time,
+        scale: r.scale,
+    };
+    if r.kind == 2 {
+        return at;
+    }
+    if r.kind == 3 {
+        return write_elements::put_small(buf, at, 0x83, r.detail);
+    }
+    let p = write_elements::put_small(buf, at, 0x83, r.detail);
+    let q = write_figures::put_scaled(buf, p, 0xa4, t);
+    put_step(buf, q, r)
+}
+
+fn put_priced(buf: &mut [u8], at: usize, r: Rate) -> usize
+    requires { ⌜ ((rate true) .valid r ≡ true) × (r .kind ≤ 3) × Room (now buf) at (priceOctets r) ⌝ }
+    ensures { λ n. ⌜ Wrote (now (buf .entry)) (now (buf .exit)) at (priceOctets r) n ⌝ }
+{
+    let m = money_of(r);
+    let n = priced_size(r);
+    let p = write_elements::put_lead(buf, at, 0xa0 + r.kind, n);
+    let q = write_figures::put_money(buf, p, m);
+    put_terms(buf, q, r)
+}
+
+fn put_price(buf: &mut [u8], at: usize, r: Rate) -> usize
+    requires { ⌜ ((rate true) .valid r ≡ true) × Room (now buf) at (priceOctets r) ⌝ }
+    ensures { λ n. ⌜ Wrote (now (buf .entry)) (now (buf .exit)) at (priceOctets r) n ⌝ }
+{
+    if r.kind <= 3 {
+        return put_priced(buf, at, r);
+    }
+    if r.kind == 4 {
+        return write_elements::put_small(buf, at, 0x02, r.detail);
+    }
+    if r.kind == 5 {
+        return write_elements::put_null(buf, at, 0x84);
+    }
+    if r.kind == 6 {
+        return write_elements::put_null(buf, at, 0x85);
+    }
+    write_elements::put_null(buf, at, 0x86)
+}
+
+pub fn put_rate(buf: &mut [u8], at: usize, r: Rate) -> usize
+    requires { ⌜ ((rate true) .valid r ≡ true) × Room (now buf) at ((rate true) .write r) ⌝ }
+    ensures { λ n. ⌜ Wrote (now (buf .entry)) (now (buf .exit)) at ((rate true) .write r) n ⌝ }
+{
+    let n = price_size(r);
+    let p = write_elements::put_lead(buf, at, 0x30, 3 + n);
+    let q = write_elements::put_small(buf, p, 0x0a, r.item);
+    put_price(buf, q, r)
+}
