@@ -45,10 +45,10 @@ def statement(name):
 def definitions(name, text):
     """The definitions of the project that a statement cites, each with its file. A name after a dot is a field."""
     cited = re.findall(r"(?<![\w.«])[^\W\d][\w·-]*", re.sub(r"ensures \w* ?\{", "", text[text.find("ensures"):]))
-    for crate, file, names in re.findall(r"ghost use Rattle·([a-z_]+)(?:·specs)?\.specs\.(\w+)\.\{([^}]*)\}", sources[name.split("::")[0]]):
+    for crate, file, names in re.findall(r"ghost use Rattle·([a-z_]+)(?:·specs)?\.specs\.((?:inner\.)?\w+)\.\{([^}]*)\}", sources[name.split("::")[0]]):
         for own in names.split(", "):
             if own in cited:
-                yield f"{crate}/specs/{file}.antt", own
+                yield f"{crate}/specs/{file.replace(chr(46), chr(47))}.antt", own
 
 
 def printed(names):

@@ -21,7 +21,7 @@ APART = {"memcpy", "memmove", "memset"}
 # These go on past two octets or more at each call, of themselves or of one another, up to an end that the proofs bound: so all of them
 # together are called so often, one more finding nothing left.
 BY_OCTETS = {"read_lengths::find_end", "any_elements::forms_size", "any_elements::put_forms"}
-bound = int(re.search(r"\(end ≤ (\d+)\)", open("crates/read_lengths/specs/Bounds.antt", encoding="utf-8").read())[1])
+bound = int(re.search(r"\(end ≤ (\d+)\)", open("crates/read_lengths/specs/inner/Bounds.antt", encoding="utf-8").read())[1])
 CALLS = (bound + 1) // 2 + 1
 DEEP = {"write_elements::put_digits": 5}
 sys.setrecursionlimit(10000)

@@ -11,9 +11,9 @@
  * What the host owes: a pointer is valid for the length beside it (with length 0 it may be null), an account's pointer is valid
  * for one account, and memory that a call writes overlaps nothing else that is passed to the same call.
  *
- * The numbers of refusals and outcomes, and what each means, are those of document 01 (docs/READINGS.md). Where a function
- * refuses, every other field of its answer is zero. docs/HOST.md describes the life of a call; aoc_text.h has words for the
- * numbers. */
+ * The numbers of refusals and outcomes, and what each means, are those of documents 01 and 02 (docs/READINGS.md). Where a
+ * function refuses, every other field of its answer is zero. docs/ARCHITECTURE.md explains the life of a call, docs/HOST.md
+ * shows it in C; aoc_text.h has words for the numbers. */
 #ifndef AOC_H
 #define AOC_H
 
@@ -22,8 +22,8 @@
 #include <stdint.h>
 #include <string.h>
 
-#define AOC_VERSION 40000       /* 4.0.0: ten thousand times the first number, a hundred times the second, the third */
-#define AOC_VERSION_TEXT "4.0.0"
+#define AOC_VERSION 50000       /* 5.0.0: ten thousand times the first number, a hundred times the second, the third */
+#define AOC_VERSION_TEXT "5.0.0"
 
 #ifdef __cplusplus
 extern "C" {

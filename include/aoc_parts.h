@@ -23,19 +23,19 @@
 
 /* Proved: the answer is the number in its name. An archive with another layout has another name here, and is not linked with
  * what mentions this one: the functions below that every host calls. */
-uint32_t aoc_layout_2(void);
+uint32_t aoc_layout_5(void);
 
 static inline void aoc_mention_layout(void)
 {
-    uint32_t (*volatile layout)(void) = aoc_layout_2;
+    uint32_t (*volatile layout)(void) = aoc_layout_5;
     (void)&layout;
 }
 
 /* ------------------------------------------------------------------ a record in parts */
 
 /* A record has four parts: its front, the first 8 octets; its figure, the charge's first 48; and the charge's two arrays,
- * which hold its list. Reading gets pointers to all four and stores each octet directly in its place. Writing gets pointers to the
- * arrays and the numbers by value. So no part is copied. */
+ * which hold its list. Reading gets pointers to all four and stores each octet directly in its place. Writing gets the front by
+ * value and pointers to the other three. So no part is copied. */
 
 /* A refusal and its offset, as an answer begins. */
 typedef struct {
@@ -65,33 +65,25 @@ typedef struct {
     uint8_t operation, error, problem, detail;
 } aoc_front;
 
-/* A figure's small numbers: of the association the identifier, the count of digits, the kind and the plan; the count of the
- * currency's octets; and the rest under its own names. */
-typedef struct {
-    uint16_t id, digits;
-    uint8_t currency, multiplier, party, plan, kind, total, billed, billing, arrangement, count;
-} aoc_outline;
-
 /* Proved. What aoc_read, aoc_next and aoc_write say, over the parts. */
 aoc_refusal_at aoc_read_into(const uint8_t *octets, size_t length, uint8_t (*front)[8], uint8_t (*figure)[48],
                              uint32_t (*numbers)[32], uint8_t (*rows)[192]);
 aoc_next_answer aoc_next_into(const uint8_t *octets, size_t length, size_t place, uint8_t (*front)[8], uint8_t (*figure)[48],
                               uint32_t (*numbers)[32], uint8_t (*rows)[192]);
-aoc_written aoc_write_from(aoc_front front, aoc_outline outline, uint32_t number, const uint8_t (*currency)[10],
-                           const uint8_t (*digits)[20], const uint32_t (*numbers)[32], const uint8_t (*rows)[192],
-                           uint8_t *buffer, size_t room);
+aoc_written aoc_write_from(aoc_front front, const uint8_t (*figure)[48], const uint32_t (*numbers)[32],
+                           const uint8_t (*rows)[192], uint8_t *buffer, size_t room);
 
-/* Proved. What aoc_read_by, aoc_next_by and aoc_write_by say, over the parts of both records. A trunk's first 48 octets are its lead, with four
+/* Proved. What aoc_read_by, aoc_next_by and aoc_write_by say, over the parts of both records. A trunk's first 48 octets are its front, with four
  * that are zero; then 244 of its extension; then a charge's three. */
 aoc_judged aoc_read_by_into(uint8_t profile, const uint8_t *octets, size_t length, uint8_t (*front)[8], uint8_t (*figure)[48],
-                            uint32_t (*numbers)[32], uint8_t (*rows)[192], uint8_t (*lead)[48], uint8_t (*extension)[244],
+                            uint32_t (*numbers)[32], uint8_t (*rows)[192], uint8_t (*trunk_front)[48], uint8_t (*extension)[244],
                             uint8_t (*trunk_figure)[48], uint32_t (*trunk_numbers)[32], uint8_t (*trunk_rows)[192]);
 aoc_next_by_answer aoc_next_by_into(const uint8_t *octets, size_t length, size_t place, uint8_t (*front)[8], uint8_t (*figure)[48],
-                                    uint32_t (*numbers)[32], uint8_t (*rows)[192], uint8_t (*lead)[48], uint8_t (*extension)[244],
+                                    uint32_t (*numbers)[32], uint8_t (*rows)[192], uint8_t (*trunk_front)[48], uint8_t (*extension)[244],
                                     uint8_t (*trunk_figure)[48], uint32_t (*trunk_numbers)[32], uint8_t (*trunk_rows)[192]);
 
 aoc_written aoc_write_by_from(uint8_t profile, const uint8_t (*front)[8], const uint8_t (*figure)[48], const uint32_t (*numbers)[32],
-                              const uint8_t (*rows)[192], const uint8_t (*lead)[48], const uint8_t (*extension)[244],
+                              const uint8_t (*rows)[192], const uint8_t (*trunk_front)[48], const uint8_t (*extension)[244],
                               const uint8_t (*trunk_figure)[48], const uint32_t (*trunk_numbers)[32],
                               const uint8_t (*trunk_rows)[192], uint8_t *buffer, size_t room);
 
@@ -149,22 +141,10 @@ AOC_INLINE bool aoc_next_by(const uint8_t *octets, size_t length, size_t *place,
 AOC_INLINE aoc_written aoc_write(const aoc_record *record, uint8_t *buffer, size_t room)
 {
     const aoc_charge *c = &record->charge;
-    const aoc_money *m = &c->money;
-    const aoc_association *a = &c->association;
     aoc_front front;
-    /* The outline is set as the two words that it is passed in, its first octet lowest. Set field by field it would be stored
-     * in small pieces and loaded in large ones, and such a load waits for the stores. */
-    union {
-        uint64_t words[2];
-        aoc_outline outline;
-    } o;
     aoc_mention_layout();
     memcpy(&front, record, sizeof front);
-    o.words[0] = a->id | AOC_TO(uint64_t, a->count) << 16 | AOC_TO(uint64_t, m->currency.count) << 32 |
-                 AOC_TO(uint64_t, m->multiplier) << 40 | AOC_TO(uint64_t, a->kind) << 48 | AOC_TO(uint64_t, a->plan) << 56;
-    o.words[1] = c->kind | AOC_TO(uint64_t, c->total) << 8 | AOC_TO(uint64_t, c->billed) << 16 |
-                 AOC_TO(uint64_t, c->billing) << 24 | AOC_TO(uint64_t, c->arrangement) << 32 | AOC_TO(uint64_t, c->count) << 40;
-    return aoc_write_from(front, o.outline, m->number, &m->currency.octets, &a->digits, &c->numbers, &c->octets, buffer, room);
+    return aoc_write_from(front, AOC_LOOK_AT(const uint8_t(*)[48], c), &c->numbers, &c->octets, buffer, room);
 }
 
 AOC_INLINE aoc_written aoc_write_by(uint8_t profile, const aoc_either *either, uint8_t *buffer, size_t room)
@@ -730,7 +710,6 @@ AOC_LAYOUT(sizeof(aoc_judged) == 12 && offsetof(aoc_judged, family) == offsetof(
 AOC_LAYOUT(sizeof(aoc_next_by_answer) == 32 && offsetof(aoc_next_by_answer, answer) == 16);
 AOC_LAYOUT(sizeof(aoc_front) == 8 && offsetof(aoc_front, id) == offsetof(aoc_record, id));
 AOC_LAYOUT(offsetof(aoc_front, operation) == offsetof(aoc_record, operation));
-AOC_LAYOUT(sizeof(aoc_outline) == 14 && offsetof(aoc_outline, currency) == 4 && offsetof(aoc_outline, kind) == 8);
 AOC_LAYOUT(sizeof(aoc_written) == 8 && offsetof(aoc_written, count) == 4);
 AOC_LAYOUT(sizeof(aoc_services) == 3 && sizeof(aoc_identifiers) == 6 && sizeof(aoc_outcome) == 2);
 AOC_LAYOUT(sizeof(aoc_event) == 10 && offsetof(aoc_event, asked) == 1 && offsetof(aoc_event, s) == 4);
@@ -764,7 +743,7 @@ AOC_LAYOUT(sizeof(aoc_plain_charge_answer) == 372 && offsetof(aoc_plain_charge_a
 AOC_LAYOUT(sizeof(aoc_plain_closing_answer) == 376 && offsetof(aoc_plain_closing_answer, closing) == 4);
 #undef AOC_LAYOUT
 
-/* Numbers lie low octet first, in what reading stores and in the outline's words. */
+/* Numbers lie low octet first, in what reading stores and in what writing is lent. */
 #if defined(__BYTE_ORDER__) && __BYTE_ORDER__ != __ORDER_LITTLE_ENDIAN__
 #error "the library is for processors with the low octet first: x86-64 and aarch64"
 #endif

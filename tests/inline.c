@@ -73,14 +73,14 @@ static void some_either(aoc_either *e)
 static struct {
     uint8_t guard0[GUARD], front[8], guard1[GUARD], figure[48], guard2[GUARD];
     uint32_t numbers[32];
-    uint8_t guard3[GUARD], rows[192], guard4[GUARD], lead[48], guard5[GUARD], extension[244], guard6[GUARD], trunk_figure[48];
+    uint8_t guard3[GUARD], rows[192], guard4[GUARD], trunk_front[48], guard5[GUARD], extension[244], guard6[GUARD], trunk_figure[48];
     uint8_t guard7[GUARD];
     uint32_t trunk_numbers[32];
     uint8_t guard8[GUARD], trunk_rows[192], guard9[GUARD];
 } parts;
 
 #define LINE_PARTS &parts.front, &parts.figure, &parts.numbers, &parts.rows
-#define TRUNK_PARTS &parts.lead, &parts.extension, &parts.trunk_figure, &parts.trunk_numbers, &parts.trunk_rows
+#define TRUNK_PARTS &parts.trunk_front, &parts.extension, &parts.trunk_figure, &parts.trunk_numbers, &parts.trunk_rows
 
 static void clear_parts(void)
 {
@@ -103,7 +103,7 @@ static int same_record(const aoc_record *r)
 
 static int same_trunk(const aoc_trunk *t)
 {
-    return !memcmp(t, parts.lead, 48) && !memcmp(&t->extended, parts.extension, 244) && !memcmp(&t->charge, parts.trunk_figure, 48) &&
+    return !memcmp(t, parts.trunk_front, 48) && !memcmp(&t->extended, parts.extension, 244) && !memcmp(&t->charge, parts.trunk_figure, 48) &&
            !memcmp(t->charge.numbers, parts.trunk_numbers, sizeof parts.trunk_numbers) &&
            !memcmp(t->charge.octets, parts.trunk_rows, sizeof parts.trunk_rows);
 }
@@ -170,15 +170,14 @@ static void check_writing(aoc_written v, aoc_written w, const uint8_t *buffer, s
     CHECK(v.refusal == w.refusal && v.count == w.count && !memcmp(left, buffer - GUARD, GUARD + room), of);
 }
 
-/* Field by field, where aoc_write hands over words. */
+/* The front field by field and the figure from a place of its own, where aoc_write hands over the record as it lies. */
 static aoc_written write_parts(const aoc_record *r, uint8_t *buffer, size_t room)
 {
     const aoc_charge *c = &r->charge;
     aoc_front front = {r->frame, r->unnamed, r->id, r->operation, r->error, r->problem, r->detail};
-    aoc_outline outline = {c->association.id, c->association.count, c->money.currency.count, c->money.multiplier,
-                           c->association.kind, c->association.plan, c->kind, c->total, c->billed, c->billing, c->arrangement, c->count};
-    return aoc_write_from(front, outline, c->money.number, &c->money.currency.octets, &c->association.digits, &c->numbers, &c->octets,
-                          buffer, room);
+    uint8_t figure[48];
+    memcpy(figure, c, sizeof figure);
+    return aoc_write_from(front, &figure, &c->numbers, &c->octets, buffer, room);
 }
 
 static void check_write(const aoc_record *r, size_t room)
@@ -199,14 +198,14 @@ static void check_write_by(uint8_t profile, const aoc_either *e, size_t room)
     memcpy(parts.figure, c, 48);
     memcpy(parts.numbers, c->numbers, sizeof parts.numbers);
     memcpy(parts.rows, c->octets, sizeof parts.rows);
-    memcpy(parts.lead, &e->trunk, 48);
+    memcpy(parts.trunk_front, &e->trunk, 48);
     memcpy(parts.extension, &e->trunk.extended, 244);
     memcpy(parts.trunk_figure, t, 48);
     memcpy(parts.trunk_numbers, t->numbers, sizeof parts.trunk_numbers);
     memcpy(parts.trunk_rows, t->octets, sizeof parts.trunk_rows);
     aoc_written w = aoc_write_by_from(profile, (const uint8_t(*)[8])parts.front, (const uint8_t(*)[48])parts.figure,
                                       (const uint32_t(*)[32])parts.numbers, (const uint8_t(*)[192])parts.rows,
-                                      (const uint8_t(*)[48])parts.lead, (const uint8_t(*)[244])parts.extension,
+                                      (const uint8_t(*)[48])parts.trunk_front, (const uint8_t(*)[244])parts.extension,
                                       (const uint8_t(*)[48])parts.trunk_figure, (const uint32_t(*)[32])parts.trunk_numbers,
                                       (const uint8_t(*)[192])parts.trunk_rows, buffer, room);
     check_writing(v, w, buffer, room, "aoc_write_by");

@@ -44,12 +44,12 @@ ARCHITECTURE, TRUST, CONTRACTS, EDITS = "docs/ARCHITECTURE.md", "docs/TRUST.md",
 crates = [line.split(":")[0] for line in text("crates.txt").splitlines() if ":" in line.split("#")[0]]
 
 # ---- the files of definitions: those to be believed, with their lines and the minutes of reading, and those that only help
-files = {path[len("crates/"):] for path in glob.glob("crates/*/specs/*.antt") if not path.endswith("/Lib.antt")}
+files = {path[len("crates/"):] for path in glob.glob("crates/*/specs/*.antt") if not path.endswith(("/Lib.antt", "/inner.antt"))}
 rows = re.findall(r"^\| `([a-z_]+/specs/[A-Za-z]+\.antt)` \| (\d+) \|", text(TRUST), re.M)
 believed = {name: int(lines) for name, lines in rows}
-helping = re.findall(r"`([a-z_]+/specs/[A-Za-z]+\.antt)`", text(TRUST).split("## The definitions that only help")[1].split("\n## ")[0])
-differ(TRUST, "file", set(believed) | set(helping), files)
-listed = [name for name, lines in rows] + helping
+helping = {path[len("crates/"):] for path in glob.glob("crates/*/specs/inner/*.antt")}
+differ(TRUST, "file", set(believed), files)
+listed = [name for name, lines in rows]
 for name in sorted({name for name in listed if listed.count(name) > 1}):
     tell(TRUST, f"{name} is listed twice")
 for name, lines in believed.items():
@@ -58,9 +58,8 @@ for name, lines in believed.items():
     body = text("crates/" + name)
     if body.count("\n") != lines:
         tell(TRUST, f"{name} has {body.count(chr(10))} lines, not {lines}")
-    for crate, file in re.findall(r"^(?:unfoldable )?(?:pub )?use Rattle·([a-z_]+)(?:·specs)?\.specs\.([A-Za-z]+)\.\{", body, re.M):
-        if f"{crate}/specs/{file}.antt" in files - set(believed):
-            tell(TRUST, f"{name} is to be believed and cites {crate}/specs/{file}.antt, which is not")
+    if re.search(r"\binner\.[A-Z]", body):
+        tell(TRUST, f"{name} is to be believed and cites a file of specs/inner/, which is not")
 
 # ---- the minutes of each step of reading, and of all of them
 minutes = 0
@@ -158,7 +157,7 @@ def defines(path, name):
     return bool(re.search(rf"(?m)^ *(?:(?:pub|abbrev|unfoldable|data|record|fn|struct|const|ruleset) )*{re.escape(name)}(?![\w·-])", text(path)))
 
 
-antt = glob.glob("crates/*/specs/*.antt") + glob.glob("crates/*/proofs/*.antt")
+antt = glob.glob("crates/*/specs/**/*.antt", recursive=True) + glob.glob("crates/*/proofs/*.antt")
 comments = [(path, "\n".join(re.findall(r"(?m)^\s*(?:--|//) ?(.*)", text(path)))) for path in antt + glob.glob("crates/*/src/**/*.rt", recursive=True)]
 for page, said in [(page, text(page)) for page in pages if page != "docs/EDITS.md"] + comments:
     for names, beside in re.findall(r"((?:`[^\W\d][\w-]*`(?:, | and )?)+) \(((?:`?(?:[a-z_]+/(?:specs|proofs)/)?\w+\.antt`?(?:, )?)+)\)", said):
@@ -191,7 +190,7 @@ for crate in crates:
         tell("CONTRIBUTING.md", f"request 1: {crate} is not named")
 
 # ---- what READINGS quotes of a definition stands there, `..` for anything
-specs = " ".join(re.sub(r"\s+", " ", text(path)) for path in glob.glob("crates/*/specs/*.antt") + glob.glob("crates/*/proofs/*.antt"))
+specs = " ".join(re.sub(r"\s+", " ", text(path)) for path in glob.glob("crates/*/specs/**/*.antt", recursive=True) + glob.glob("crates/*/proofs/*.antt"))
 for line in text("docs/READINGS.md").splitlines():
     for quoted in re.findall(r"`([^`]+)`", line) if line.startswith("|") else []:
         if re.search(r"\S [=∷(]|^\(", quoted):
@@ -234,8 +233,8 @@ for crate, functions in public.items():
     if crate not in code:
         tell(ARCHITECTURE, f"no crate {crate}")
         continue
-    cited = re.findall(r"ghost use Rattle·([a-z_]+)(?:·specs)?\.specs\.([A-Za-z]+)(?:\.[A-Za-z]+)?\.\{([^}]*)\}", code[crate])
-    stand = {name.strip(): f"{of}/specs/{file}.antt" for of, file, names in cited for name in names.split(",")}
+    cited = re.findall(r"ghost use Rattle·([a-z_]+)(?:·specs)?\.specs\.((?:inner\.)?[A-Za-z]+)(?:\.[A-Za-z]+)?\.\{([^}]*)\}", code[crate])
+    stand = {name.strip(): f"{of}/specs/{file.replace('.', '/')}.antt" for of, file, names in cited for name in names.split(",")}
     for head in re.finditer(r"pub (?:extern \"C\" )?fn (\w+)\((?:.|\n)*?\n\s*\{\n", code[crate]):
         if functions is not None and head[1] not in functions:
             continue

@@ -217,7 +217,7 @@ static void test_version(void)
             numbers[i] = 10 * numbers[i] + (unsigned long)(*text - '0');
     }
     CHECK(AOC_VERSION == 10000 * numbers[0] + 100 * numbers[1] + numbers[2], "the version's text");
-    CHECK(aoc_version() == AOC_VERSION && aoc_layout_2() == 2, "the archive's version");
+    CHECK(aoc_version() == AOC_VERSION && aoc_layout_5() == 5, "the archive's version");
 }
 
 int main(void)

@@ -12,22 +12,22 @@
 
 /* A record's parts and a trunk's: the pointers, and all that they point to. */
 #define LINE_PARTS front, figure, numbers, rows
-#define TRUNK_PARTS lead, extension, trunk_figure, trunk_numbers, trunk_rows
+#define TRUNK_PARTS trunk_front, extension, trunk_figure, trunk_numbers, trunk_rows
 #define LINE (*front)[0 .. 7], (*figure)[0 .. 47], (*numbers)[0 .. 31], (*rows)[0 .. 191]
-#define TRUNK (*lead)[0 .. 47], (*extension)[0 .. 243], (*trunk_figure)[0 .. 47], (*trunk_numbers)[0 .. 31], (*trunk_rows)[0 .. 191]
+#define TRUNK (*trunk_front)[0 .. 47], (*extension)[0 .. 243], (*trunk_figure)[0 .. 47], (*trunk_numbers)[0 .. 31], (*trunk_rows)[0 .. 191]
 #define LINE_FILLED                                                                                    \
     (\initialized(&(*front)[0 .. 7]) && \initialized(&(*figure)[0 .. 47]) &&                           \
      \initialized(&(*numbers)[0 .. 31]) && \initialized(&(*rows)[0 .. 191]))
 #define TRUNK_FILLED                                                                                   \
-    (\initialized(&(*lead)[0 .. 47]) && \initialized(&(*extension)[0 .. 243]) &&                       \
+    (\initialized(&(*trunk_front)[0 .. 47]) && \initialized(&(*extension)[0 .. 243]) &&                       \
      \initialized(&(*trunk_figure)[0 .. 47]) && \initialized(&(*trunk_numbers)[0 .. 31]) &&            \
      \initialized(&(*trunk_rows)[0 .. 191]))
 #define LINE_TO (\valid(front) && \valid(figure) && \valid(numbers) && \valid(rows))
 #define TRUNK_TO                                                                                       \
-    (\valid(lead) && \valid(extension) && \valid(trunk_figure) && \valid(trunk_numbers) && \valid(trunk_rows))
+    (\valid(trunk_front) && \valid(extension) && \valid(trunk_figure) && \valid(trunk_numbers) && \valid(trunk_rows))
 #define LINE_FROM (\valid_read(front) && \valid_read(figure) && \valid_read(numbers) && \valid_read(rows) && LINE_FILLED)
 #define TRUNK_FROM                                                                                     \
-    (\valid_read(lead) && \valid_read(extension) && \valid_read(trunk_figure) && \valid_read(trunk_numbers) && \
+    (\valid_read(trunk_front) && \valid_read(extension) && \valid_read(trunk_figure) && \valid_read(trunk_numbers) && \
      \valid_read(trunk_rows) && TRUNK_FILLED)
 
 /* ------------------------------------------------------------------ the version, the layout's number */
@@ -38,7 +38,7 @@ uint32_t aoc_version(void);
 
 /*@ assigns \result \from \nothing;
     ensures \result == 2; */
-uint32_t aoc_layout_2(void);
+uint32_t aoc_layout_5(void);
 
 /* ------------------------------------------------------------------ components */
 
@@ -67,17 +67,15 @@ aoc_next_answer aoc_next_into(const uint8_t *octets, size_t length, size_t place
 
 /* writeOf */
 /*@ requires lists: \valid_read(numbers) && \valid_read(rows) && \initialized(&(*numbers)[0 .. 31]) && \initialized(&(*rows)[0 .. 191]);
-    requires texts: \valid_read(currency) && \valid_read(digits) && \initialized(&(*currency)[0 .. 9]) && \initialized(&(*digits)[0 .. 19]);
+    requires figure: \valid_read(figure) && \initialized(&(*figure)[0 .. 47]);
     requires buffer: LENT_TO(buffer, room);
-    requires apart: room == 0 || \separated(buffer + (0 .. room - 1), currency, digits, numbers, rows);
+    requires apart: room == 0 || \separated(buffer + (0 .. room - 1), figure, numbers, rows);
     assigns \result, buffer[0 .. room - 1]
-        \from front, outline, number, (*currency)[0 .. 9], (*digits)[0 .. 19], (*numbers)[0 .. 31], (*rows)[0 .. 191], room,
-              buffer[0 .. room - 1];
+        \from front, (*figure)[0 .. 47], (*numbers)[0 .. 31], (*rows)[0 .. 191], room, buffer[0 .. room - 1];
     ensures \result.refusal == 0 || 10 <= \result.refusal <= 12;
     ensures \result.count <= 254 && \result.count <= room; */
-aoc_written aoc_write_from(aoc_front front, aoc_outline outline, uint32_t number, const uint8_t (*currency)[10],
-                           const uint8_t (*digits)[20], const uint32_t (*numbers)[32], const uint8_t (*rows)[192],
-                           uint8_t *buffer, size_t room);
+aoc_written aoc_write_from(aoc_front front, const uint8_t (*figure)[48], const uint32_t (*numbers)[32],
+                           const uint8_t (*rows)[192], uint8_t *buffer, size_t room);
 
 /* `replies`, `only-12` (reply/proofs/Replies.antt) */
 /*@ requires octets: LENT(octets, length);
@@ -118,7 +116,7 @@ aoc_written aoc_write_element_by(uint8_t profile, const uint8_t *octets, size_t 
     ensures \result.refusal <= 8 || \result.refusal == 17 || 40 <= \result.refusal <= 45;
     ensures \result.family <= 2; */
 aoc_judged aoc_read_by_into(uint8_t profile, const uint8_t *octets, size_t length, uint8_t (*front)[8], uint8_t (*figure)[48],
-                            uint32_t (*numbers)[32], uint8_t (*rows)[192], uint8_t (*lead)[48], uint8_t (*extension)[244],
+                            uint32_t (*numbers)[32], uint8_t (*rows)[192], uint8_t (*trunk_front)[48], uint8_t (*extension)[244],
                             uint8_t (*trunk_figure)[48], uint32_t (*trunk_numbers)[32], uint8_t (*trunk_rows)[192]);
 
 /* `one-of-four` (element_pass/proofs/Through.antt), `answers` and `refusal` */
@@ -131,7 +129,7 @@ aoc_judged aoc_read_by_into(uint8_t profile, const uint8_t *octets, size_t lengt
     ensures \result.ended <= 1 && \result.answer.family <= 2;
     ensures \result.answer.refusal <= 17 || 40 <= \result.answer.refusal <= 45; */
 aoc_next_by_answer aoc_next_by_into(const uint8_t *octets, size_t length, size_t place, uint8_t (*front)[8], uint8_t (*figure)[48],
-                                    uint32_t (*numbers)[32], uint8_t (*rows)[192], uint8_t (*lead)[48], uint8_t (*extension)[244],
+                                    uint32_t (*numbers)[32], uint8_t (*rows)[192], uint8_t (*trunk_front)[48], uint8_t (*extension)[244],
                                     uint8_t (*trunk_figure)[48], uint32_t (*trunk_numbers)[32], uint8_t (*trunk_rows)[192]);
 
 /* writeProfile */
@@ -142,7 +140,7 @@ aoc_next_by_answer aoc_next_by_into(const uint8_t *octets, size_t length, size_t
     ensures \result.refusal == 0 || 10 <= \result.refusal <= 12 || \result.refusal == 17;
     ensures \result.count <= 254 && \result.count <= room; */
 aoc_written aoc_write_by_from(uint8_t profile, const uint8_t (*front)[8], const uint8_t (*figure)[48], const uint32_t (*numbers)[32],
-                              const uint8_t (*rows)[192], const uint8_t (*lead)[48], const uint8_t (*extension)[244],
+                              const uint8_t (*rows)[192], const uint8_t (*trunk_front)[48], const uint8_t (*extension)[244],
                               const uint8_t (*trunk_figure)[48], const uint32_t (*trunk_numbers)[32],
                               const uint8_t (*trunk_rows)[192], uint8_t *buffer, size_t room);
 

@@ -406,7 +406,7 @@ class aoc_month_added(Structure):
 
 
 FUNCTIONS = {
-    "aoc_layout_2": (U32,),
+    "aoc_layout_5": (U32,),
     "aoc_version": (U32,),
     "aoc_read": (U32, OCTETS, SIZE, pointer(aoc_answer)),
     "aoc_write": (aoc_written, pointer(aoc_record), pointer(U8), SIZE),

@@ -597,7 +597,7 @@ pub struct aoc_month_added {
 }
 
 unsafe extern "C" {
-    pub fn aoc_layout_2() -> u32;
+    pub fn aoc_layout_5() -> u32;
     pub fn aoc_version() -> u32;
     pub fn aoc_read(octets: *const u8, length: usize, answer: *mut aoc_answer) -> u32;
     pub fn aoc_write(record: *const aoc_record, buffer: *mut u8, room: usize) -> aoc_written;
@@ -700,5 +700,5 @@ unsafe extern "C" {
     pub fn aoc_print_currency(buffer: *mut c_char, room: usize, currency: *const aoc_currency) -> usize;
     pub fn aoc_print_money(buffer: *mut c_char, room: usize, money: *const aoc_money) -> usize;
 }
-pub use aoc_layout_2 as aoc_layout;
+pub use aoc_layout_5 as aoc_layout;
 // end of what the headers declare

@@ -49,7 +49,7 @@ pastOf g a = record {
 tells : (h : List Given) (g : Given) → pastOf g (accountBy (judged h)) ≡ record { given = g; outcome = judge (known (judged h)) (g .event) (g .octets); after = standing (g ∷ h) }
 tells h g = rw (step-stands h g, stands (g ∷ h))
 
--- for every call's list, and every choice of events that leaves out noise alone: each event that remains has the outcome that it had, and all that stands after it is what stood
+-- for every call's list, and every choice of events that leaves out noise alone: each event that remains has the outcome that it had, and all that is there after it is what stood
 pub noise-dropped : (c : List Bool) (h : List Given) → onlyNoise c (outcomes h) ≡ true → past (chosen c h) ≡ chosen c (past h)
 noise-dropped [] h q = refl
 noise-dropped (b ∷ c) [] q = refl

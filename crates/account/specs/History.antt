@@ -59,7 +59,7 @@ hasFinal s h = any (λ j. its s 22 (j .outcome)) h
 abbrev pub final : ℕ → List Judged → Charge
 final s h = last (λ j. its s 22 (j .outcome)) h
 
--- ---- a service's mark stands if an earlier event was its 23 or, for conflict, its 29
+-- ---- a service has a mark if an earlier event was its 23 or, for conflict, its 29
 
 abbrev pub unavailable : ℕ → List Judged → Bool
 unavailable s h = any (λ j. its s 23 (j .outcome)) h
@@ -93,7 +93,7 @@ closing h =
     (cond (hasFinal D h) (record { service = D; value = final D h }) noClosing))
     noClosing
 
--- ---- each event is judged by what came before it
+-- ---- each event's outcome follows from what came before it
 
 abbrev pub requests : List Judged → Requests
 requests h = record {

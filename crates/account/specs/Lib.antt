@@ -1,3 +1,4 @@
 pub mod History
 pub mod Step
 pub mod Noise
+pub mod Events

@@ -51,7 +51,7 @@ standing h = record {
   closing = closing (judged h);
 }
 
--- an event, its outcome, and all that stands after it
+-- an event, its outcome, and all that is there after it
 pub record Past : Type 0 where
   pub given : Given
   pub outcome : Outcome

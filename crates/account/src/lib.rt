@@ -1,18 +1,23 @@
-// One call's account: what is kept of its events, and what is read off it.
+// One call's account: the events that it takes, what is kept of them, and what is read off it.
 //
 // What a host holds is flat structs of numbers: its memory may hold anything, and any value has its answer.
 // Services are numbered 1 S, 2 D, 3 E. Phases: 0 Idle, 1 Establishment, 2 Active, 3 Clearing, 4 Ended, 5 Suspended.
+use phases::Event;
 use phases::Outcome;
 use phases::Status;
 use requests::Services;
+use requests::Three;
+use requests::closing_service;
 use types::Charge;
+use types::charge_kind;
 ghost use mathlib.Core.Path.{_≡_};
 ghost use mathlib.Core.List.{List};
 ghost use Rattle.types.specs.Arguments.{noCharge};
-ghost use Rattle.phases.specs.Phases.{Given};
+ghost use Rattle.phases.specs.Phases.{Component, Given};
 ghost use Rattle.outcomes.specs.Status.{requestsOf};
 ghost use Rattle.account.specs.History.{judged, accountBy, currentRate, running, closing, marks, phase, requests, fresh, pendingOf};
 ghost use Rattle.account.specs.Step.{closingOf, marksOf};
+ghost use Rattle.account.specs.Events.{plainEvent, setupEvent};
 
 // The rate, the running figure and the finals of D and E, as they were received; a figure of kind 0 is none.
 #[repr(C)]
@@ -74,7 +79,7 @@ pub fn fresh() -> Account
     let none = no_charge();
     let empty = Services::empty();
     let status = Status {
-        phase: 0,
+        phase: phases::IDLE,
         asked: empty,
         s: 0,
         d: 0,
@@ -114,26 +119,26 @@ pub fn closing_of(a: Account) -> Closing
     let d = a.dfinal;
     let e = a.efinal;
     let none = no_charge();
-    if a.status.phase != 4 {
+    if a.status.phase != phases::ENDED {
         return Closing {
-            service: 0,
+            service: closing_service::NONE,
             value: none,
         };
     }
-    if e.figure.kind != 0 {
+    if e.figure.kind != charge_kind::NONE {
         return Closing {
-            service: 3,
+            service: closing_service::E,
             value: e,
         };
     }
-    if d.figure.kind != 0 {
+    if d.figure.kind != charge_kind::NONE {
         return Closing {
-            service: 2,
+            service: closing_service::D,
             value: d,
         };
     }
     Closing {
-        service: 0,
+        service: closing_service::NONE,
         value: none,
     }
 }
@@ -168,4 +173,42 @@ pub fn phase_of(a: Account) -> u8
     ensures rules { λ r. ⌜ ((h : List Given) → a ≡ accountBy (judged h) → r ≡ phase (judged h)) ⌝ }
 {
     a.status.phase
+}
+
+// ---- the events of a call, from what a host passes
+
+pub fn setup_event(asked: Services, ids: Three) -> Event
+    ensures { λ r. ⌜ r ≡ setupEvent asked ids ⌝ }
+{
+    Event {
+        kind: phases::SETUP,
+        asked,
+        s: ids.s,
+        d: ids.d,
+        e: ids.e,
+    }
+}
+
+pub fn plain_event(kind: u8) -> Event
+    ensures { λ r. ⌜ r ≡ plainEvent kind ⌝ }
+{
+    Event {
+        kind,
+        asked: Services::EMPTY,
+        s: 0,
+        d: 0,
+        e: 0,
+    }
+}
+
+pub fn component_event() -> Event
+    ensures { λ r. ⌜ r ≡ plainEvent Component ⌝ }
+{
+    Event {
+        kind: phases::COMPONENT,
+        asked: Services::EMPTY,
+        s: 0,
+        d: 0,
+        e: 0,
+    }
 }

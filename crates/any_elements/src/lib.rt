@@ -2,19 +2,22 @@
 //
 // What calls itself here does so for each element, up to an end that Bounded holds to 257 octets, and a call goes on past two octets
 // or more. It answers one number, so that a call takes little of the stack.
+use coding::refusal;
 ghost use Prim.Native.Nat.{_+_, _-_, _*_, _/_, _%_, _≤_, _<_};
 ghost use mathlib.Core.Path.{_≡_};
 ghost use mathlib.Core.Bool.{true, cond};
 ghost use lib.Dec.{leb, eqb};
 ghost use lib.ListN.{length};
-ghost use Rattle.coding.specs.Shown.{shown};
+ghost use Rattle.coding.specs.inner.Shown.{shown};
 ghost use Rattle.coding.specs.Normal.{severalAt, anyElement};
-ghost use Rattle.coding.specs.Written.{Wrote, Room, lead};
-ghost use Rattle.read_lengths.specs.Bounds.{Bounded};
-ghost use Rattle.any_elements.specs.Forms.{sized, openedAny, spanNumber, isRead, formsOf, told};
+ghost use Rattle.coding.specs.inner.Written.{Wrote, Room, lead};
+ghost use Rattle.read_lengths.specs.inner.Bounds.{Bounded};
+ghost use Rattle.any_elements.specs.inner.Forms.{sized, openedAny, spanNumber, isRead, formsOf, told};
 
 // From here on a number is a fault: this, the fault's number, and 256 times its place.
 const FAULTS: usize = 1000;
+
+const UNEXPECTED: usize = refusal::UNEXPECTED as usize;
 // From here on a number is an element's span: where its contents begin, 512 times where they end, and this times the place after it.
 const SPANS: usize = 0x40000;
 
@@ -37,7 +40,7 @@ fn span_at(s: &[u8], at: usize, end: usize) -> usize
 {
     let tag = s[at];
     if tag == 0 {
-        return FAULTS + 41 + 256 * at;
+        return FAULTS + UNEXPECTED + 256 * at;
     }
     if tag / 32 % 2 == 1 {
         let o = read_lengths::open_at(s, at, end, tag);
@@ -100,7 +103,7 @@ pub fn forms_size(s: &[u8], at: usize, end: usize) -> usize
     joined(n, more)
 }
 
-// The shortest forms of the elements from a place up to the end, which are read without a fault, into a lent buffer. Answers the place after them.
+// The shortest forms of the elements from a place up to the end, which are read without a fault, into the caller's buffer. Answers the place after them.
 pub fn put_forms(s: &[u8], at: usize, end: usize, buf: &mut [u8; 244], to: usize) -> usize
     requires { ⌜ Bounded (now s) end ⌝ }
     requires { ⌜ isRead (severalAt (now s) at end) ≡ true ⌝ }
@@ -174,7 +177,7 @@ fn reached(next: usize) -> Passed
     }
 }
 
-// The fault that a number tells.
+// The fault that a number reports.
 fn faulted(m: usize) -> Passed
     requires { ⌜ 1000 ≤ m ⌝ }
     ensures { λ r. ⌜ r ≡ record { fault = (m - 1000) % 256; place = (m - 1000) / 256; next = 0 } ⌝ }
@@ -189,7 +192,7 @@ pub fn any_at(s: &[u8], at: usize, end: usize) -> Passed
     ensures { λ r. ⌜ (r .fault, r .place, tt, r .next) ≡ shown tt (told (anyElement .read (now (s .entry)) at end)) ⌝ }
 {
     if end <= at {
-        return halted(40, end);
+        return halted(refusal::MISSING, end);
     }
     let o = span_at(s, at, end);
     if o < SPANS {

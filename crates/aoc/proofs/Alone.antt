@@ -20,7 +20,7 @@ use denote.{Triple.Walked.walkOf, Triple.Walked.goes-gave-ref, Triple.Walked.goe
 use Rattle.requests.specs.{declared.Services.Services, declared.Three.Three}
 use Rattle.account.specs.{declared.Account.Account, History.stepped}
 use Rattle.phases.specs.declared.{Event.Event, Outcome.Outcome}
-use Rattle.makers.specs.Events.{plainEvent, setupEvent, Took}
+use Rattle.account.specs.Events.{plainEvent, setupEvent, Took}
 use Rattle.aoc.proofs.{Walk.Coded, Walk.by-walk, Passed.Callee, Passed.tokens, Passed.to-callee, Passed.goes-in, Passed.came-back, Passed.came, Passed.retold}
 use Rattle.aoc.proofs.{Passed.G, Passed.known-step}
 use denote.Struct.Laws as LL
@@ -30,9 +30,9 @@ use Rattle.phases.proofs.Outcome as O
 use Rattle.requests.proofs.Services as Set
 use Rattle.requests.proofs.Three as Ids
 use Rattle.step.proofs.step_in as callee
-use Rattle.makers.proofs.plain_event as maker
+use Rattle.account.proofs.plain_event as maker
 use Rattle.aoc.proofs.aoc_connect as own
-use Rattle.makers.proofs.setup_event as maker₁
+use Rattle.account.proofs.setup_event as maker₁
 use Rattle.aoc.proofs.aoc_setup as setup
 
 -- the functions: the locals that stand after the parameters, and what is done once the event is made, by the places of the event, the array, the account lent again, the array's address and the slice

@@ -19,14 +19,14 @@ use denote.{Triple.Walked.goes-gave-ref, Triple.Walked.goes-dropped, Triple.Walk
 use Rattle.account.specs.declared.{Account.Account, Stepped.Stepped}
 use Rattle.phases.specs.declared.{Event.Event, Outcome.Outcome}
 use Rattle.step.proofs.Machine.{vE, tellsE}
-use Rattle.makers.specs.Events.{plainEvent, Took}
+use Rattle.account.specs.Events.{plainEvent, Took}
 use Rattle.aoc.proofs.Walk.{Coded, by-walk}
 use denote.Struct.Laws as LL
 use Rattle.account.proofs.Account as T
 use Rattle.phases.proofs.Event as E
 use Rattle.phases.proofs.Outcome as O
 use Rattle.step.proofs.step_in as callee
-use Rattle.makers.proofs.component_event as maker
+use Rattle.account.proofs.component_event as maker
 use Rattle.aoc.proofs.aoc_step as step
 use Rattle.aoc.proofs.aoc_component as component
 

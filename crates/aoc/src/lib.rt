@@ -11,7 +11,6 @@ ghost use mir.Syntax.{w16};
 ghost use mir.Val.{toZ};
 ghost use Rattle.types.specs.Frames.{readOf};
 ghost use Rattle.read.specs.Whole.{wholeAnswer};
-ghost use Rattle.write.specs.Handed.{handed};
 ghost use Rattle.write.specs.Outcome.{writeOf, leftOf};
 ghost use Rattle.reply.specs.Reply.{replyOf, replyLeft};
 ghost use Rattle.element_pass.specs.Pass.{passWith, passOf, wholeNext};
@@ -32,7 +31,7 @@ ghost use Rattle.phases.specs.Phases.{Connect, Clear, Released, Component, Susp
 ghost use Rattle.account.specs.History.{judged, currentRate, running, closing, marks, phase, requests, stepped, fresh, pendingOf};
 ghost use Rattle.outcomes.specs.Status.{requestsOf};
 ghost use Rattle.account.specs.Step.{closingOf, marksOf};
-ghost use Rattle.makers.specs.Events.{plainEvent, setupEvent, Took};
+ghost use Rattle.account.specs.Events.{plainEvent, setupEvent, Took};
 ghost use Rattle.aoc.specs.Reading.{ReadsOff};
 ghost use Rattle.price.specs.Price.{priceOf};
 ghost use Rattle.board_rules.specs.Board.{boarded, eventOn, emptied, collectOn, viewOn};
@@ -46,22 +45,22 @@ ghost use Rattle.element_write.specs.Round.{elementInto, elementBy};
 // What the header says as AOC_VERSION, of the archive that a host is linked with.
 #[no_mangle]
 pub extern "C" fn aoc_version() -> u32
-    ensures { λ r. ⌜ r ≡ 40000 ⌝ }
+    ensures { λ r. ⌜ r ≡ 50000 ⌝ }
 {
-    40000
+    50000
 }
 
 // The number in its name is the layout's. The header's inline functions mention it, so that an archive with another layout is not linked.
 #[no_mangle]
-pub extern "C" fn aoc_layout_2() -> u32
-    ensures { λ r. ⌜ r ≡ 2 ⌝ }
+pub extern "C" fn aoc_layout_5() -> u32
+    ensures { λ r. ⌜ r ≡ 5 ⌝ }
 {
-    2
+    5
 }
 
 // ---- components
 
-// A record that is read goes to four parts that are lent, and one that is written comes from its numbers by value and its arrays lent: none is copied.
+// A record that is read goes to four parts that are lent, and one that is written comes from its front by value and the other three lent: none is copied.
 
 #[no_mangle]
 pub extern "C" fn aoc_read_into(
@@ -79,18 +78,15 @@ pub extern "C" fn aoc_read_into(
 #[no_mangle]
 pub extern "C" fn aoc_write_from(
     f: types::Front,
-    o: write_figures::Outline,
-    number: u32,
-    currency: &[u8; 10],
-    digits: &[u8; 20],
+    figure: &[u8; 48],
     numbers: &[u32; 32],
     rows: &[u8; 192],
     buf: &mut [u8],
 ) -> write::Written
-    ensures { λ w. ⌜ w ≡ writeOf (handed f o number (now (currency .entry)) (now (digits .entry)) (now (numbers .entry)) (now (rows .entry))) (length (now (buf .entry))) ⌝ }
-    ensures left { λ w. ⌜ now (buf .exit) ≡ leftOf (handed f o number (now (currency .entry)) (now (digits .entry)) (now (numbers .entry)) (now (rows .entry))) (now (buf .entry)) ⌝ }
+    ensures { λ w. ⌜ w ≡ writeOf (record { front = f; charge = storedCharge (now (figure .entry)) (now (numbers .entry)) (now (rows .entry)) }) (length (now (buf .entry))) ⌝ }
+    ensures left { λ w. ⌜ now (buf .exit) ≡ leftOf (record { front = f; charge = storedCharge (now (figure .entry)) (now (numbers .entry)) (now (rows .entry)) }) (now (buf .entry)) ⌝ }
 {
-    write::write_from(f, o, number, currency, digits, numbers, rows, buf)
+    write::write_from(f, figure, numbers, rows, buf)
 }
 
 #[no_mangle]
@@ -127,14 +123,14 @@ pub extern "C" fn aoc_read_by_into(
     figure: &mut [u8; 48],
     numbers: &mut [u32; 32],
     rows: &mut [u8; 192],
-    lead: &mut [u8; 48],
-    lent: &mut [u8; 244],
+    trunk_front: &mut [u8; 48],
+    extension: &mut [u8; 244],
     trunk_figure: &mut [u8; 48],
     trunk_numbers: &mut [u32; 32],
     trunk_rows: &mut [u8; 192],
 ) -> profile_read::Judged
-    ensures { λ r. ⌜ eitherIn r (now (front .exit)) (now (figure .exit)) (now (numbers .exit)) (now (rows .exit)) (now (lead .exit)) (now (lent .exit)) (now («trunk_figure» .exit)) (now («trunk_numbers» .exit)) (now («trunk_rows» .exit)) ≡ readBy profile (now (octets .entry)) ⌝ }
-    ensures spare { λ _. ⌜ Spare (now (lead .exit)) ⌝ }
+    ensures { λ r. ⌜ eitherIn r (now (front .exit)) (now (figure .exit)) (now (numbers .exit)) (now (rows .exit)) (now («trunk_front» .exit)) (now (extension .exit)) (now («trunk_figure» .exit)) (now («trunk_numbers» .exit)) (now («trunk_rows» .exit)) ≡ readBy profile (now (octets .entry)) ⌝ }
+    ensures spare { λ _. ⌜ Spare (now («trunk_front» .exit)) ⌝ }
 {
     profile_read::read_by(
         profile,
@@ -143,8 +139,8 @@ pub extern "C" fn aoc_read_by_into(
         figure,
         numbers,
         rows,
-        lead,
-        lent,
+        trunk_front,
+        extension,
         trunk_figure,
         trunk_numbers,
         trunk_rows,
@@ -159,14 +155,14 @@ pub extern "C" fn aoc_next_by_into(
     figure: &mut [u8; 48],
     numbers: &mut [u32; 32],
     rows: &mut [u8; 192],
-    lead: &mut [u8; 48],
-    lent: &mut [u8; 244],
+    trunk_front: &mut [u8; 48],
+    extension: &mut [u8; 244],
     trunk_figure: &mut [u8; 48],
     trunk_numbers: &mut [u32; 32],
     trunk_rows: &mut [u8; 192],
 ) -> profile_pass::NextBy
-    ensures { λ r. ⌜ nextIn r (now (front .exit)) (now (figure .exit)) (now (numbers .exit)) (now (rows .exit)) (now (lead .exit)) (now (lent .exit)) (now («trunk_figure» .exit)) (now («trunk_numbers» .exit)) (now («trunk_rows» .exit)) ≡ passWith families (now (octets .entry)) place ⌝ }
-    ensures spare { λ _. ⌜ Spare (now (lead .exit)) ⌝ }
+    ensures { λ r. ⌜ nextIn r (now (front .exit)) (now (figure .exit)) (now (numbers .exit)) (now (rows .exit)) (now («trunk_front» .exit)) (now (extension .exit)) (now («trunk_figure» .exit)) (now («trunk_numbers» .exit)) (now («trunk_rows» .exit)) ≡ passWith families (now (octets .entry)) place ⌝ }
+    ensures spare { λ _. ⌜ Spare (now («trunk_front» .exit)) ⌝ }
 {
     profile_pass::next_by(
         octets,
@@ -175,8 +171,8 @@ pub extern "C" fn aoc_next_by_into(
         figure,
         numbers,
         rows,
-        lead,
-        lent,
+        trunk_front,
+        extension,
         trunk_figure,
         trunk_numbers,
         trunk_rows,
@@ -190,15 +186,15 @@ pub extern "C" fn aoc_write_by_from(
     figure: &[u8; 48],
     numbers: &[u32; 32],
     rows: &[u8; 192],
-    lead: &[u8; 48],
-    lent: &[u8; 244],
+    trunk_front: &[u8; 48],
+    extension: &[u8; 244],
     trunk_figure: &[u8; 48],
     trunk_numbers: &[u32; 32],
     trunk_rows: &[u8; 192],
     buf: &mut [u8],
 ) -> write::Written
-    ensures { λ w. ⌜ w ≡ writeProfile profile (recordIn (now (front .entry)) (now (figure .entry)) (now (numbers .entry)) (now (rows .entry))) (spareZero (now (lead .entry))) (trunkIn (now (lead .entry)) (now (lent .entry)) (storedCharge (now («trunk_figure» .entry)) (now («trunk_numbers» .entry)) (now («trunk_rows» .entry)))) (length (now (buf .entry))) ⌝ }
-    ensures left { λ w. ⌜ now (buf .exit) ≡ writeProfileLeft profile (recordIn (now (front .entry)) (now (figure .entry)) (now (numbers .entry)) (now (rows .entry))) (spareZero (now (lead .entry))) (trunkIn (now (lead .entry)) (now (lent .entry)) (storedCharge (now («trunk_figure» .entry)) (now («trunk_numbers» .entry)) (now («trunk_rows» .entry)))) (now (buf .entry)) ⌝ }
+    ensures { λ w. ⌜ w ≡ writeProfile profile (recordIn (now (front .entry)) (now (figure .entry)) (now (numbers .entry)) (now (rows .entry))) (spareZero (now («trunk_front» .entry))) (trunkIn (now («trunk_front» .entry)) (now (extension .entry)) (storedCharge (now («trunk_figure» .entry)) (now («trunk_numbers» .entry)) (now («trunk_rows» .entry)))) (length (now (buf .entry))) ⌝ }
+    ensures left { λ w. ⌜ now (buf .exit) ≡ writeProfileLeft profile (recordIn (now (front .entry)) (now (figure .entry)) (now (numbers .entry)) (now (rows .entry))) (spareZero (now («trunk_front» .entry))) (trunkIn (now («trunk_front» .entry)) (now (extension .entry)) (storedCharge (now («trunk_figure» .entry)) (now («trunk_numbers» .entry)) (now («trunk_rows» .entry)))) (now (buf .entry)) ⌝ }
 {
     profile_write::write_by(
         profile,
@@ -206,8 +202,8 @@ pub extern "C" fn aoc_write_by_from(
         figure,
         numbers,
         rows,
-        lead,
-        lent,
+        trunk_front,
+        extension,
         trunk_figure,
         trunk_numbers,
         trunk_rows,
@@ -302,7 +298,7 @@ pub extern "C" fn aoc_setup(
 ) -> phases::Outcome
     ensures { λ r. ⌜ Took (now (a .entry)) (setupEvent asked ids) [] (stepped r (now (a .exit))) ⌝ }
 {
-    let e = makers::setup_event(asked, ids);
+    let e = account::setup_event(asked, ids);
     step::step_in(a, e, &[])
 }
 
@@ -310,7 +306,7 @@ pub extern "C" fn aoc_setup(
 pub extern "C" fn aoc_connect(a: &mut account::Account) -> phases::Outcome
     ensures { λ r. ⌜ Took (now (a .entry)) (plainEvent Connect) [] (stepped r (now (a .exit))) ⌝ }
 {
-    let e = makers::plain_event(2);
+    let e = account::plain_event(phases::CONNECT);
     step::step_in(a, e, &[])
 }
 
@@ -318,7 +314,7 @@ pub extern "C" fn aoc_connect(a: &mut account::Account) -> phases::Outcome
 pub extern "C" fn aoc_clear(a: &mut account::Account) -> phases::Outcome
     ensures { λ r. ⌜ Took (now (a .entry)) (plainEvent Clear) [] (stepped r (now (a .exit))) ⌝ }
 {
-    let e = makers::plain_event(3);
+    let e = account::plain_event(phases::CLEAR);
     step::step_in(a, e, &[])
 }
 
@@ -326,7 +322,7 @@ pub extern "C" fn aoc_clear(a: &mut account::Account) -> phases::Outcome
 pub extern "C" fn aoc_released(a: &mut account::Account) -> phases::Outcome
     ensures { λ r. ⌜ Took (now (a .entry)) (plainEvent Released) [] (stepped r (now (a .exit))) ⌝ }
 {
-    let e = makers::plain_event(4);
+    let e = account::plain_event(phases::RELEASED);
     step::step_in(a, e, &[])
 }
 
@@ -334,7 +330,7 @@ pub extern "C" fn aoc_released(a: &mut account::Account) -> phases::Outcome
 pub extern "C" fn aoc_suspend(a: &mut account::Account) -> phases::Outcome
     ensures { λ r. ⌜ Took (now (a .entry)) (plainEvent Suspend) [] (stepped r (now (a .exit))) ⌝ }
 {
-    let e = makers::plain_event(6);
+    let e = account::plain_event(phases::SUSPEND);
     step::step_in(a, e, &[])
 }
 
@@ -342,7 +338,7 @@ pub extern "C" fn aoc_suspend(a: &mut account::Account) -> phases::Outcome
 pub extern "C" fn aoc_resume(a: &mut account::Account) -> phases::Outcome
     ensures { λ r. ⌜ Took (now (a .entry)) (plainEvent Resume) [] (stepped r (now (a .exit))) ⌝ }
 {
-    let e = makers::plain_event(7);
+    let e = account::plain_event(phases::RESUME);
     step::step_in(a, e, &[])
 }
 
@@ -350,7 +346,7 @@ pub extern "C" fn aoc_resume(a: &mut account::Account) -> phases::Outcome
 pub extern "C" fn aoc_component(a: &mut account::Account, octets: &[u8]) -> phases::Outcome
     ensures { λ r. ⌜ Took (now (a .entry)) (plainEvent Component) (now (octets .entry)) (stepped r (now (a .exit))) ⌝ }
 {
-    let e = makers::component_event();
+    let e = account::component_event();
     step::step_in(a, e, octets)
 }
 
@@ -451,7 +447,7 @@ pub extern "C" fn aoc_board_view(t: &board_rules::Board, reference: u16) -> boar
 // ---- whether the exchange kept the rules
 
 #[no_mangle]
-pub extern "C" fn aoc_fault(rows: &[u16], octets: &[u8]) -> fault_rules::Verdict
+pub extern "C" fn aoc_fault(rows: &[u16], octets: &[u8]) -> fault_rules::FaultAnswer
     ensures { λ r. ⌜ r ≡ faultAt (now (rows .entry)) (now (octets .entry)) ⌝ }
 {
     fault::fault(rows, octets)

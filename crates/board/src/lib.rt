@@ -6,22 +6,23 @@ use board_rules::Collected;
 use board_rules::Viewed;
 use phases::Event;
 use phases::Outcome;
+use requests::service;
 ghost use mathlib.Core.Path.{_≡_};
 ghost use Rattle.board_rules.specs.Board.{boarded, eventOn, emptied, collectOn, viewOn};
 
-// An event of a reference. Refused, nothing is stored; where the reference holds a slot, the account there is lent on to the step.
+// An event of a reference. If it is refused, nothing is stored. If the reference holds a slot, the step updates the account there.
 pub fn event_in(t: &mut Board, reference: u16, e: Event, octets: &[u8]) -> Outcome
     ensures { λ r. ⌜ boarded r (now (t .exit)) ≡ eventOn (now (t .entry)) reference e (now (octets .entry)) ⌝ }
 {
     let seat = board_rules::seat_of(t.keys, reference, e);
     let at = seat.at % 64;
-    if seat.number == 1 {
+    if seat.number == board_rules::OWN_SLOT {
         return step::step_in(&mut t.calls[at], e, octets);
     }
     if seat.number != 0 {
         return Outcome {
             number: seat.number,
-            service: 0,
+            service: service::NONE,
         };
     }
     let w = board_rules::taken_up(reference, e);

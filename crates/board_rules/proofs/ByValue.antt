@@ -1,7 +1,7 @@
 -- The functions by value, and that changing one slot by them is the table's step.
 use Rattle.prelude.proofs.Prelude.{ℕ, _%_, _<_, _≡_, refl, sym, ap, _∙_, List, true, false, not, eqb, eq-eqb, ne-eqb, eqb-true, eqb-false, cond, arith, length, getD, set, _⊎_, inl, inr}
 use lib.Seq.{set-getD}
-use Rattle.phases.specs.{Phases.Setup, Phases.Ended, Phases.noService, Phases.clashes, Phases.allowed, ByNumber.movingOf}
+use Rattle.phases.specs.{Phases.Setup, Phases.Ended, Phases.noService, Phases.clashes, Phases.allowed, inner.ByNumber.movingOf}
 use Rattle.phases.specs.{declared.Event.Event, declared.Outcome.Outcome, declared.Moving.Moving}
 use Rattle.prelude.proofs.Ways.{by-cases}
 use Rattle.coding.specs.Reader.{among}
@@ -10,7 +10,7 @@ use Rattle.account.specs.{declared.Account.Account, declared.Stepped.Stepped, H
 use Rattle.step_rules.proofs.Changes.{phase-change}
 use Rattle.board_rules.specs.declared.{Board.Board, Viewed.Viewed, Seat.Seat, Held.Held, Freed.Freed}
 use Rattle.board_rules.specs.Board.{keyOf, lowest, heldIn, isHeld, isFull, callOf, withSlot, Boarded, boarded, admitted, eventOn, Emptied, emptied, uncollected, collectOn, viewOn}
-use Rattle.board_rules.specs.ByValue.{seated, seatOf, begun, takenUp, freed, freeOf, viewedOf}
+use Rattle.board_rules.specs.inner.ByValue.{seated, seatOf, begun, takenUp, freed, freeOf, viewedOf}
 use Rattle.board_rules.proofs.Slots.{found, at-end, free-fewer, none-free}
 use Rattle.board_rules.proofs.Table.{yes, no}
 

@@ -1,3 +1,3 @@
 pub mod Board
-pub mod ByValue
 pub mod Calls
+pub mod inner

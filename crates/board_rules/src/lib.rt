@@ -1,18 +1,25 @@
 // The slots of a switchboard: 64 accounts by call reference, and what an operation does to one slot, by value.
 //
 // A slot is free, or held by one reference with one account. A call's slot is freed when what it closed with has been collected.
-// The crate board lends a table and changes it by these functions.
+// The crate board has the caller's table and changes it by these functions.
 use account::Account;
 use account::Closing;
+use coding::refusal;
 use phases::Event;
 use phases::Moving;
 use phases::Outcome;
+use requests::closing_service;
 ghost use Prim.Native.Nat.{_+_};
 ghost use mathlib.Core.Path.{_≡_};
 ghost use Rattle.account.specs.History.{freshStatus};
-ghost use Rattle.phases.specs.ByNumber.{movingOf};
+ghost use Rattle.phases.specs.inner.ByNumber.{movingOf};
 ghost use Rattle.board_rules.specs.Board.{lowest, uncollected};
-ghost use Rattle.board_rules.specs.ByValue.{seatOf, takenUp, freeOf, viewedOf};
+ghost use Rattle.board_rules.specs.inner.ByValue.{seatOf, takenUp, freeOf, viewedOf};
+
+// As wide as the answers have them.
+const NOT_HELD: u32 = refusal::NOT_HELD as u32;
+
+const WRONG_PHASE: u32 = refusal::WRONG_PHASE as u32;
 
 // A key is 0 where the slot is free, else one more than the reference that holds it.
 #[repr(C)]
@@ -34,6 +41,9 @@ pub struct Viewed {
     pub number: u32,
     pub account: Account,
 }
+
+// The number of a seat at the slot that its reference holds: no refusal of a Setup, and no refusal of the board.
+pub const OWN_SLOT: u8 = 1;
 
 // Where an event goes. number: 0 for a Setup that takes a free slot, 1 for another event at the slot that its reference holds, else the number by which it is refused.
 pub struct Seat {
@@ -98,21 +108,30 @@ pub fn seat_of(keys: [u32; 64], reference: u16, e: Event) -> Seat
     ensures { λ r. ⌜ r ≡ seatOf keys reference e ⌝ }
 {
     let slot = slot_at(keys, reference);
-    if e.kind != 1 {
+    if e.kind != phases::SETUP {
         if slot == 64 {
-            return Seat { at: 0, number: 37 };
+            return Seat {
+                at: 0,
+                number: refusal::NOT_HELD,
+            };
         }
         return Seat {
             at: slot,
-            number: 1,
+            number: OWN_SLOT,
         };
     }
     if slot != 64 {
-        return Seat { at: 0, number: 35 };
+        return Seat {
+            at: 0,
+            number: refusal::IN_USE,
+        };
     }
     let free = slot_of(keys, 0);
     if free == 64 {
-        return Seat { at: 0, number: 36 };
+        return Seat {
+            at: 0,
+            number: refusal::FULL,
+        };
     }
     let m = begin(e);
     Seat {
@@ -151,7 +170,7 @@ fn uncollected(number: u32) -> Collected
 {
     let none = account::no_charge();
     let closing = Closing {
-        service: 0,
+        service: closing_service::NONE,
         value: none,
     };
     Collected { number, closing }
@@ -162,15 +181,15 @@ pub fn free(a: Account, key: u32, slot: usize) -> Freed
     ensures { λ r. ⌜ r ≡ freeOf a key slot ⌝ }
 {
     if slot == 64 {
-        let answer = uncollected(37);
+        let answer = uncollected(NOT_HELD);
         return Freed {
             answer,
             key,
             account: a,
         };
     }
-    if a.status.phase != 4 {
-        let answer = uncollected(14);
+    if a.status.phase != phases::ENDED {
+        let answer = uncollected(WRONG_PHASE);
         return Freed {
             answer,
             key,
@@ -194,7 +213,7 @@ pub fn view(a: Account, slot: usize) -> Viewed
     if slot == 64 {
         let account = account::fresh();
         return Viewed {
-            number: 37,
+            number: NOT_HELD,
             account,
         };
     }

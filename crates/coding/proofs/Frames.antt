@@ -1,9 +1,9 @@
--- An element that stands alone and whose tag is one of a list: its laws, that it ends where the octets end, and what the code's proofs cite.
+-- An element by itself and whose tag is one of a list: its laws, that it ends where the octets end, and what the code's proofs cite.
 use Rattle.prelude.proofs.Prelude.{ℕ, _+_, _≤_, _<_, _≡_, refl, sym, ap, _∙_, subst, List, true, false, not, cond, inl, arith, getD, leb, eqb, leb-true, leb-false, lt-leb, le-leb, eqb-true}
 use Rattle.prelude.proofs.Prelude.{eq-eqb, ne-eqb, not-false}
 use Rattle.coding.specs.{declared.Extent.Extent, Reader.Ans, Reader.Fault, Reader.got, Reader.halt, Reader.code, Reader.after, Reader.blamed, Reader.lengthAt, Reader.opened}
 use Rattle.coding.specs.{Reader.enteredAny, Reader.closed, Reader.constructed, Reader.oneOf, Reader.Fault.missing, Reader.Fault.unexpected, Codec.Run, Codec.Spans, Codec.isTag}
-use Rattle.coding.specs.{Codec.apart, Codec.cons, Codec.frames, Shown.shown}
+use Rattle.coding.specs.{Codec.apart, Codec.cons, Codec.frames, inner.Shown.shown}
 use Rattle.coding.proofs.{Basic.it, Basic.void, Basic.granted, Basic.known, Basic.choose, Basic.bind, Basic.chain, Basic.picked, Basic.unpicked, Basic.followed, Basic.or-false}
 use Rattle.coding.proofs.{Basic.apart-has, Laws.RunLaws, Header.opened-there, Header.spans-complete, Header.spans-tag, Header.spans-range, Header.spans-forward, Combine.cons-value}
 use Rattle.coding.proofs.{Combine.consLaws, More.blamed-got, Value.lawful, Value.at-end, Value.headed, Value.guarded, Reading.got-of, Reading.halt-of}

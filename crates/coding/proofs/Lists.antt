@@ -1,7 +1,7 @@
 -- A loop over a list's entries: the entries so far, and that the whole list is those and then the rest.
 use Rattle.prelude.proofs.Prelude.{ℕ, zero, suc, _-_, _≤_, _<_, arith, sub-zero, _≡_, refl, ap, sym, _∙_, List, [], _∷_, _++_, append-assoc, append-nil, length, getD, length-append, le-leb}
 use Rattle.prelude.proofs.Prelude.{lt-leb, lt-ltb, eq-eqb, ne-eqb}
-use Rattle.coding.specs.{Reader.Ans, Reader.Reader, Reader.after, Reader.entries, Reader.listOf, Reader.tagged, Reader.Ans.got, Reader.Ans.halt, Shown.shown}
+use Rattle.coding.specs.{Reader.Ans, Reader.Reader, Reader.after, Reader.entries, Reader.listOf, Reader.tagged, Reader.Ans.got, Reader.Ans.halt, inner.Shown.shown}
 use Rattle.coding.proofs.Reading.{got-of, halt-of}
 
 -- the entries so far in front of an answer for the rest

@@ -1,7 +1,7 @@
 -- Elements of any tag, in octets: the answer of the reading, and what is kept. One statement over one table.
 use Rattle.prelude.proofs.Prelude.{ℕ, _≡_, refl, List, [], _∷_, map, length}
 use Rattle.coding.specs.Reader.{after, tagged, neither, choice, extent, numberedAt, endless, marker, turn, searched, findEnd, spanned, lengthAt, opened, closed, constructed, part, mapped, ruled, primitive}
-use Rattle.coding.specs.{Contents.every, Codec.lengthOctets, Codec.prim, Shown.shown, Normal.asJudged, Normal.octetString, Normal.anyBy, Normal.severalBy, Normal.anyElement, Normal.limited}
+use Rattle.coding.specs.{Contents.every, Codec.lengthOctets, Codec.prim, inner.Shown.shown, Normal.asJudged, Normal.octetString, Normal.anyBy, Normal.severalBy, Normal.anyElement, Normal.limited}
 use Rattle.coding.specs.{Normal.normalForm}
 
 -- the octets, the fault's number, its place, what is kept, the place after

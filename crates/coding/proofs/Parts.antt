@@ -1,7 +1,7 @@
 -- Laws of a part of the octets and of the number it says.
 use Rattle.prelude.proofs.Prelude.{ℕ, suc, _+_, _*_, _-_, _≤_, _<_, arith, add-one, _≡_, refl, sym, List, [], _∷_, _++_, length, getD, drop, length-drop, length-take, drop-cons, take-suc}
 use Rattle.prelude.proofs.Prelude.{getD-drop, take-add, drop-drop, Bool, true, false, true≢false}
-use Rattle.coding.specs.{Reader.part, Contents.numberFrom, Contents.null, Contents.every, Shown.verdict}
+use Rattle.coding.specs.{Reader.part, Contents.numberFrom, Contents.null, Contents.every, inner.Shown.verdict}
 use Rattle.coding.proofs.Basic.{cond-case}
 
 pub part-none : (s : List ℕ) (i j : ℕ) → j ≤ i → part s i j ≡ []

@@ -2,7 +2,7 @@
 use Rattle.prelude.proofs.Prelude.{ℕ, arith, _≡_, refl, ap, sym, _∙_, Bool, true, false, cond, List, _<_, _≤_, le-ltb, lt-ltb, eq-eqb, ne-eqb}
 use Rattle.coding.specs.{Reader.Ans, Reader.Reader, Reader.Fault, Reader.code, Reader.after, Reader.ruled, Reader.Ruling, Reader.closed, Reader.choice, Reader.neither, Reader.tagged}
 use Rattle.coding.specs.{Reader.Ans.got, Reader.Ans.halt, Reader.Fault.missing, Reader.Fault.unexpected, Reader.Fault.cut, Reader.Fault.form, Reader.Fault.shortest}
-use Rattle.coding.specs.{Reader.Fault.contents, Reader.Fault.limit, Reader.Fault.named, Reader.Ruling.good, Reader.Ruling.bad, Shown.shown, Shown.verdict, Codec.Run, Codec.pickRun}
+use Rattle.coding.specs.{Reader.Fault.contents, Reader.Fault.limit, Reader.Fault.named, Reader.Ruling.good, Reader.Ruling.bad, inner.Shown.shown, inner.Shown.verdict, Codec.Run, Codec.pickRun}
 use Rattle.prelude.proofs.Ways.{by-cases}
 
 -- no fault has the number 0

@@ -1,8 +1,8 @@
 -- Elements of few octets as they are written, and the sizes that a writer adds up.
 use Rattle.prelude.proofs.Prelude.{ℕ, suc, _+_, _-_, _/_, _%_, _^_, _≤_, _<_, _≡_, refl, ap, ap₂, _∙_, List, [], _∷_, _++_, Bool, arith, length, take, length-append, length-take-le}
 use Rattle.coding.specs.{Contents.shortest, Codec.lengthOctets, Codec.prim, Leaves.digits, Leaves.nullLeaf, Leaves.shorten, Leaves.identifier, Leaves.string}
-use Rattle.coding.specs.{Written.Wrote, Written.lead, Written.fullNumber}
-use Rattle.coding.proofs.{Basic.by-test, Number.width-1, Signed.low-write, Signed.high-write, Signed.whole-write, Writing.lead-length-short, Writing.lead-length-long, Writing.prim-write, Writing.wrote-both}
+use Rattle.coding.specs.{inner.Written.lead, inner.Written.fullNumber}
+use Rattle.coding.proofs.{Basic.by-test, Number.width-1, Signed.low-write, Signed.high-write, Signed.whole-write, Writing.lead-length-short, Writing.lead-length-long, Writing.prim-write}
 
 -- ---- tag and length octets
 
@@ -84,10 +84,6 @@ pub string-write : (tag low high : ℕ) (ok : ℕ → Bool) (s : List ℕ) (n : 
     → (prim tag (string low high ok)) .write (take n s) ≡ tag ∷ lengthOctets n ++ take n s
 unfolding string prim
 string-write tag low high ok s n h = ap (λ (k : ℕ). tag ∷ lengthOctets k ++ take n s) (length-take-le n s h)
-
-pub wrote-string : {l m k : List ℕ} {a b r : ℕ} (tag n : ℕ) {xs : List ℕ} → Wrote l m a (lead tag n) b → Wrote m k b xs r → Wrote l k a (tag ∷ lengthOctets n ++ xs) r
-unfolding lead
-wrote-string tag n p q = wrote-both p q
 
 pub string-length : (tag n : ℕ) (s : List ℕ) → n ≤ length s → length (tag ∷ lengthOctets n ++ take n s) ≡ length (lead tag n) + n
 unfolding lead

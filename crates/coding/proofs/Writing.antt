@@ -1,8 +1,8 @@
 -- Runs of stores: what several writes one after the other leave is one write of all their octets.
 use Rattle.prelude.proofs.Prelude.{ℕ, suc, _+_, _-_, _*_, _/_, _%_, _^_, _≤_, _<_, _≡_, refl, sym, ap, ap₂, _∙_, subst, List, [], _∷_, _++_, Bool, true, false, cond, arith, add-zero, add-suc}
 use Rattle.prelude.proofs.Prelude.{suc-add, add-one, towards-suc, length, getD, set, drop, take, length-append, length-set, sets, take-suc, drop-cons, ltb, lt-ltb, le-ltb}
-use Rattle.coding.specs.{Reader.part, Contents.every, Codec.lengthOctets, Codec.Leaf, Codec.Run, Codec.prim, Codec.cons, Leaves.width, Leaves.digits, Leaves.number, Written.Wrote}
-use Rattle.coding.specs.{Written.Room, Written.lead, Written.fullNumber}
+use Rattle.coding.specs.{Reader.part, Contents.every, Codec.lengthOctets, Codec.Leaf, Codec.Run, Codec.prim, Codec.cons, Leaves.width, Leaves.digits, Leaves.number, inner.Written.Wrote}
+use Rattle.coding.specs.{inner.Written.Room, inner.Written.lead, inner.Written.fullNumber}
 use Rattle.coding.proofs.{Basic.picked, Basic.unpicked, Digits.power-bits, Number.length-digits}
 use Rattle.prelude.proofs.Ways.{by-cases}
 pub use Rattle.coding.proofs.Number.{width-range}
@@ -165,20 +165,9 @@ pub cons-write : {A : Type 0} (tag : ℕ) (f : Run A) (x : A) → (cons tag f) .
 unfolding cons lead
 cons-write tag f x = refl
 
--- a lead that says how many octets of contents follow
-pub prim-split : {A : Type 0} (tag : ℕ) (l : Leaf A) (x : A) {n : ℕ} → n ≡ length (l .write x) → Split ((prim tag l) .write x) (lead tag n) (l .write x)
-prim-split tag l x e = record { parts = prim-write tag l x ∙ ap (λ (k : ℕ). lead tag k ++ l .write x) (sym e) }
-
-pub cons-split : {A : Type 0} (tag : ℕ) (f : Run A) (x : A) {n : ℕ} → n ≡ length (f .write x) → Split ((cons tag f) .write x) (lead tag n) (f .write x)
-cons-split tag f x e = record { parts = cons-write tag f x ∙ ap (λ (k : ℕ). lead tag k ++ f .write x) (sym e) }
-
 pub number-write : (tag low high n : ℕ) → (prim tag (number low high)) .write n ≡ fullNumber tag n
 unfolding number fullNumber
 number-write tag low high n = prim-write tag (number low high) n ∙ ap (λ (k : ℕ). lead tag k ++ digits (width n) n) (length-digits (width n) n)
-
--- a lead that says what then is written
-pub wrote-element : {l m n : List ℕ} {a b r : ℕ} (tag k : ℕ) {w : List ℕ} → k ≡ length w → Wrote l m a (lead tag k) b → Wrote m n b w r → Wrote l n a (lead tag (length w) ++ w) r
-wrote-element tag k {w} e p q = wrote-as (ap (λ (j : ℕ). lead tag j ++ w) e) (wrote-both p q)
 
 -- ---- every octet of a part
 

@@ -17,7 +17,7 @@ abbrev pub isGood : {A : Type 0} → Ruling A → Bool
 isGood (Ruling.good v) = true
 isGood (Ruling.bad w) = false
 
--- contents that stay as they are, where a judge passes them
+-- contents that stay as they are, where a check accepts them
 unfoldable pub asJudged : (List ℕ → Ruling (Unit {0})) → Leaf (List ℕ)
 asJudged judge = record {
   judge = λ xs. mapped (λ u. xs) (judge xs);

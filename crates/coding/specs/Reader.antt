@@ -17,12 +17,12 @@ infixl 20 _>>=_
 --   shortest    an INTEGER's contents empty or not shortest
 --   contents    any other bad contents
 --   limit       an entry past its list's limit
---   named n     refused by the number n of the paper that stands above
+--   named n     refused by the number n of the paper above
 pub data Fault : Type 0 where
   missing unexpected cut form shortest contents limit : Fault
   named : ℕ → Fault
 
--- the numbers by which the code tells them; 0 is no fault
+-- the numbers by which the code reports them; 0 is no fault
 abbrev pub code : Fault → ℕ
 code missing = 40
 code unexpected = 41
@@ -63,7 +63,7 @@ among n (x ∷ l) = eqb n x || among n l
 unfoldable pub oneOf : List ℕ → ℕ → Bool
 oneOf tags o = among o tags
 
--- nothing that may stand here does: missing at the end, else an unexpected tag
+-- nothing that is allowed here is there: missing at the end, else an unexpected tag
 unfoldable pub neither : {A : Type 0} → Reader A
 neither s at end = cond (ltb at end) (halt unexpected at) (halt missing end)
 
@@ -95,7 +95,7 @@ composite o = eqb (o / 32 % 2) 1
 unfoldable pub endless : List ℕ → ℕ → ℕ → ℕ → Bool
 endless s tag at end = ltb at end && (eqb (getD s at 0) 0x80 && composite (getD s tag 0))
 
--- an end marker stands at a place, both its octets inside the enclosing element
+-- an end marker is at a place, both its octets inside the enclosing element
 unfoldable pub marker : List ℕ → ℕ → ℕ → Bool
 marker s at end = leb (at + 2) end && (eqb (getD s at 0) 0 && eqb (getD s (at + 1) 0) 0)
 
@@ -131,7 +131,7 @@ lengthAt tag s at end =
 unfoldable pub opened : ℕ → Reader Extent
 opened tag = choice tag (λ s at end. lengthAt at s (at + 1) end) neither
 
--- the same answer with its fault told otherwise
+-- the same answer with its fault reported in another way
 unfoldable pub blamed : {A : Type 0} → (Fault → Fault) → Ans A → Ans A
 blamed m (got v next) = got v next
 blamed m (halt w p) = halt (m w) p
@@ -146,7 +146,7 @@ constructed tag body s at end =
     after (body s (e .start) (e .stop)) (λ v last.
     closed v last (e .stop) next))
 
--- An element that stands alone and whose tag is one of a list: its tag, its length octets, its end and that nothing comes after it are judged
+-- An element by itself and whose tag is one of a list: its tag, its length octets, its end and that nothing comes after it are checked
 -- before its contents.
 unfoldable pub enteredAny : List ℕ → (Fault → Fault) → Fault → Reader Extent
 enteredAny tags m over s at end =
@@ -155,7 +155,7 @@ enteredAny tags m over s at end =
     (after (blamed m (lengthAt at s (at + 1) end)) (λ e next. cond (eqb next end) (got e next) (halt over next)))
     (halt (m unexpected) at))
 
--- A primitive element's contents are judged as a list of octets.
+-- A primitive element's contents are checked as a list of octets.
 pub data Ruling (A : Type 0) : Type 0 where
   good : A → Ruling A
   bad : Fault → Ruling A

@@ -6,7 +6,7 @@ use Rattle.coding.{specs.declared.Extent.Extent, specs.Reader.Ans, specs.Reader
 use Rattle.coding.{specs.Codec.pad, proofs.Basic.Given, proofs.Basic.it, proofs.Basic.void, proofs.Basic.granted, proofs.Basic.known, proofs.Basic.choose, proofs.Basic.bind}
 use Rattle.coding.{proofs.Basic.picked, proofs.Basic.unpicked, proofs.Basic.followed, proofs.Basic.and-left, proofs.Header.read-element, proofs.Header.element-read}
 use Rattle.coding.{proofs.Header.element-range, proofs.Moved.Same, proofs.Moved.element-moved, proofs.Parts.part-length}
-use Rattle.element.specs.Element.{tiled, isProfile, led, startsFound, malformed, elementOf}
+use Rattle.element.specs.Element.{tiled, tilesIn, isProfile, led, startsFound, malformed, elementOf}
 use Rattle.element.specs.Cut.{startsOf, firstOr, partsOf, joined, Tile, Tiles, placesOf}
 
 -- ---- an accepted element is cut into components
@@ -61,12 +61,17 @@ pub cut-all : (turns : ℕ) (s : List ℕ) {last : ℕ} {xs : List ℕ} → tile
 cut-all turns s e = let d = known (cut turns s 0 (omega arith)) e in (d .whole, d .fine)
 
 -- an answer of 0 is that of starts that were found
-pub answer-found : (b : Bool) (x : Ans (List ℕ)) → (cond b (startsFound x) malformed) .number ≡ 0
+answer-found : (b : Bool) (x : Ans (List ℕ)) → (cond b (startsFound x) malformed) .number ≡ 0
     → (b ≡ true) × ((xs : List ℕ) × (last : ℕ) × (x ≡ got xs last) × (startsOf (cond b (startsFound x) malformed) ≡ xs))
 unfolding startsFound pad
 answer-found true (got xs last) e = (refl, (xs, last, refl, take-append-seam xs _))
 answer-found true (halt w p) e = absurd (omega (arith, e))
 answer-found false x e = absurd (omega (arith, e))
+
+pub element-found : (s : List ℕ) → elementOf s .number ≡ 0
+    → (led s ≡ true) × ((xs : List ℕ) × (last : ℕ) × (tilesIn s ≡ got xs last) × (startsOf (elementOf s) ≡ xs))
+unfolding elementOf
+element-found s e = answer-found (led s) (tilesIn s) e
 
 pub led-long : (s : List ℕ) → led s ≡ true → 3 < length s
 unfolding led
@@ -75,11 +80,9 @@ led-long s e = ltb-true 3 (length s) (and-left (ltb 3 (length s)) _ e)
 -- The parts of an accepted element from each start to the next, the last to the end, join to all that follows the third octet; and each is one element, to its
 -- end.
 pub tiles : (s : List ℕ) → elementOf s .number ≡ 0 → (joined (partsOf s (startsOf (elementOf s))) ≡ drop 3 s) × Tiles (partsOf s (startsOf (elementOf s)))
-unfolding elementOf
 tiles s e =
-    let a = answer-found (led s) (tiled (length s) s 3 (length s)) e in
-    let h = led-long s (a .0) in
-    let d = known (cut (length s) s 3 (omega (arith, h))) (a .1 .2) in
+    let a = element-found s e in
+    let d = known (cut (length s) s 3 (omega (arith, led-long s (a .0)))) (a .1 .2) in
     rw (a .1 .3) (d .whole, d .fine)
 
 -- ---- an element made of components is accepted

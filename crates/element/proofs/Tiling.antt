@@ -2,11 +2,11 @@
 use Rattle.prelude.proofs.Prelude.{ℕ, suc, _+_, _-_, _*_, _≤_, _<_, arith, sub-zero, _≡_, refl, sym, _∙_, List, [], _∷_, _++_, append-nil, length, getD, length-append, lt-ltb, eq-eqb}
 use Rattle.prelude.proofs.Prelude.{ne-eqb, eqb, eqb-true, cond, take-append-seam}
 use Rattle.prelude.proofs.Ways.{by-cases}
-use Rattle.coding.{specs.declared.Extent.Extent, specs.Reader.after, specs.Reader.lengthAt, specs.Reader.opened, specs.Reader.Ans.got, specs.Shown.shown, specs.Codec.pad}
+use Rattle.coding.{specs.declared.Extent.Extent, specs.Reader.after, specs.Reader.lengthAt, specs.Reader.opened, specs.Reader.Ans.got, specs.inner.Shown.shown, specs.Codec.pad}
 use Rattle.coding.{proofs.Header.opened-there, proofs.Header.read-element, proofs.Header.element-range, proofs.Lists.behind, proofs.Lists.behind-nil, proofs.Lists.behind-after}
 use Rattle.coding.{proofs.Reading.got-of, proofs.Reading.halt-of}
-use Rattle.element.specs.Element.{tiled, isProfile, led, startsFound, malformed}
-use Rattle.element.specs.{Cut.startsOf, Cut.firstOr, Places.afterIn}
+use Rattle.element.specs.Element.{tiled, tilesIn, isProfile, led, startsFound, malformed}
+use Rattle.element.specs.{Cut.startsOf, Cut.firstOr, inner.Places.afterIn}
 
 -- ---- the first three octets
 
@@ -18,7 +18,7 @@ third-decides s h e₀ e₁ = simp (lt-ltb 3 (length s) h, eq-eqb _ _ e₀, eq-e
 -- ---- one component
 
 -- it has a tag and a length octet at least, and ends inside
-tile-size : (s : List ℕ) (i end : ℕ) {v : Extent} {n : ℕ} → lengthAt i s (i + 1) end ≡ got v n → (i + 2 ≤ n) × (n ≤ end)
+pub tile-size : (s : List ℕ) (i end : ℕ) {v : Extent} {n : ℕ} → lengthAt i s (i + 1) end ≡ got v n → (i + 2 ≤ n) × (n ≤ end)
 tile-size s i end {v} {n} e =
     let o = read-element s i end v n e in
     let g = element-range (o .0) in
@@ -31,8 +31,8 @@ Tile-at s i v n = (lengthAt i s (i + 1) (length s) ≡ got v n) × (i + 2 ≤ n)
 pub tile-read : (s : List ℕ) (i : ℕ) (z : Extent) {k p n : ℕ} {v : Extent} → i < length s → (k, p, v, n) ≡ shown z (opened (getD s i 0) s i (length s)) → k ≡ 0 → Tile-at s i v n
 tile-read s i z h e k0 =
     let t : lengthAt i s (i + 1) (length s) ≡ got _ _ = sym (opened-there (getD s i 0) s i (length s) h refl) ∙ got-of _ z e k0 in
-    let z = tile-size s i (length s) t in
-    (t, z .0, z .1)
+    let l = tile-size s i (length s) t in
+    (t, l .0, l .1)
 
 -- ---- the loop
 
@@ -45,12 +45,12 @@ turn turns s i end h = let ne : i ≡ end → ⊥ = λ e. omega arith in simp (n
 pub record Laid (s xs : List ℕ) (i : ℕ) : Type 0 where
   pub few : 3 + 2 * length xs ≤ i
   pub inside : i ≤ length s
-  pub rest : tiled (length s) s 3 (length s) ≡ behind xs (tiled (length s - length xs) s i (length s))
+  pub rest : tilesIn s ≡ behind xs (tiled (length s - length xs) s i (length s))
 
 pub laid-start : (s : List ℕ) → 3 ≤ length s → Laid s [] 3
 laid-start s h = record { few = omega arith; inside = h; rest = simp (behind-nil, sub-zero) }
 
-module _ (s xs : List ℕ) (i : ℕ) (g : Laid s xs i) where
+module _ {s xs : List ℕ} {i : ℕ} (g : Laid s xs i) where
   pub laid-more : {v : Extent} {n : ℕ} → i < length s → lengthAt i s (i + 1) (length s) ≡ got v n → Laid s (xs ++ (i ∷ [])) n
   unfolding after
   laid-more {v} {n} h e =
@@ -62,7 +62,7 @@ module _ (s xs : List ℕ) (i : ℕ) (g : Laid s xs i) where
         rest = g .rest ∙ rw (k, turn _ s i (length s) h, e) (behind-after xs i _);
       }
 
-  pub laid-done : length s ≤ i → record { number = 0; count = length xs; starts = pad 127 0 xs } ≡ startsFound (tiled (length s) s 3 (length s))
+  pub laid-done : length s ≤ i → record { number = 0; count = length xs; starts = pad 127 0 xs } ≡ startsFound (tilesIn s)
   unfolding startsFound tiled behind
   laid-done h =
       let k : length s - length xs ≡ suc (length s - length xs - 1) = omega (arith, g .few) in
@@ -70,7 +70,7 @@ module _ (s xs : List ℕ) (i : ℕ) (g : Laid s xs i) where
       rw (g .rest, k) (simp (eq-eqb i (length s) e, append-nil))
 
   pub laid-fault : (z : Extent) {k p n : ℕ} {v : Extent} → i < length s → (k, p, v, n) ≡ shown z (opened (getD s i 0) s i (length s)) → (k ≡ 0 → ⊥) →
-      malformed ≡ startsFound (tiled (length s) s 3 (length s))
+      malformed ≡ startsFound (tilesIn s)
   unfolding behind after startsFound
   laid-fault z h e k0 =
       let k : length s - length xs ≡ suc (length s - length xs - 1) = omega (arith, g .few) in

@@ -20,6 +20,10 @@ tiled (suc turns) s at end =
     (after (lengthAt at s (at + 1) end) (λ contents next.
     after (tiled turns s next end) (λ starts last. got (at ∷ starts) last)))
 
+-- those of an element, after its third octet
+abbrev pub tilesIn : List ℕ → Ans (List ℕ)
+tilesIn s = tiled (length s) s 3 (length s)
+
 -- the profile octets: 91 of a public line, 9F of a trunk between private exchanges
 unfoldable pub isProfile : ℕ → Bool
 isProfile p = eqb p 0x91 || eqb p 0x9f
@@ -39,4 +43,4 @@ startsFound (halt fault place) = malformed
 
 -- Fewer than three octets, another lead, length or third octet, none after it, or tag and length octets that do not tile to the end: 15.
 unfoldable pub elementOf : List ℕ → Starts
-elementOf s = cond (led s) (startsFound (tiled (length s) s 3 (length s))) malformed
+elementOf s = cond (led s) (startsFound (tilesIn s)) malformed

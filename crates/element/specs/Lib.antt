@@ -1,3 +1,3 @@
 pub mod Element
 pub mod Cut
-pub mod Places
+pub mod inner

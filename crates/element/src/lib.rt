@@ -1,12 +1,16 @@
 // The Facility information element: where its components begin.
+use coding::refusal;
 ghost use mathlib.Core.Path.{_≡_};
 ghost use mathlib.Core.Bool.{true, false, cond};
 ghost use Prim.Native.Nat.{_≤_, _<_};
 ghost use lib.ListN.{length};
 ghost use lib.Dec.{eqb};
-ghost use Rattle.element.specs.Element.{elementOf, malformed, startsFound, tiled, isProfile, led};
+ghost use Rattle.element.specs.Element.{elementOf, malformed, startsFound, tilesIn, isProfile, led};
 ghost use Rattle.element.specs.Cut.{startsOf};
-ghost use Rattle.element.specs.Places.{afterIn};
+ghost use Rattle.element.specs.inner.Places.{afterIn};
+
+// Where the first component of a Facility element begins.
+pub const FIRST_PLACE: usize = 3;
 
 // What reading an element answers. number: 0, or 15 for a malformed one; then all else is zero.
 // The components begin at the first count of starts, counted with the lead octet 1C as 0; the places past them are zero.
@@ -22,7 +26,7 @@ fn refused() -> Starts
     ensures { λ r. ⌜ r ≡ malformed ⌝ }
 {
     Starts {
-        number: 15,
+        number: refusal::BAD_ELEMENT,
         count: 0,
         starts: [0; 127],
     }
@@ -58,13 +62,13 @@ fn is_led(octets: &[u8]) -> bool
 // The starts of the components, which begin after the third octet.
 fn starts_from(octets: &[u8]) -> Starts
     requires { ⌜ (4 ≤ length (now octets)) × (length (now octets) ≤ 257) ⌝ }
-    ensures { λ r. ⌜ r ≡ startsFound (tiled (length (now (octets .entry))) (now (octets .entry)) 3 (length (now (octets .entry)))) ⌝ }
+    ensures { λ r. ⌜ r ≡ startsFound (tilesIn (now (octets .entry))) ⌝ }
     ensures few { λ r. ⌜ r .count ≤ 127 ⌝ }
 {
     let end = octets.len();
     let mut starts: [u8; 127] = [0; 127];
     let mut count: usize = 0;
-    let mut at: usize = 3;
+    let mut at: usize = FIRST_PLACE;
     while at < end {
         let tile = read_lengths::open_at(octets, at, end, octets[at]);
         if tile.fault != 0 {
@@ -81,7 +85,7 @@ fn starts_from(octets: &[u8]) -> Starts
     }
 }
 
-// The components of a Facility element, each to be judged afterwards by itself.
+// The components of a Facility element, each to be checked afterwards by itself.
 pub fn element(octets: &[u8]) -> Starts
     ensures { λ r. ⌜ r ≡ elementOf (now (octets .entry)) ⌝ }
     ensures few { λ r. ⌜ r .count ≤ 127 ⌝ }
@@ -117,16 +121,16 @@ fn settled(at: usize, place: usize, next: usize, after: usize) -> usize
     after
 }
 
-// The same walk, which looks for a place as it goes. With one caller it becomes part of it, and what that caller does not look at, such as the starts, is not stored.
+// The same pass, which also looks for a place. With one caller it becomes part of it, and what that caller does not look at, such as the starts, is not stored.
 fn cut_from(octets: &[u8], place: usize) -> Cut
     requires { ⌜ (3 < length (now octets)) × (length (now octets) ≤ 257) ⌝ }
-    ensures { λ r. ⌜ r .tiles ≡ startsFound (tiled (length (now (octets .entry))) (now (octets .entry)) 3 (length (now (octets .entry)))) ⌝ }
+    ensures { λ r. ⌜ r .tiles ≡ startsFound (tilesIn (now (octets .entry))) ⌝ }
     ensures after { λ r. ⌜ r .after ≡ afterIn place (length (now (octets .entry))) (startsOf (r .tiles)) ⌝ }
 {
     let end = octets.len();
     let mut starts: [u8; 127] = [0; 127];
     let mut n: usize = 0;
-    let mut at: usize = 3;
+    let mut at: usize = FIRST_PLACE;
     let mut after: usize = 0;
     while at < end {
         let t = read_lengths::open_at(octets, at, end, octets[at]);

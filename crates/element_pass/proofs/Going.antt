@@ -1,9 +1,9 @@
 -- Going through an element from place to place: what a loop knows, and that the tile at a place is what is found there.
 use Rattle.prelude.proofs.Prelude.{ℕ, _+_, _≤_, _<_, arith, _≡_, refl, sym, ap, _∙_, Bool, true, false, true≢false, cond, List, [], _∷_, _++_, append-assoc, length, getD, eqb, eqb-true, eq-eqb}
 use Rattle.prelude.proofs.Ways.{by-cases}
-use Rattle.coding.{specs.declared.Extent.Extent, specs.Reader.Ans, specs.Reader.Ans.got, specs.Reader.Ans.halt, specs.Reader.opened, specs.Reader.part, specs.Shown.shown}
+use Rattle.coding.{specs.declared.Extent.Extent, specs.Reader.Ans, specs.Reader.Ans.got, specs.Reader.Ans.halt, specs.Reader.opened, specs.Reader.part, specs.inner.Shown.shown}
 use Rattle.coding.proofs.Header.{opened-there}
-use Rattle.element.specs.{Element.led, Element.tiled, Element.startsFound, Element.malformed, Element.elementOf, Cut.startsOf, Cut.firstOr, Cut.partsOf, Places.Along}
+use Rattle.element.specs.{Element.led, Element.tilesIn, Element.startsFound, Element.malformed, Element.elementOf, Cut.startsOf, Cut.firstOr, Cut.partsOf, inner.Places.Along}
 use Rattle.element_pass.specs.{declared.Found.Found, Pass.foundUpTo, Pass.foundAt}
 use Rattle.element_pass.proofs.{Order.starts-rise, Order.start-opens, Order.find-malformed, Order.find-end, Through.start-inside, Through.start-found}
 
@@ -50,14 +50,14 @@ pub record Here (s : List ℕ) (place : ℕ) (f : Found) (left : List ℕ) : Typ
   pub begins : place < f .after
   pub ends : f .after ≤ length s
   pub along : Along s (f .after)
-  pub onward : (g : Found) → g ≡ foundAt s (f .after) → Goes s (f .after) g rest
+  pub onward : {g : Found} → g ≡ foundAt s (f .after) → Goes s (f .after) g rest
 
-pub goes-first : (s : List ℕ) (f : Found) → f ≡ foundAt s 3 → Goes s 3 f (startsOf (elementOf s))
-goes-first s f e = record { found = e; before = []; all = refl; here = λ z. starts-rise s z .1 }
+pub goes-first : (s : List ℕ) {f : Found} → f ≡ foundAt s 3 → Goes s 3 f (startsOf (elementOf s))
+goes-first s e = record { found = e; before = []; all = refl; here = λ z. starts-rise s z .1 }
 
 pub startless : (s : List ℕ) → eqb (elementOf s .number) 0 ≡ false → startsOf (elementOf s) ≡ []
 unfolding elementOf startsFound
-startless s n = go (led s) (tiled (length s) s 3 (length s)) n
+startless s n = go (led s) (tilesIn s) n
   where
     go : (b : Bool) (x : Ans (List ℕ)) → eqb ((cond b (startsFound x) malformed) .number) 0 ≡ false → startsOf (cond b (startsFound x) malformed) ≡ []
     go true (got xs last) n = absurd (true≢false n)
@@ -68,19 +68,19 @@ nil-after : (before left : List ℕ) → before ++ left ≡ [] → left ≡ []
 nil-after [] left e = e
 nil-after (a ∷ before) left e = absurd (omega (arith, ap length e))
 
-module _ (s : List ℕ) (place : ℕ) (f : Found) where
+module _ {s : List ℕ} {place : ℕ} {f : Found} where
   after-by : (a : ℕ) (xs : List ℕ) (g : Goes s place f (a ∷ xs)) → elementOf s .number ≡ 0 → f .after ≡ firstOr (length s) xs
   after-by a xs g fine = ap (λ (x : Found). x .after) (g .found ∙ ap (foundAt s) (sym (g .here fine)) ∙ start-found s fine (g .before) a xs (g .all))
 
-  pub goes-none : (left : List ℕ) → Goes s place f left → f .after ≡ 0 → left ≡ []
-  goes-none [] g z = refl
-  goes-none (a ∷ xs) g z =
+  pub goes-none : {left : List ℕ} → Goes s place f left → f .after ≡ 0 → left ≡ []
+  goes-none {left = []} g z = refl
+  goes-none {left = a ∷ xs} g z =
       by-cases (eqb (elementOf s .number) 0)
       (λ t. let fine = eqb-true _ 0 t in absurd (omega (arith, z, after-by a xs g fine, start-inside s fine (g .before) a xs (g .all) .0)))
       (λ t. nil-after (g .before) (a ∷ xs) (sym (g .all) ∙ startless s t))
 
-  pub goes-on : (left : List ℕ) → Goes s place f left → (f .after ≡ 0 → ⊥) → Here s place f left
-  goes-on left g n =
+  pub goes-on : {left : List ℕ} → Goes s place f left → (f .after ≡ 0 → ⊥) → Here s place f left
+  goes-on {left} g n =
       by-cases (eqb (elementOf s .number) 0) (λ t. go left g (eqb-true _ 0 t))
       (λ t. absurd (n (ap (λ (x : Found). x .after) (g .found ∙ find-malformed s place (λ z. true≢false (sym (eq-eqb _ 0 z) ∙ t))))))
     where
@@ -96,5 +96,5 @@ module _ (s : List ℕ) (place : ℕ) (f : Found) where
             begins = omega (arith, i, q, e);
             ends = omega (arith, i, q);
             along = record { fine = fine; before = g .before ++ (a ∷ []); left = xs; all = all; here = sym q };
-            onward = λ h is. record { found = is; before = g .before ++ (a ∷ []); all = all; here = λ _. sym q };
+            onward = λ is. record { found = is; before = g .before ++ (a ∷ []); all = all; here = λ _. sym q };
           }

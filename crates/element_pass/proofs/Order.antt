@@ -1,9 +1,9 @@
 -- The starts of an accepted element rise, so a place is among them once, and the place after it lies inside the element.
-use Rattle.prelude.proofs.Prelude.{ℕ, zero, suc, _+_, _-_, _≤_, _<_, arith, _≡_, refl, sym, ap, _∙_, List, [], _∷_, _++_, length, getD, take, ltb, eqb, eqb-true, eq-eqb, ne-eqb, cond}
+use Rattle.prelude.proofs.Prelude.{ℕ, zero, suc, _+_, _-_, _≤_, _<_, arith, _≡_, refl, sym, ap, _∙_, List, [], _∷_, _++_, length, getD, ltb, eqb, eqb-true, eq-eqb, ne-eqb, cond}
 use Rattle.prelude.proofs.Ways.{by-cases}
 use Rattle.coding.{specs.declared.Extent.Extent, specs.Reader.lengthAt, specs.Reader.part, specs.Reader.Ans.got, proofs.Basic.never, proofs.Basic.chain, proofs.Basic.same-got}
-use Rattle.coding.{proofs.Basic.picked, proofs.Basic.unpicked, proofs.Basic.and-left, proofs.Basic.and-right, proofs.Parts.part-cons, proofs.Parts.part-none, proofs.Header.read-element, proofs.Header.element-range}
-use Rattle.element.{specs.Element.tiled, specs.Element.led, specs.Element.elementOf, specs.Cut.startsOf, specs.Cut.firstOr, specs.Places.afterIn, proofs.Tiles.answer-found, proofs.Tiles.led-long}
+use Rattle.coding.{proofs.Basic.picked, proofs.Basic.unpicked, proofs.Basic.and-left, proofs.Basic.and-right}
+use Rattle.element.{specs.Element.tiled, specs.Element.led, specs.Element.elementOf, specs.Cut.startsOf, specs.Cut.firstOr, specs.inner.Places.afterIn, proofs.Tiles.element-found, proofs.Tiles.led-long, proofs.Tiling.tile-size}
 use Rattle.element_pass.specs.{declared.Found.Found, Pass.noneAt, Pass.foundUpTo, Pass.amongStarts, Pass.foundAt, Pass.Reads, Pass.Passed, Pass.passWith}
 
 -- each start lies below the next, the last below the end
@@ -15,44 +15,34 @@ pub first-inside : (end : ℕ) (xs : List ℕ) → Rises end xs → firstOr end 
 first-inside end [] r = omega arith
 first-inside end (a ∷ xs) r = omega (arith, r .0, first-inside end xs (r .1))
 
--- an element takes two octets or more
-goes-on : (s : List ℕ) (i : ℕ) {v : Extent} {n : ℕ} → lengthAt i s (i + 1) (length s) ≡ got v n → (i < n) × (n ≤ length s)
-goes-on s i {v} {n} e =
-    let o = read-element s i (length s) v n e in
-    let g = element-range (o .0) in
-    (omega (arith, g .0, g .1, g .2), o .1)
-
-tiled-rises : (turns : ℕ) (s : List ℕ) (i : ℕ) (xs : List ℕ) {last : ℕ} → tiled turns s i (length s) ≡ got xs last → Rises (length s) xs × (firstOr (length s) xs ≡ i)
-unfolding tiled
-tiled-rises zero s i xs e = absurd (never e)
-tiled-rises (suc turns) s i xs {last} e = by-cases (eqb i (length s))
-    (λ q. same-got (λ ys m. Rises (length s) ys × (firstOr (length s) ys ≡ i)) (rw q at e) (tt, sym (eqb-true i (length s) q)))
-    (λ q. let a = chain _ _ (rw q at e) in
-    let b = chain _ _ (a .3) in
-    let t = tiled-rises turns s (a .1) (b .0) {last = b .1} (b .2) in
-    let u : i < firstOr (length s) (b .0) = omega (arith, goes-on s i (a .2) .0, t .1) in
-    same-got (λ ys m. Rises (length s) ys × (firstOr (length s) ys ≡ i)) (b .3) ((u, t .0), refl))
-
--- the starts of an accepted element, the first of which is at 3
-pub starts-rise : (s : List ℕ) → elementOf s .number ≡ 0 → Rises (length s) (startsOf (elementOf s)) × (firstOr (length s) (startsOf (elementOf s)) ≡ 3)
-unfolding elementOf
-starts-rise s e =
-    let a = answer-found (led s) (tiled (length s) s 3 (length s)) e in
-    rw (a .1 .3) (tiled-rises (length s) s 3 (a .1 .0) (a .1 .2))
-
 -- each start is that of a tile which ends at the next one, the last at the end
 abbrev Opens : List ℕ → List ℕ → Type 0
 Opens s [] = Unit {0}
 Opens s (a ∷ starts) = ((v : Extent) × (lengthAt a s (a + 1) (length s) ≡ got v (firstOr (length s) starts))) × Opens s starts
 
-tiled-opens : (turns : ℕ) (s : List ℕ) (i : ℕ) (xs : List ℕ) {last : ℕ} → tiled turns s i (length s) ≡ got xs last → Opens s xs
+-- the starts that are found from a place on
+record Found-from (s : List ℕ) (i : ℕ) (xs : List ℕ) : Type 0 where
+  rises : Rises (length s) xs
+  begins : firstOr (length s) xs ≡ i
+  opens : Opens s xs
+
+tiled-found : (turns : ℕ) (s : List ℕ) (i : ℕ) (xs : List ℕ) {last : ℕ} → tiled turns s i (length s) ≡ got xs last → Found-from s i xs
 unfolding tiled
-tiled-opens zero s i xs e = absurd (never e)
-tiled-opens (suc turns) s i xs {last} e = by-cases (eqb i (length s)) (λ q. same-got (λ ys m. Opens s ys) (rw q at e) tt)
+tiled-found zero s i xs e = absurd (never e)
+tiled-found (suc turns) s i xs {last} e = by-cases (eqb i (length s))
+    (λ q. same-got (λ ys m. Found-from s i ys) (rw q at e) (record { rises = tt; begins = sym (eqb-true i (length s) q); opens = tt }))
     (λ q. let a = chain _ _ (rw q at e) in
     let b = chain _ _ (a .3) in
-    let ends : firstOr (length s) (b .0) ≡ a .1 = tiled-rises turns s (a .1) (b .0) {last = b .1} (b .2) .1 in
-    same-got (λ ys m. Opens s ys) (b .3) ((a .0, rw ends (a .2)), tiled-opens turns s (a .1) (b .0) {last = b .1} (b .2)))
+    let t = tiled-found turns s (a .1) (b .0) {last = b .1} (b .2) in
+    let u : i < firstOr (length s) (b .0) = omega (arith, tile-size s i (length s) (a .2) .0, t .begins) in
+    same-got (λ ys m. Found-from s i ys) (b .3) (record { rises = (u, t .rises); begins = refl; opens = ((a .0, rw (t .begins) (a .2)), t .opens) }))
+
+-- those of an accepted element, the first of which is at 3
+starts-found : (s : List ℕ) → elementOf s .number ≡ 0 → Found-from s 3 (startsOf (elementOf s))
+starts-found s e = let a = element-found s e in rw (a .1 .3) (tiled-found (length s) s 3 (a .1 .0) (a .1 .2))
+
+pub starts-rise : (s : List ℕ) → elementOf s .number ≡ 0 → Rises (length s) (startsOf (elementOf s)) × (firstOr (length s) (startsOf (elementOf s)) ≡ 3)
+starts-rise s e = let f = starts-found s e in (f .rises, f .begins)
 
 opens-at : (s before : List ℕ) (a : ℕ) (xs : List ℕ) → Opens s (before ++ (a ∷ xs)) → (v : Extent) × (lengthAt a s (a + 1) (length s) ≡ got v (firstOr (length s) xs))
 opens-at s [] a xs o = o .0
@@ -60,23 +50,18 @@ opens-at s (b ∷ before) a xs o = opens-at s before a xs (o .1)
 
 pub start-opens : (s : List ℕ) → elementOf s .number ≡ 0 → (before : List ℕ) (a : ℕ) (xs : List ℕ) → startsOf (elementOf s) ≡ before ++ (a ∷ xs)
     → (v : Extent) × (lengthAt a s (a + 1) (length s) ≡ got v (firstOr (length s) xs))
-unfolding elementOf
-start-opens s e before a xs all =
-    let f = answer-found (led s) (tiled (length s) s 3 (length s)) e in
-    let o : Opens s (startsOf (elementOf s)) = rw (f .1 .3) (tiled-opens (length s) s 3 (f .1 .0) (f .1 .2)) in
-    opens-at s before a xs (rw all at o)
+start-opens s e before a xs all = opens-at s before a xs (rw all at (starts-found s e .opens))
 
 -- the second octet of an accepted element counts those after it
 pub element-counts : (s : List ℕ) → elementOf s .number ≡ 0 → getD s 1 0 ≡ length s - 2
-unfolding elementOf led
+unfolding led
 element-counts s e =
-    let f = answer-found (led s) (tiled (length s) s 3 (length s)) e in
-    eqb-true _ _ (and-left (eqb (getD s 1 0) (length s - 2)) _ (and-right (eqb (getD s 0 0) 0x1c) _ (and-right (ltb 3 (length s)) _ (f .0))))
+    let after-lead = and-right (eqb (getD s 0 0) 0x1c) _ (and-right (ltb 3 (length s)) _ (element-found s e .0)) in
+    eqb-true _ _ (and-left (eqb (getD s 1 0) (length s - 2)) _ after-lead)
 
 -- there is something after its third octet
 pub element-long : (s : List ℕ) → elementOf s .number ≡ 0 → 3 < length s
-unfolding elementOf
-element-long s e = led-long s (answer-found (led s) (tiled (length s) s 3 (length s)) e .0)
+element-long s e = led-long s (element-found s e .0)
 
 -- ---- a place among the starts
 

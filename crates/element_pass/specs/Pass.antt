@@ -29,7 +29,7 @@ unfoldable pub amongStarts : ℕ → ℕ → List ℕ → Found
 amongStarts place end [] = noneAt 0 16
 amongStarts place end (a ∷ starts) = cond (eqb a place) (foundUpTo (firstOr end starts)) (amongStarts place end starts)
 
--- The whole tiling is judged first: 15. The place after the last octet is the end.
+-- The whole tiling is checked first: 15. The place after the last octet is the end.
 unfoldable pub foundAt : List ℕ → ℕ → Found
 foundAt s place =
     cond (eqb (elementOf s .number) 0)

@@ -1,10 +1,18 @@
 // One pass over a Facility element: the next component's record or refusal with the place after it, or the end.
+use coding::refusal;
 ghost use mathlib.Core.Path.{_≡_};
 ghost use Prim.Native.Nat.{_≤_, _<_};
 ghost use lib.ListN.{length, replicate};
 ghost use Rattle.types.specs.Frames.{refused};
 ghost use Rattle.element_pass.specs.Pass.{foundAt, passOf, wholeNext};
-ghost use Rattle.element.specs.Places.{Along};
+ghost use Rattle.element.specs.inner.Places.{Along};
+
+// As wide as the answers have them.
+const BAD_ELEMENT: u32 = refusal::BAD_ELEMENT as u32;
+
+const BAD_PLACE: u32 = refusal::BAD_PLACE as u32;
+
+const OTHER_PROFILE: u32 = refusal::OTHER_PROFILE as u32;
 
 // after: the place after the component. ended: 1 at the end of the element, where all else is zero.
 // answer: the component's, or 15 for a malformed element, 16 for a place where no component begins, 17 for one of another family.
@@ -22,7 +30,7 @@ pub struct Found {
     pub number: u32,
 }
 
-// The whole tiling is judged first.
+// The whole tiling is checked first.
 fn find(octets: &[u8], place: usize) -> Found
     ensures { λ r. ⌜ r ≡ foundAt (now (octets .entry)) place ⌝ }
     ensures inside { λ r. ⌜ ((r .after ≡ 0 → ⊥) → (place < r .after) × (r .after ≤ length (now (octets .entry))) × (3 < length (now (octets .entry)))) ⌝ }
@@ -32,7 +40,7 @@ fn find(octets: &[u8], place: usize) -> Found
         return Found {
             after: 0,
             ended: 0,
-            number: 15,
+            number: BAD_ELEMENT,
         };
     }
     if place == octets.len() {
@@ -47,7 +55,7 @@ fn find(octets: &[u8], place: usize) -> Found
         return Found {
             after: 0,
             ended: 0,
-            number: 16,
+            number: BAD_PLACE,
         };
     }
     Found {
@@ -57,7 +65,7 @@ fn find(octets: &[u8], place: usize) -> Found
     }
 }
 
-// What `find` gives at a place where a component begins, or at the end, once the tiling has been judged: the tile there alone is looked at.
+// What `find` gives at a place where a component begins, or at the end, once the tiling has been checked: only the tile there is looked at.
 pub fn onward(octets: &[u8], place: usize) -> Found
     requires { ⌜ Along (now octets) place ⌝ }
     ensures { λ r. ⌜ r ≡ foundAt (now (octets .entry)) place ⌝ }
@@ -84,12 +92,12 @@ pub fn first(octets: &[u8]) -> Found
 {
     let tiles = element::element(octets);
     if tiles.number == 0 {
-        return onward(octets, 3);
+        return onward(octets, element::FIRST_PLACE);
     }
     Found {
         after: 0,
         ended: 0,
-        number: 15,
+        number: BAD_ELEMENT,
     }
 }
 
@@ -104,7 +112,7 @@ fn without(after: usize, ended: usize, number: u32) -> Next
     }
 }
 
-// What stands at a place of an element: the next component, its record in four parts that are lent, whatever they hold, with the place after it; or the end.
+// What is at a place of an element: the next component, its record in the caller's four parts, whatever they held, with the place after it; or the end.
 // A component of an element with another third octet than 91 is not read: 17.
 pub fn next_into(
     octets: &[u8],
@@ -131,7 +139,7 @@ pub fn next_into(
         *figure = [0; 48];
         *numbers = [0; 32];
         *rows = [0; 192];
-        return without(after, ended, 17);
+        return without(after, ended, OTHER_PROFILE);
     }
     let answer = read::read_into(&octets[place..after], front, figure, numbers, rows);
     Next {

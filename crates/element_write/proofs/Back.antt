@@ -5,7 +5,7 @@ use Rattle.coding.{specs.Reader.Ans, specs.Reader.part, specs.Reader.Ans.got, s
 use Rattle.types.specs.Frames.{readOf}
 use Rattle.element.specs.Element.{tiled, isProfile, led, elementOf}
 use Rattle.element.specs.Cut.{startsOf, firstOr, partsOf, joined, Tiles}
-use Rattle.element.{specs.Cut.placesOf, proofs.Tiles.cut-all, proofs.Tiles.laid-all, proofs.Tiles.found, proofs.Tiles.places-count, proofs.Tiles.tiles, proofs.Tiles.answer-found}
+use Rattle.element.{specs.Cut.placesOf, proofs.Tiles.cut-all, proofs.Tiles.laid-all, proofs.Tiles.found, proofs.Tiles.places-count, proofs.Tiles.tiles, proofs.Tiles.element-found}
 use Rattle.element_pass.{specs.Pass.Reads, specs.Pass.Through, specs.Pass.lines, proofs.Through.through}
 use Rattle.element_write.specs.Round.{round, roundBy, isFound, isTiled, elementHolds}
 
@@ -85,13 +85,9 @@ led-as t e =
     let size : length t - 2 ≡ 1 + length (drop 3 t) = omega (arith, ap length (three t long)) in
     three t long ∙ rw (one, two, size)
 
-was-led : (t : List ℕ) → elementOf t .number ≡ 0 → led t ≡ true
-unfolding elementOf
-was-led t e = answer-found (led t) (tiled (length t) t 3 (length t)) e .0
-
 -- An accepted element that is cut into components is the one that is written round them with its own profile octet: no other octets hold them there, so none are fewer.
 pub only-by : (t : List ℕ) → elementOf t .number ≡ 0 → t ≡ roundBy (getD t 2 0) (joined (partsOf t (startsOf (elementOf t))))
-only-by t e = led-as t (was-led t e) ∙ ap (roundBy (getD t 2 0)) (sym (tiles t e .0))
+only-by t e = led-as t (element-found t e .0) ∙ ap (roundBy (getD t 2 0)) (sym (tiles t e .0))
 
 pub only-form : (t : List ℕ) → elementOf t .number ≡ 0 → getD t 2 0 ≡ 0x91 → t ≡ round (joined (partsOf t (startsOf (elementOf t))))
 only-form t e line = only-by t e ∙ ap (λ (p : ℕ). roundBy p (joined (partsOf t (startsOf (elementOf t))))) line

@@ -1,6 +1,6 @@
 -- The loop over components that are laid end to end: what is left of them decides for all.
 use Rattle.prelude.proofs.Prelude.{ℕ, suc, _+_, _-_, _≤_, _<_, arith, _≡_, refl, sym, ap, _∙_, true, false, List, _∷_, length, getD, eq-eqb}
-use Rattle.coding.{specs.declared.Extent.Extent, specs.Reader.Ans, specs.Reader.after, specs.Reader.lengthAt, specs.Reader.opened, specs.Reader.Ans.got, specs.Reader.Ans.halt, specs.Shown.shown}
+use Rattle.coding.{specs.declared.Extent.Extent, specs.Reader.Ans, specs.Reader.after, specs.Reader.lengthAt, specs.Reader.opened, specs.Reader.Ans.got, specs.Reader.Ans.halt, specs.inner.Shown.shown}
 use Rattle.coding.{proofs.Header.opened-there, proofs.Reading.halt-of}
 use Rattle.element.{specs.Element.tiled, proofs.Tiling.turn}
 use Rattle.element_write.specs.Round.{isFound, isTiled}

@@ -1,7 +1,7 @@
 -- What writing an element answers and leaves.
 use Rattle.prelude.proofs.Prelude.{ℕ, _+_, _≤_, _<_, arith, zero-add, _≡_, ap, ap₂, _∙_, true, false, List, [], _∷_, _++_, length, take, drop, take-length, sets-eq}
 use Rattle.prelude.proofs.Prelude.{le-leb, lt-leb, lt-ltb, le-ltb}
-use Rattle.coding.{specs.Written.Wrote, specs.Written.Room, proofs.Writing.wrote-both, proofs.Writing.wrote-as}
+use Rattle.coding.{specs.inner.Written.Wrote, specs.inner.Written.Room, proofs.Writing.wrote-both, proofs.Writing.wrote-as}
 use Rattle.element.specs.Element.{isProfile}
 use Rattle.write.specs.{declared.Written.Written, Outcome.done, Outcome.no}
 use Rattle.element_write.specs.Round.{roundBy, isTiled, elementHolds, elementAs, elementBy}

@@ -28,7 +28,7 @@ isTiled s = isFound (tiled (suc (length s)) s 0 (length s))
 unfoldable pub elementHolds : List ℕ → Bool
 elementHolds s = ltb 0 (length s) && (leb (length s) 254 && isTiled s)
 
--- The answer, and what is left in a lent buffer: the element and then what was there; or 15, or 12, and all that was there.
+-- The answer, and what is left in the caller's buffer: the element and then what was there; or 15, or 12, and all that was there.
 unfoldable pub elementAs : ℕ → List ℕ → List ℕ → Written × List ℕ
 elementAs profile s before =
     let whole = roundBy profile s in

@@ -1,13 +1,21 @@
 // A Facility element, written round components.
+use coding::refusal;
 ghost use mathlib.Core.Path.{_≡_};
 ghost use mathlib.Core.Bool.{true};
 ghost use mathlib.Core.List.{[], _∷_};
 ghost use Prim.Native.Nat.{_+_, _≤_};
 ghost use lib.ListN.{length};
-ghost use Rattle.coding.specs.Written.{Wrote, Room};
+ghost use Rattle.coding.specs.inner.Written.{Wrote, Room};
 ghost use Rattle.element.specs.Element.{isProfile};
 ghost use Rattle.write.specs.Outcome.{no};
 ghost use Rattle.element_write.specs.Round.{isTiled, elementHolds, elementAs, elementInto, elementBy};
+
+// As wide as the answers have them.
+const BAD_ELEMENT: u32 = refusal::BAD_ELEMENT as u32;
+
+const NO_ROOM: u32 = refusal::NO_ROOM as u32;
+
+const OTHER_PROFILE: u32 = refusal::OTHER_PROFILE as u32;
 
 // Whether octets are components laid end to end.
 fn is_tiled(octets: &[u8]) -> bool
@@ -57,16 +65,16 @@ fn refuse(number: u32) -> write::Written
     write::Written { number, count: 0 }
 }
 
-// Writes the element that holds the components into a lent buffer. All is decided before a single octet is stored.
+// Writes the element that holds the components into the caller's buffer. All is decided before a single octet is stored.
 fn element_as(profile: u8, octets: &[u8], buf: &mut [u8]) -> write::Written
     ensures { λ w. ⌜ (w, now (buf .exit)) ≡ elementAs profile (now (octets .entry)) (now (buf .entry)) ⌝ }
 {
     if !is_held(octets) {
-        return refuse(15);
+        return refuse(BAD_ELEMENT);
     }
     let n = octets.len();
     if buf.len() < n + 3 {
-        return refuse(12);
+        return refuse(NO_ROOM);
     }
     let p = put_head(buf, n, profile);
     let q = octets::put_octets(buf, p, octets, n);
@@ -95,7 +103,7 @@ pub fn element_by(profile: u8, octets: &[u8], buf: &mut [u8]) -> write::Written
     ensures { λ w. ⌜ (w, now (buf .exit)) ≡ elementBy profile (now (octets .entry)) (now (buf .entry)) ⌝ }
 {
     if !is_profile(profile) {
-        return refuse(17);
+        return refuse(OTHER_PROFILE);
     }
     element_as(profile, octets, buf)
 }

@@ -1,23 +1,15 @@
 -- The first events of a list in slices: one more, all of them, and where their octets lie.
-use Rattle.prelude.proofs.Prelude.{ℕ, zero, suc, _+_, _-_, _/_, _≤_, _<_, _≡_, refl, sym, _∙_, ap, List, [], _∷_, reverse, reverseAux, true, arith, length, take, drop, add-one, add-zero, zero-add}
+use Rattle.prelude.proofs.Prelude.{ℕ, zero, suc, _+_, _-_, _/_, _≤_, _<_, _≡_, refl, sym, _∙_, ap, List, _∷_, reverse, reverseAux, true, arith, length, take, drop, add-one, add-zero, zero-add}
 use Rattle.prelude.proofs.Prelude.{replicate, length-replicate}
 use Rattle.phases.specs.Phases.{Given}
 use Rattle.events.specs.Events.{countAt, addsUp, eventsFrom, eventsOf, Going}
-use Rattle.events.specs.Prefix.{placeAt, octetsAt, givenAt, before}
+use Rattle.events.specs.inner.Prefix.{placeAt, octetsAt, givenAt, before}
 use Rattle.events.proofs.Laws.{begins, inside, goes-on}
 
 module _ (rows octets : List ℕ) where
-  pub place-start : placeAt rows 0 ≡ 0
-  unfolding placeAt
-  place-start = refl
-
   pub place-next : (i : ℕ) → placeAt rows (i + 1) ≡ placeAt rows i + countAt rows i
   unfolding placeAt
   place-next i = ap (placeAt rows) (add-one i)
-
-  pub before-start : before rows octets 0 ≡ []
-  unfolding before
-  before-start = refl
 
   pub before-next : (i : ℕ) → before rows octets (i + 1) ≡ givenAt rows octets i ∷ before rows octets i
   unfolding before
@@ -53,9 +45,18 @@ module _ (rows octets : List ℕ) where
   pub ends-inside : addsUp rows (length octets) ≡ true → (i : ℕ) → i < length rows / 6 → placeAt rows i + countAt rows i ≤ length octets
   ends-inside a i h = inside rows octets i (placeAt rows i) (going-at a i (omega arith)) h
 
-  -- what a loop takes of the octets (the code's place and count are at and c)
-  pub part-at : (i at c : ℕ) → at ≡ placeAt rows i → c ≡ countAt rows i → take (at + c - at) (drop at octets) ≡ octetsAt rows octets i
-  part-at i at c p q = let n : at + c - at ≡ countAt rows i = omega (arith, q) in rw (n, p) refl
+  -- ---- a turn of a loop, before event i (the code's place and count are at and c)
+
+  module _ (i : ℕ) {at c : ℕ} (place : at ≡ placeAt rows i) (counted : c ≡ countAt rows i) where
+    -- what it takes of the octets
+    pub part-at : take (at + c - at) (drop at octets) ≡ octetsAt rows octets i
+    part-at = let n : at + c - at ≡ countAt rows i = omega (arith, counted) in rw (n, place) refl
+
+    pub turn-inside : addsUp rows (length octets) ≡ true → i < length rows / 6 → at + c ≤ length octets
+    turn-inside a h = omega (arith, ends-inside a i h)
+
+    pub next-place : at + c ≡ placeAt rows (i + 1)
+    next-place = rw (place, counted) (sym (place-next i))
 
 -- the same of a count of octets alone
 pub place-fits : (rows : List ℕ) (total : ℕ) → addsUp rows total ≡ true → (i : ℕ) → i < length rows / 6 → placeAt rows i + countAt rows i ≤ total

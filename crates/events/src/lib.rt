@@ -3,9 +3,26 @@
 // A row: the kind; the services asked for, 1 S, 2 D, 4 E added up; the identifiers of S, D, E; how many of the octets are the event's.
 ghost use Prim.Native.Nat.{_<_, _/_, _%_};
 ghost use mathlib.Core.Path.{_≡_};
+ghost use mathlib.Core.Bool.{cond};
 ghost use lib.ListN.{length};
+ghost use lib.Dec.{eqb};
+ghost use Rattle.coding.specs.inner.Written.{Wrote, Room};
 ghost use Rattle.events.specs.Events.{kindOf, setOf, rowAt, countAt, addsUp, rowsFit};
+ghost use Rattle.events.specs.Laid.{bitsOf, laidRow};
 ghost use Rattle.events.specs.Earliest.{within, orElse};
+
+// Where the numbers stand in a row, after the kind.
+pub mod in_row {
+    pub const ASKED: usize = 1;
+
+    pub const S: usize = 2;
+
+    pub const D: usize = 3;
+
+    pub const E: usize = 4;
+
+    pub const COUNT: usize = 5;
+}
 
 fn wide(n: u16) -> usize
     ensures { λ r. ⌜ r ≡ n ⌝ }
@@ -21,7 +38,7 @@ fn rows_fit(rows: &[u16], total: usize) -> bool
     let mut left = total;
     let mut i: usize = 0;
     while i < n {
-        let count = wide(rows[i * 6 + 5]);
+        let count = wide(rows[i * 6 + in_row::COUNT]);
         if left < count {
             return false;
         }
@@ -63,13 +80,13 @@ pub fn row_at(rows: &[u16], i: usize) -> phases::Event
     ensures { λ r. ⌜ r ≡ rowAt (now (rows .entry)) i ⌝ }
 {
     let kind = kind_of(rows[i * 6]);
-    let asked = set_of(rows[i * 6 + 1]);
+    let asked = set_of(rows[i * 6 + in_row::ASKED]);
     phases::Event {
         kind,
         asked,
-        s: rows[i * 6 + 2],
-        d: rows[i * 6 + 3],
-        e: rows[i * 6 + 4],
+        s: rows[i * 6 + in_row::S],
+        d: rows[i * 6 + in_row::D],
+        e: rows[i * 6 + in_row::E],
     }
 }
 
@@ -78,7 +95,43 @@ pub fn count_at(rows: &[u16], i: usize) -> usize
     requires { ⌜ i < length (now rows) / 6 ⌝ }
     ensures { λ r. ⌜ r ≡ countAt (now (rows .entry)) i ⌝ }
 {
-    wide(rows[i * 6 + 5])
+    wide(rows[i * 6 + in_row::COUNT])
+}
+
+// ---- a row written
+
+fn bit(mark: u8, value: u16) -> u16
+    ensures { λ r. ⌜ r ≡ cond (eqb mark 0) 0 value ⌝ }
+{
+    if mark == 0 {
+        return 0;
+    }
+    value
+}
+
+fn bits_of(t: requests::Services) -> u16
+    ensures { λ r. ⌜ r ≡ bitsOf t ⌝ }
+{
+    let s = bit(t.s, 1);
+    let d = bit(t.d, 2);
+    let e = bit(t.e, 4);
+    s + d + e
+}
+
+// A row written from a place on. The place after it.
+pub fn put_row(rows: &mut [u16], at: usize, e: phases::Event, count: u16) -> usize
+    requires { ⌜ Room (now rows) at (laidRow e count) ⌝ }
+    ensures { λ r. ⌜ Wrote (now (rows .entry)) (now (rows .exit)) at (laidRow e count) r ⌝ }
+{
+    let asked = e.asked;
+    let bits = bits_of(asked);
+    rows[at] = e.kind as u16;
+    rows[at + in_row::ASKED] = bits;
+    rows[at + in_row::S] = e.s;
+    rows[at + in_row::D] = e.d;
+    rows[at + in_row::E] = e.e;
+    rows[at + in_row::COUNT] = count;
+    at + 6
 }
 
 // ---- the earliest event of a sort

@@ -1,22 +1,16 @@
 -- Going back over the list finds what the rules over the list say, and so does the short way.
-use Rattle.prelude.proofs.Prelude.{ℕ, _+_, _-_, _≡_, refl, sym, _∙_, ap, ap₂, List, [], _∷_, Bool, true, false, _&&_, cond, eqb, ltb, take, drop}
+use Rattle.prelude.proofs.Prelude.{ℕ, _+_, _-_, _≡_, refl, sym, _∙_, ap, List, [], _∷_, Bool, true, false, _&&_, cond, eqb, ltb, take, drop}
 use Rattle.phases.{specs.declared.Event.Event, specs.declared.Outcome.Outcome, specs.Phases.Given, proofs.Choice.never}
 use Rattle.prelude.proofs.Ways.{by-cases}
-use Rattle.types.specs.{declared.Currency.Currency, declared.Record.Record, Frames.readOf}
+use Rattle.types.specs.{declared.Answer.Answer, declared.Currency.Currency, Frames.readOf}
 use Rattle.amounts.{specs.Currency.equalCurrency, proofs.Currencies.symmetric, proofs.Currencies.transitive}
 use Rattle.types.specs.Thousandths.{thousandths}
 use Rattle.account.{specs.History.Judged, specs.History.any, specs.History.last, specs.History.judged, specs.declared.Stepped.Stepped, proofs.Demand.step-stands}
-use Rattle.events.{specs.Events.rowAt, specs.Events.countAt, specs.Prefix.placeAt, specs.Prefix.octetsAt, specs.Prefix.givenAt, specs.Prefix.before, proofs.Prefix.before-start}
+use Rattle.events.{specs.Events.rowAt, specs.Events.countAt, specs.inner.Prefix.placeAt, specs.inner.Prefix.givenAt, specs.inner.Prefix.before}
 use Rattle.events.{proofs.Prefix.before-next, proofs.Prefix.part-at}
-use Rattle.fault_rules.specs.{Figures.invokesD, Breaking.moneyBy}
+use Rattle.fault_rules.specs.{Figures.invokesD, inner.Breaking.moneyBy}
 use Rattle.fault.specs.{declared.State.State, declared.Last.Last, Rules.chargeBy, Rules.isCountedMoney, Rules.belowLast}
-use Rattle.fault.specs.Going.{noLast, lastNext, lastBy, judging, turnOf, stateBy, latestNext, latestBy, otherBy, decidedBy, shortBy}
-
-yes : {A : Type 0} (t : Bool) (x y : A) → t ≡ true → cond t x y ≡ x
-yes t x y q = rw q refl
-
-no : {A : Type 0} (t : Bool) (x y : A) → t ≡ false → cond t x y ≡ y
-no t x y q = rw q refl
+use Rattle.fault.specs.inner.Going.{noLast, lastNext, lastBy, judging, turnOf, stateBy, latestNext, latestBy, otherBy, decidedBy, shortBy}
 
 -- ---- the rule by what is found
 
@@ -88,42 +82,17 @@ unfolding turnOf
 turn-stands c h g =
     ap (λ (w : Stepped). record { account = w .account; last = lastNext (lastBy c (judged h)) c (judging (g .event) (g .octets) (w .outcome)) }) (step-stands h g)
 
-module _ (rows octets : List ℕ) (c : Currency) where
-  pub back-begins : stateBy c [] ≡ stateBy c (judged (before rows octets 0))
-  back-begins = ap (λ (l : List Given). stateBy c (judged l)) (sym (before-start rows octets))
+-- (the code's place, count and row are at, n and e)
+pub back-next : (rows octets : List ℕ) (c : Currency) (i : ℕ) {at n : ℕ} {e : Event} {t r : State} → at ≡ placeAt rows i → n ≡ countAt rows i → e ≡ rowAt rows i
+    → t ≡ stateBy c (judged (before rows octets i)) → r ≡ turnOf t c e (take (at + n - at) (drop at octets))
+    → r ≡ stateBy c (judged (before rows octets (i + 1)))
+back-next rows octets c i p q z s w =
+    w ∙ rw (part-at rows octets i p q, s, z, before-next rows octets i) (turn-stands c (before rows octets i) (givenAt rows octets i))
 
-  pub back-next : (i at n : ℕ) (e : Event) (t r : State) → at ≡ placeAt rows i → t ≡ stateBy c (judged (before rows octets i)) → n ≡ countAt rows i → e ≡ rowAt rows i
-      → r ≡ turnOf t c e (take (at + n - at) (drop at octets)) → r ≡ stateBy c (judged (before rows octets (i + 1)))
-  back-next i at n e t r p s q z w =
-      w
-      ∙ ap (λ (o : List ℕ). turnOf t c e o) (part-at rows octets i at n p q)
-      ∙ ap₂ (λ (x : State) (y : Event). turnOf x c y (octetsAt rows octets i)) s z
-      ∙ turn-stands c (before rows octets i) (givenAt rows octets i)
-      ∙ ap (λ (l : List Given). stateBy c (judged l)) (sym (before-next rows octets i))
+-- ---- what an event leaves as the last amount, by what the code reads and tests
 
--- ---- what an event leaves as the last amount, way by way (the code has its record v, and d: whether it is D's)
-
-module _ (l : Last) (c : Currency) (e : Event) (o : List ℕ) (r : Outcome) (v : Record) (p : v ≡ readOf o .value) (d : Bool) (w : d ≡ invokesD (e .kind) (v .front)) where
-  abbrev j : Judged
-  j = judging e o r
-
-  counts : (t : Bool) → moneyBy d (v .charge .figure .kind) r ≡ t → isCountedMoney j ≡ t
-  counts t q =
-      ap (λ (x : Record). moneyBy (invokesD (e .kind) (x .front)) (x .charge .figure .kind) r) (sym p)
-      ∙ ap (λ (b : Bool). moneyBy b (v .charge .figure .kind) r) (sym w) ∙ q
-
-  equals : (t : Bool) → equalCurrency (v .charge .figure .money .currency) c ≡ t → equalCurrency (chargeBy j .figure .money .currency) c ≡ t
-  equals t q = ap (λ (x : Record). equalCurrency (x .charge .figure .money .currency) c) (sym p) ∙ q
-
-  pub last-other : moneyBy d (v .charge .figure .kind) r ≡ false → l ≡ lastNext l c j
-  last-other q = sym (no _ _ _ (ap (λ (t : Bool). t && equalCurrency (chargeBy j .figure .money .currency) c) (counts false q)))
-
-  module _ (q : moneyBy d (v .charge .figure .kind) r ≡ true) where
-    pub last-elsewhere : equalCurrency (v .charge .figure .money .currency) c ≡ false → l ≡ lastNext l c j
-    last-elsewhere n = sym (no _ _ _ (ap₂ (λ (t u : Bool). t && u) (counts true q) (equals false n)))
-
-    pub last-here : (n : ℕ) → n ≡ thousandths (v .charge .figure .money) → equalCurrency (v .charge .figure .money .currency) c ≡ true
-        → record { found = 1; amount = n } ≡ lastNext l c j
-    last-here n z y =
-        ap (λ (x : ℕ). record { found = 1; amount = x }) (z ∙ ap (λ (x : Record). thousandths (x .charge .figure .money)) p)
-        ∙ sym (yes _ _ _ (ap₂ (λ (t u : Bool). t && u) (counts true q) (equals true y)))
+pub last-by : (l : Last) (c : Currency) (e : Event) (o : List ℕ) (r : Outcome) {a : Answer} {d b s : Bool} → a ≡ readOf o
+    → d ≡ invokesD (e .kind) (a .value .front) → b ≡ moneyBy d (a .value .charge .figure .kind) r
+    → s ≡ equalCurrency (a .value .charge .figure .money .currency) c
+    → lastNext l c (judging e o r) ≡ cond (b && s) (record { found = 1; amount = thousandths (a .value .charge .figure .money) }) l
+last-by l c e o r read of-d counted same = sym (rw (same, counted, of-d, read) refl)

@@ -5,12 +5,12 @@ use Rattle.phases.{specs.declared.Event.Event, specs.Phases.Given, proofs.Choic
 use Rattle.prelude.proofs.Ways.{by-cases}
 use Rattle.account.{specs.History.Judged, specs.History.any, specs.History.judged, specs.History.known, specs.History.phase, specs.declared.Stepped.Stepped, proofs.Demand.step-stands}
 use Rattle.outcomes.specs.Outcome.{judge}
-use Rattle.events.{specs.Earliest.orElse, specs.Events.rowAt, specs.Events.countAt, specs.Events.eventsOf, specs.Prefix.placeAt, specs.Prefix.octetsAt, specs.Prefix.givenAt, specs.Prefix.before}
-use Rattle.events.proofs.Prefix.{before-start, before-next, before-count, all-before, part-at}
-use Rattle.fault_rules.specs.{declared.Verdict.Verdict, declared.Seen.Seen, Breaking.breaksBy, Breaking.concluded, Figures.verdict}
+use Rattle.events.{specs.Earliest.orElse, specs.Events.rowAt, specs.Events.countAt, specs.Events.eventsOf, specs.inner.Prefix.placeAt, specs.inner.Prefix.octetsAt, specs.inner.Prefix.givenAt, specs.inner.Prefix.before}
+use Rattle.events.proofs.Prefix.{before-next, before-count, all-before, part-at}
+use Rattle.fault_rules.specs.{declared.FaultAnswer.FaultAnswer, declared.Seen.Seen, inner.Breaking.breaksBy, inner.Breaking.concluded, Figures.faultAnswer}
 use Rattle.fault.specs.{declared.Progress.Progress, declared.Last.Last, declared.Latest.Latest}
 use Rattle.fault.specs.Rules.{chargeBy, isD, isCountedMoney, isCountedFree, breaks, allKept, refusedIn, brokenIn, faultIn, faultOf}
-use Rattle.fault.specs.{Going.judging, Going.latestBy, Going.otherBy, Going.shortBy, Running.fallsBy, Running.seenOn, Running.nextBy, Running.nextOf, Running.seenBy, Running.progressBy}
+use Rattle.fault.specs.{inner.Going.judging, inner.Going.latestBy, inner.Going.otherBy, inner.Going.shortBy, inner.Running.fallsBy, inner.Running.seenOn, inner.Running.nextBy, inner.Running.nextOf, inner.Running.seenBy, inner.Running.progressBy}
 use Rattle.fault.proofs.Back.{below-found, short-way, latest-stands}
 
 -- ---- one event more
@@ -23,9 +23,9 @@ free-more : (a b : Bool) → cond a 1 (flag b) ≡ flag (a || b)
 free-more true b = refl
 free-more false b = refl
 
-module _ (f : Verdict) (b n : ℕ) where
-  abbrev more : Verdict
-  more = cond (eqb (f .rule) 0) (cond (eqb b 0) allKept (verdict 0 b n)) f
+module _ (f : FaultAnswer) (b n : ℕ) where
+  abbrev more : FaultAnswer
+  more = cond (eqb (f .rule) 0) (cond (eqb b 0) allKept (faultAnswer 0 b n)) f
 
   rule-more : cond (eqb (f .rule) 0) b (f .rule) ≡ more .rule
   rule-more = by-cases (eqb (f .rule) 0) (λ q. by-number b 0 (λ e. rw (q, e) refl) (λ e. rw (q, e) refl)) (λ q. rw q refl)
@@ -68,7 +68,7 @@ next-stands h g =
 
 -- ---- the end
 
-broken-zero : (h : List Judged) → verdict 0 (brokenIn h .rule) (brokenIn h .event) ≡ brokenIn h
+broken-zero : (h : List Judged) → faultAnswer 0 (brokenIn h .rule) (brokenIn h .event) ≡ brokenIn h
 broken-zero [] = refl
 broken-zero (j ∷ h) =
     by-cases (eqb (brokenIn h .rule) 0)
@@ -77,7 +77,7 @@ broken-zero (j ∷ h) =
 
 ends : (h : List Judged) → concluded (seenBy h) ≡ faultIn h
 unfolding faultIn
-ends h = ap (λ (f : Verdict). cond (eqb (refusedIn h) 0) f (verdict 34 0 (refusedIn h))) (broken-zero h)
+ends h = ap (λ (f : FaultAnswer). cond (eqb (refusedIn h) 0) f (faultAnswer 34 0 (refusedIn h))) (broken-zero h)
 
 -- ---- the list
 
@@ -89,19 +89,15 @@ module _ (rows octets : List ℕ) where
   abbrev history : ℕ → List Judged
   history i = judged (before rows octets i)
 
-  pub run-starts : progressBy [] ≡ progressBy (history 0)
-  run-starts = ap (λ (l : List Given). progressBy (judged l)) (sym (before-start rows octets))
-
-  pub run-next : (i at n : ℕ) (e : Event) (t r : Progress) → at ≡ placeAt rows i → t ≡ progressBy (history i) → n ≡ countAt rows i → e ≡ rowAt rows i
+  -- (the code's place, count and row are at, n and e)
+  pub run-next : (i : ℕ) {at n : ℕ} {e : Event} {t r : Progress} → at ≡ placeAt rows i → n ≡ countAt rows i → e ≡ rowAt rows i → t ≡ progressBy (history i)
       → r ≡ nextOf t (history i) e (take (at + n - at) (drop at octets)) (i + 1) → r ≡ progressBy (history (i + 1))
-  run-next i at n e t r p s m z q =
+  run-next i p m z s q =
+      let count : i ≡ length (history i) = sym (judged-count (before rows octets i) ∙ before-count rows octets i) in
       q
-      ∙ ap (λ (o : List ℕ). nextOf t (history i) e o (i + 1)) (part-at rows octets i at n p m)
-      ∙ ap₂ (λ (x : Progress) (y : Event). nextOf x (history i) y (octetsAt rows octets i) (i + 1)) s z
-      ∙ ap (λ (x : ℕ). nextOf (progressBy (history i)) (history i) (rowAt rows i) (octetsAt rows octets i) (x + 1))
-      (sym (judged-count (before rows octets i) ∙ before-count rows octets i))
-      ∙ next-stands (before rows octets i) (givenAt rows octets i)
-      ∙ ap (λ (l : List Given). progressBy (judged l)) (sym (before-next rows octets i))
+      ∙ rw (part-at rows octets i p m, s, z, before-next rows octets i)
+      (ap (λ (x : ℕ). nextOf (progressBy (history i)) (history i) (rowAt rows i) (octetsAt rows octets i) (x + 1)) count
+      ∙ next-stands (before rows octets i) (givenAt rows octets i))
 
   pub run-ends : (i : ℕ) (t : Progress) → i ≡ length rows / 6 → t ≡ progressBy (history i) → concluded (t .seen) ≡ faultOf (eventsOf rows octets)
   unfolding faultOf

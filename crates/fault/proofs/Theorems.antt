@@ -1,11 +1,11 @@
 -- Yes exactly when no event is refused and all four rules hold of all events; no names the first event that breaks one, and the first rule that it breaks.
 use Rattle.prelude.proofs.Prelude.{ℕ, _+_, _≤_, _≡_, refl, ap, Bool, true, false, cond, List, [], _∷_, arith, length, eqb, eqb-false, ne-eqb}
 use Rattle.prelude.proofs.Ways.{by-cases}
-use Rattle.phases.proofs.Choice.{by-number, never}
+use Rattle.phases.proofs.Choice.{by-number}
 use Rattle.outcomes.specs.Outcome.{isRefusal}
 use Rattle.account.specs.History.{Judged}
 use Rattle.events.proofs.Earliest.{Passes, found, none-found, first}
-use Rattle.fault_rules.specs.{declared.Verdict.Verdict, Figures.verdict}
+use Rattle.fault_rules.specs.{declared.FaultAnswer.FaultAnswer, Figures.faultAnswer}
 use Rattle.fault.specs.Rules.{misplaced, falls, charges, differs, breaks, allKept, refusedIn, brokenIn, faultIn}
 
 -- ---- event n is refused; it breaks rule r
@@ -43,36 +43,27 @@ UpTo n r = (n ≡ 0 → ⊥) × (n ≤ r)
 one : (n r : ℕ) → 1 ≤ n → n ≤ r → UpTo n r
 one n r low high = ((λ e. omega (arith, e, low)), high)
 
-first-1 : (a b c d : Bool) → a ≡ true → UpTo (firstOf a b c d) 1
-first-1 true b c d q = one 1 1 (omega arith) (omega arith)
-first-1 false b c d q = never q
+-- a test that comes first, whether it passes or not; and the one that passes
+passed-by : (a : Bool) (k n r : ℕ) → 1 ≤ k → k ≤ r → UpTo n r → UpTo (cond a k n) r
+passed-by true k n r low high u = one k r low high
+passed-by false k n r low high u = u
 
-first-2 : (a b c d : Bool) → b ≡ true → UpTo (firstOf a b c d) 2
-first-2 true b c d q = one 1 2 (omega arith) (omega arith)
-first-2 false true c d q = one 2 2 (omega arith) (omega arith)
-first-2 false false c d q = never q
-
-first-3 : (a b c d : Bool) → c ≡ true → UpTo (firstOf a b c d) 3
-first-3 true b c d q = one 1 3 (omega arith) (omega arith)
-first-3 false true c d q = one 2 3 (omega arith) (omega arith)
-first-3 false false true d q = one 3 3 (omega arith) (omega arith)
-first-3 false false false d q = never q
-
-first-4 : (a b c d : Bool) → d ≡ true → UpTo (firstOf a b c d) 4
-first-4 true b c d q = one 1 4 (omega arith) (omega arith)
-first-4 false true c d q = one 2 4 (omega arith) (omega arith)
-first-4 false false true d q = one 3 4 (omega arith) (omega arith)
-first-4 false false false true q = one 4 4 (omega arith) (omega arith)
-first-4 false false false false q = never q
+meets : (a : Bool) (k n : ℕ) → 1 ≤ k → a ≡ true → UpTo (cond a k n) k
+meets a k n low q = rw q (one k k low (omega arith))
 
 breaks-there : (j : Judged) (h : List Judged) → (breaks j h ≡ 0 → ⊥) → Against j h (breaks j h)
 breaks-there j h some = pick (Against j h) (misplaced j h) (falls j h) (charges j h) (differs j) outOfPlace belowLast notFree another some
 
 breaks-first : {j : Judged} {h : List Judged} {r : ℕ} → Against j h r → UpTo (breaks j h) r
-breaks-first {j} {h} (outOfPlace q) = first-1 (misplaced j h) (falls j h) (charges j h) (differs j) q
-breaks-first {j} {h} (belowLast q) = first-2 (misplaced j h) (falls j h) (charges j h) (differs j) q
-breaks-first {j} {h} (notFree q) = first-3 (misplaced j h) (falls j h) (charges j h) (differs j) q
-breaks-first {j} {h} (another q) = first-4 (misplaced j h) (falls j h) (charges j h) (differs j) q
+breaks-first {j} {h} (outOfPlace q) = meets (misplaced j h) 1 _ (omega arith) q
+breaks-first {j} {h} (belowLast q) = passed-by (misplaced j h) 1 _ 2 (omega arith) (omega arith) (meets (falls j h) 2 _ (omega arith) q)
+breaks-first {j} {h} (notFree q) =
+    passed-by (misplaced j h) 1 _ 3 (omega arith) (omega arith)
+    (passed-by (falls j h) 2 _ 3 (omega arith) (omega arith) (meets (charges j h) 3 _ (omega arith) q))
+breaks-first {j} {h} (another q) =
+    passed-by (misplaced j h) 1 _ 4 (omega arith) (omega arith)
+    (passed-by (falls j h) 2 _ 4 (omega arith) (omega arith)
+    (passed-by (charges j h) 3 _ 4 (omega arith) (omega arith) (meets (differs j) 4 0 (omega arith) q)))
 
 -- ---- the first event that breaks a rule
 
@@ -158,5 +149,5 @@ module _ (h : List Judged) where
   unfolding faultIn
   kept-yes k =
       by-number (refusedIn h) 0
-      (λ e. let z : brokenIn h ≡ allKept = rw e at k in ((λ n r. refused-first r .0 e), λ r n p. broken-first p .some (ap (λ (v : Verdict). v .rule) z)))
-      (λ e. let z : verdict 34 0 (refusedIn h) ≡ allKept = rw e at k in let w : 34 ≡ 0 = ap (λ (v : Verdict). v .number) z in absurd (omega (arith, w)))
+      (λ e. let z : brokenIn h ≡ allKept = rw e at k in ((λ n r. refused-first r .0 e), λ r n p. broken-first p .some (ap (λ (v : FaultAnswer). v .rule) z)))
+      (λ e. let z : faultAnswer 34 0 (refusedIn h) ≡ allKept = rw e at k in let w : 34 ≡ 0 = ap (λ (v : FaultAnswer). v .number) z in absurd (omega (arith, w)))

@@ -14,8 +14,8 @@ use Rattle.types.specs.Thousandths.{thousandths}
 use Rattle.account.specs.History.{Judged, any, judged, phase}
 use Rattle.events.specs.Events.{addsUp, eventsOf}
 use Rattle.events.specs.Earliest.{earliest}
-use Rattle.fault_rules.specs.declared.Verdict.{Verdict}
-use Rattle.fault_rules.specs.Figures.{invokesD, isAmount, isCounted, isZero, verdict}
+use Rattle.fault_rules.specs.declared.FaultAnswer.{FaultAnswer}
+use Rattle.fault_rules.specs.Figures.{invokesD, isAmount, isCounted, isZero, faultAnswer}
 
 -- ---- what an event is
 
@@ -68,26 +68,26 @@ breaks j h = cond (misplaced j h) 1 (cond (falls j h) 2 (cond (charges j h) 3 (c
 
 -- ---- the answer
 
-abbrev pub allKept : Verdict
-allKept = verdict 0 0 0
+abbrev pub allKept : FaultAnswer
+allKept = faultAnswer 0 0 0
 
 -- the first event that is refused, or 0
 abbrev pub refusedIn : List Judged → ℕ
 refusedIn h = earliest (λ j. isRefusal (j .outcome .number)) h
 
 -- the first event that breaks a rule, and the rule
-abbrev pub brokenIn : List Judged → Verdict
+abbrev pub brokenIn : List Judged → FaultAnswer
 brokenIn [] = allKept
-brokenIn (j ∷ h) = cond (eqb (brokenIn h .rule) 0) (cond (eqb (breaks j h) 0) allKept (verdict 0 (breaks j h) (length h + 1))) (brokenIn h)
+brokenIn (j ∷ h) = cond (eqb (brokenIn h .rule) 0) (cond (eqb (breaks j h) 0) allKept (faultAnswer 0 (breaks j h) (length h + 1))) (brokenIn h)
 
 -- an event refused in the list is 34 with its number, before every rule
-unfoldable pub faultIn : List Judged → Verdict
-faultIn h = cond (eqb (refusedIn h) 0) (brokenIn h) (verdict 34 0 (refusedIn h))
+unfoldable pub faultIn : List Judged → FaultAnswer
+faultIn h = cond (eqb (refusedIn h) 0) (brokenIn h) (faultAnswer 34 0 (refusedIn h))
 
 -- of a list of events as they came
-unfoldable pub faultOf : List Given → Verdict
+unfoldable pub faultOf : List Given → FaultAnswer
 faultOf l = faultIn (judged (reverse l))
 
 -- of a list in slices; slices that are no list are 48
-unfoldable pub faultAt : List ℕ → List ℕ → Verdict
-faultAt rows octets = cond (addsUp rows (length octets)) (faultOf (eventsOf rows octets)) (verdict 48 0 0)
+unfoldable pub faultAt : List ℕ → List ℕ → FaultAnswer
+faultAt rows octets = cond (addsUp rows (length octets)) (faultOf (eventsOf rows octets)) (faultAnswer 48 0 0)

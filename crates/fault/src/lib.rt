@@ -3,8 +3,10 @@
 // The list is gone over once, with an account beside what was seen. Two currencies are remembered: that of the latest counted amount and the one before it.
 // Only an amount in a third one has the list gone over up to it again.
 use account::Account;
+use coding::refusal;
+use fault_rules::FaultAnswer;
 use fault_rules::Seen;
-use fault_rules::Verdict;
+use fault_rules::rule;
 use phases::Event;
 use phases::Outcome;
 use types::Charge;
@@ -16,10 +18,12 @@ ghost use mathlib.Core.Bool.{true};
 ghost use lib.ListN.{length};
 ghost use Rattle.account.specs.History.{judged};
 ghost use Rattle.events.specs.Events.{addsUp, eventsOf};
-ghost use Rattle.events.specs.Prefix.{before};
+ghost use Rattle.events.specs.inner.Prefix.{before};
 ghost use Rattle.fault.specs.Rules.{faultOf, faultAt};
-ghost use Rattle.fault.specs.Going.{lastNext, lastBy, judging, turnOf, latestNext, otherNext, shortBy};
-ghost use Rattle.fault.specs.Running.{fallsBy, nextOf};
+ghost use Rattle.fault.specs.inner.Going.{lastNext, lastBy, judging, turnOf, latestNext, otherNext, shortBy};
+ghost use Rattle.fault.specs.inner.Running.{fallsBy, nextOf};
+
+const LENGTHS: u32 = refusal::LENGTHS as u32;
 
 // The last counted amount of D in a currency, in thousandths; found: 0 for none.
 struct Last {
@@ -238,7 +242,7 @@ fn next(
 
 // ---- the list
 
-fn judged_all(rows: &[u16], octets: &[u8]) -> Verdict
+fn judged_all(rows: &[u16], octets: &[u8]) -> FaultAnswer
     requires { ⌜ addsUp (now rows) (length (now octets)) ≡ true ⌝ }
     ensures { λ r. ⌜ r ≡ faultOf (eventsOf (now (rows .entry)) (now (octets .entry))) ⌝ }
 {
@@ -248,7 +252,7 @@ fn judged_all(rows: &[u16], octets: &[u8]) -> Verdict
         free: 0,
         refused: 0,
         event: 0,
-        rule: 0,
+        rule: rule::KEPT,
     };
     let currency = Currency {
         count: 0,
@@ -282,13 +286,13 @@ fn judged_all(rows: &[u16], octets: &[u8]) -> Verdict
 }
 
 // Whether the exchange kept the rules, from an event list in slices.
-pub fn fault(rows: &[u16], octets: &[u8]) -> Verdict
+pub fn fault(rows: &[u16], octets: &[u8]) -> FaultAnswer
     ensures { λ r. ⌜ r ≡ faultAt (now (rows .entry)) (now (octets .entry)) ⌝ }
 {
     if !events::adds_up(rows, octets.len()) {
-        return Verdict {
-            number: 48,
-            rule: 0,
+        return FaultAnswer {
+            number: LENGTHS,
+            rule: rule::KEPT,
             event: 0,
         };
     }

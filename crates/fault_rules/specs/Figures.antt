@@ -12,7 +12,7 @@ use Rattle.outcomes.specs.Outcome.{was}
 use Rattle.octets.specs.Each.{each}
 use Rattle.same_final.specs.Same.{upTo}
 use Rattle.events.specs.Earliest.{within}
-use Rattle.fault_rules.specs.declared.Verdict.{Verdict}
+use Rattle.fault_rules.specs.declared.FaultAnswer.{FaultAnswer}
 
 -- a component that is an invoke 33 or 34
 abbrev pub invokesD : ℕ → Front → Bool
@@ -42,5 +42,5 @@ abbrev pub isZero : Charge → Bool
 isZero c = cond (eqb (c .figure .kind) 2) (eqb (c .figure .money .number) 0) (zeroUnits (c .entries) (c .figure .count))
 
 -- a number, a rule and an event
-abbrev pub verdict : ℕ → ℕ → ℕ → Verdict
-verdict n r e = record { number = n; rule = r; event = e }
+abbrev pub faultAnswer : ℕ → ℕ → ℕ → FaultAnswer
+faultAnswer n r e = record { number = n; rule = r; event = e }

@@ -1,17 +1,36 @@
 // Says whether an event breaks a rule that the exchange has to keep, by value, and what is remembered of the events so far.
+use coding::refusal;
 use phases::Outcome;
 use types::Charge;
 use types::Entries;
 use types::Front;
+use types::charge_kind;
+use types::frame;
+use types::operation;
 ghost use mathlib.Core.Path.{_≡_};
 ghost use lib.Dec.{eqb};
 ghost use Rattle.outcomes.specs.Outcome.{isRefusal};
 ghost use Rattle.fault_rules.specs.Figures.{invokesD, amountKind, isCounted, nothingBy, zeroUnits, isZero};
-ghost use Rattle.fault_rules.specs.Breaking.{placedBy, misplacedBy, moneyBy, chargesBy, breaksBy, freeNext, seenNext, concluded};
+ghost use Rattle.fault_rules.specs.inner.Breaking.{placedBy, misplacedBy, moneyBy, chargesBy, breaksBy, freeNext, seenNext, concluded};
+
+const IN_LIST: u32 = refusal::IN_LIST as u32;
+
+// The rules, each by its name in include/aoc.h.
+pub mod rule {
+    pub const KEPT: u32 = 0;
+
+    pub const PLACE: u32 = 1;
+
+    pub const FALL: u32 = 2;
+
+    pub const FREE: u32 = 3;
+
+    pub const FINAL: u32 = 4;
+}
 
 // number: 0; 34 for a list with a refused event; 48 for slices that are no event list. rule: 1 to 4, or 0 for none broken. event: its number, from 1; 0 for none.
 #[repr(C)]
-pub struct Verdict {
+pub struct FaultAnswer {
     pub number: u32,
     pub rule: u32,
     pub event: u64,
@@ -30,44 +49,44 @@ pub struct Seen {
 fn is_counted(o: Outcome) -> bool
     ensures { λ r. ⌜ r ≡ isCounted o ⌝ }
 {
-    if o.number == 21 {
+    if o.number == outcomes::NEW_RUNNING {
         return true;
     }
-    o.number == 22
+    o.number == outcomes::FINAL
 }
 
 fn is_refused(n: u8) -> bool
     ensures { λ r. ⌜ r ≡ isRefusal n ⌝ }
 {
-    if events::within(1, n, 8) {
+    if events::within(refusal::CUT, n, refusal::UNKNOWN_ERROR) {
         return true;
     }
-    if events::within(40, n, 45) {
+    if events::within(refusal::MISSING, n, refusal::PAST_LIMIT) {
         return true;
     }
-    events::within(13, n, 14)
+    events::within(refusal::BAD_SETUP, n, refusal::WRONG_PHASE)
 }
 
 // Whether an event of a kind, with a component's front, is an invoke of D.
 pub fn invokes_d(kind: u8, f: Front) -> bool
     ensures { λ r. ⌜ r ≡ invokesD kind f ⌝ }
 {
-    if kind != 5 {
+    if kind != phases::COMPONENT {
         return false;
     }
-    if f.frame != 1 {
+    if f.frame != frame::INVOKE {
         return false;
     }
-    events::within(33, f.operation, 34)
+    events::within(operation::D_CURRENCY, f.operation, operation::D_UNITS)
 }
 
 fn is_amount(kind: u8) -> bool
     ensures { λ r. ⌜ r ≡ amountKind kind ⌝ }
 {
-    if kind == 2 {
+    if kind == charge_kind::MONEY {
         return true;
     }
-    kind == 3
+    kind == charge_kind::UNITS
 }
 
 // Whether an entry has no number but zero.
@@ -99,7 +118,7 @@ fn zero_units(e: Entries, count: u8) -> bool
 fn is_zero(c: Charge) -> bool
     ensures { λ r. ⌜ r ≡ isZero c ⌝ }
 {
-    if c.figure.kind == 2 {
+    if c.figure.kind == charge_kind::MONEY {
         return c.figure.money.number == 0;
     }
     let e = c.entries;
@@ -112,10 +131,10 @@ fn is_placed(phase: u8, total: u8) -> bool
     ensures { λ r. ⌜ r ≡ placedBy phase total ⌝ }
 {
     if total == 0 {
-        return phase == 2;
+        return phase == phases::ACTIVE;
     }
     if total == 1 {
-        return phase == 3;
+        return phase == phases::CLEARING;
     }
     false
 }
@@ -139,7 +158,7 @@ pub fn counted_money(d: bool, kind: u8, o: Outcome) -> bool
     if !d {
         return false;
     }
-    if kind != 2 {
+    if kind != charge_kind::MONEY {
         return false;
     }
     is_counted(o)
@@ -165,18 +184,18 @@ pub fn breaks_of(d: bool, phase: u8, c: Charge, o: Outcome, free: u64, falls: bo
     ensures { λ r. ⌜ r ≡ breaksBy d phase c o (eqb free 1) falls ⌝ }
 {
     if misplaced(d, phase, c.figure.kind, c.figure.total) {
-        return 1;
+        return rule::PLACE;
     }
     if falls {
-        return 2;
+        return rule::FALL;
     }
     if charges(d, c, free) {
-        return 3;
+        return rule::FREE;
     }
-    if o.number == 29 {
-        return 4;
+    if o.number == outcomes::CONFLICT {
+        return rule::FINAL;
     }
-    0
+    rule::KEPT
 }
 
 // ---- what is kept
@@ -187,7 +206,7 @@ fn free_next(free: u64, d: bool, kind: u8, o: Outcome) -> u64
     if !d {
         return free;
     }
-    if kind != 1 {
+    if kind != charge_kind::FREE {
         return free;
     }
     if is_counted(o) { 1 } else { free }
@@ -199,7 +218,7 @@ pub fn seen_next(s: Seen, d: bool, kind: u8, o: Outcome, rule: u32, n: u64) -> S
 {
     let free = free_next(s.free, d, kind, o);
     let refused = events::or_else(s.refused, is_refused(o.number), n);
-    if s.rule != 0 {
+    if s.rule != rule::KEPT {
         return Seen {
             free,
             refused,
@@ -207,7 +226,7 @@ pub fn seen_next(s: Seen, d: bool, kind: u8, o: Outcome, rule: u32, n: u64) -> S
             rule: s.rule,
         };
     }
-    let event = events::or_else(0, rule != 0, n);
+    let event = events::or_else(0, rule != rule::KEPT, n);
     Seen {
         free,
         refused,
@@ -216,17 +235,17 @@ pub fn seen_next(s: Seen, d: bool, kind: u8, o: Outcome, rule: u32, n: u64) -> S
     }
 }
 
-pub fn concluded(s: Seen) -> Verdict
+pub fn concluded(s: Seen) -> FaultAnswer
     ensures { λ r. ⌜ r ≡ concluded s ⌝ }
 {
     if s.refused != 0 {
-        return Verdict {
-            number: 34,
-            rule: 0,
+        return FaultAnswer {
+            number: IN_LIST,
+            rule: rule::KEPT,
             event: s.refused,
         };
     }
-    Verdict {
+    FaultAnswer {
         number: 0,
         rule: s.rule,
         event: s.event,

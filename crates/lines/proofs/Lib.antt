@@ -1,5 +1,2 @@
--- What the proofs of this crate cite, and what the program means.
-pub mod Steps
-pub mod Texts
+-- What the proofs of this crate cite.
 pub mod Replies
-pub mod Meaning

@@ -4,7 +4,7 @@ use Rattle.coding.proofs.Laws.{Octets}
 use Rattle.types.{specs.declared.Answer.Answer, specs.Frames.component, specs.Frames.readOf, specs.Frames.accepted, proofs.Theorems.refusal, proofs.Theorems.no-offset}
 use Rattle.types.{proofs.Theorems.read-fits}
 use Rattle.write.specs.{declared.Written.Written, Outcome.writeOf, Outcome.leftOf, Outcome.done}
-use Rattle.lines.specs.{Text.hexText, Text.refusedText, Lines.textFor}
+use Rattle.lines_rules.specs.{Text.hexText, Text.refusedText, Lines.textFor}
 
 -- the writer has put the shortest form of what was read
 pub record Formed (s : List ℕ) (w : Written) (q : List ℕ) : Type 0 where

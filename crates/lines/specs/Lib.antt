@@ -1,3 +1,1 @@
-pub mod Text
-pub mod Lines
-pub mod Machine
+pub mod inner

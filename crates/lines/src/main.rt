@@ -2,24 +2,22 @@
 // holds, `refused N`, or `bad line`.
 //
 // Proved: every function is safe and ends. The answers that `run` puts into its buffer are those of the machine of
-// specs/Machine.antt, and that machine's text for an input is `outputOf` it (specs/Lines.antt; proofs/Meaning.antt), however
+// lines_rules/specs/inner/Machine.antt, and that machine's text for an input is `outputOf` it (Lines.antt and Meaning.antt there), however
 // the input comes in parts and however long its lines are.
 // Not proved, since no contract can say what is read or written: that each part of the input is handed on once, that `once`
 // closes a last line, and that the answers go out whole and in order. tests/lines.sh compares that with the second program.
-mod input;
-mod output;
-
-use input::Line;
 use libc::STDERR_FILENO;
 use libc::STDIN_FILENO;
 use libc::STDOUT_FILENO;
+use lines_rules::Line;
 ghost use mathlib.Core.Path.{_≡_};
 ghost use mathlib.Core.Bool.{true};
 ghost use Prim.Native.Nat.{_+_, _≤_, _<_};
 ghost use lib.ListN.{length};
-ghost use Rattle.coding.specs.Written.{Wrote};
-ghost use Rattle.lines.specs.Lines.{textFor};
-ghost use Rattle.lines.specs.Machine.{answerText, Ran, Carried};
+ghost use Rattle.coding.specs.inner.Written.{Wrote};
+ghost use Rattle.lines_rules.specs.Lines.{textFor};
+ghost use Rattle.lines_rules.specs.inner.Machine.{answerText};
+ghost use Rattle.lines.specs.inner.Ran.{Ran, Carried};
 
 // The answer to the octets of a line.
 fn answer_to(octets: &[u8], out: &mut [u8; 65536], from: usize) -> usize
@@ -30,17 +28,17 @@ fn answer_to(octets: &[u8], out: &mut [u8; 65536], from: usize) -> usize
     let a = read::read(octets);
     let number = a.number;
     if number != 0 {
-        return output::put_refused(number, out, from);
+        return lines_rules::put_refused(number, out, from);
     }
     let value = a.value;
     let mut form = [0u8; 254];
     let w = write::write(value, &mut form);
     let refusal = w.number;
     if refusal != 0 {
-        return output::put_refused(refusal, out, from);
+        return lines_rules::put_refused(refusal, out, from);
     }
     let n = w.count as usize;
-    output::put_octets(&form, n, out, from)
+    lines_rules::put_octets(&form, n, out, from)
 }
 
 // The answer to a line that ends here.
@@ -49,12 +47,12 @@ fn answer(l: Line, octets: &[u8], out: &mut [u8; 65536], from: usize) -> usize
     ensures { λ r. ⌜ Wrote (now (out .entry)) (now (out .exit)) from (answerText l (now (octets .entry))) r ⌝ }
     ensures { λ r. ⌜ r ≤ from + 762 ⌝ }
 {
-    if !input::is_whole(l) {
-        return output::put_bad(out, from);
+    if !lines_rules::is_whole(l) {
+        return lines_rules::put_bad(out, from);
     }
     let n = l.count;
     if octets.len() < n {
-        return output::put_refused(3, out, from);
+        return lines_rules::put_refused(3, out, from);
     }
     answer_to(&octets[..n], out, from)
 }
@@ -75,12 +73,12 @@ fn run(s: &[u8], from: usize, l: Line, octets: &mut [u8; 254], out: &mut [u8; 65
     let mut line = l;
     let mut used = 0;
     while at < s.len() && used <= 64774 {
-        let w = input::take_line(s, at, line, octets);
+        let w = lines_rules::take_line(s, at, line, octets);
         at = w.at;
         line = w.line;
         if w.ended {
             used = answer(line, octets, out, used);
-            line = input::new_line();
+            line = lines_rules::new_line();
         }
     }
     Done { line, at, used }
@@ -93,7 +91,7 @@ fn written(out: &[u8], used: usize) -> bool {
     false
 }
 
-// A write that fails is told of on standard error.
+// A write that fails is reported on standard error.
 fn put(out: &[u8], used: usize) -> bool {
     if written(out, used) {
         return true;
@@ -127,7 +125,7 @@ fn chunk(s: &[u8], l: Line, octets: &mut [u8; 254], out: &mut [u8; 65536]) -> Le
 }
 
 // Reads once and answers what came. Where no more comes, a line that nothing ended is answered if it has a character. A read
-// that fails is told of, and ends the program: the line may go on in what was not read, so it is not answered.
+// that fails is reported, and ends the program: the line may go on in what was not read, so it is not answered.
 fn once(l: Line, octets: &mut [u8; 254], buf: &mut [u8], out: &mut [u8; 65536]) -> Left {
     let got = libc::read(STDIN_FILENO, buf);
     if got < 0 {
@@ -152,7 +150,7 @@ fn once(l: Line, octets: &mut [u8; 254], buf: &mut [u8], out: &mut [u8; 65536]) 
 
 // No input takes as many reads as a u64 counts: the counter is there for the proof that the loop ends.
 fn all(octets: &mut [u8; 254], buf: &mut [u8; 65536], out: &mut [u8; 65536]) {
-    let mut line = input::new_line();
+    let mut line = lines_rules::new_line();
     let mut turns = u64::MAX;
     while turns > 0 {
         let left = once(line, octets, buf, out);

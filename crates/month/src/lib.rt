@@ -1,17 +1,26 @@
 // A month's figures per currency: closing figures are added one after another.
 //
 // The month is handed over by value. A host's memory may hold anything: every value has its answer.
+use coding::refusal;
 use month_rows::Grid;
 use month_rows::Row;
 use types::Charge;
 use types::Currency;
 use types::Entries;
 use types::Money;
+use types::charge_kind;
 ghost use Prim.Native.Nat.{_<_};
 ghost use mathlib.Core.Path.{_≡_};
 ghost use Rattle.same_final.specs.Same.{upTo};
 ghost use Rattle.month_rows.specs.Rows.{rowOf};
 ghost use Rattle.month.specs.Month.{used, withMoney, withFree, withUnits, withPlace, added, addOf, emptyMonth};
+
+// As wide as the answer has them.
+const BAD_RECORD: u64 = refusal::BAD_RECORD as u64;
+
+const MONTH_FULL: u64 = refusal::MONTH_FULL as u64;
+
+const CURRENCIES_FULL: u64 = refusal::CURRENCIES_FULL as u64;
 
 // added: how many figures. count: how many rows are used. absent: entries of units not available. free: free calls. units: the sum for each type, 0 for none.
 #[repr(C)]
@@ -94,21 +103,21 @@ pub fn add(m: Month, service: u32, c: Charge) -> Added
     let currency = x.currency;
     let rows = m.rows;
     if !closing::in_range(service, c) {
-        return answer(10, m);
+        return answer(BAD_RECORD, m);
     }
     if 4096 <= m.added {
-        return answer(46, m);
+        return answer(MONTH_FULL, m);
     }
-    if f.kind == 2 {
+    if f.kind == charge_kind::MONEY {
         let n = same_final::places(m.count, 16);
         let i = month_rows::row_of(rows, n, currency);
         if i == 16 {
-            return answer(47, m);
+            return answer(CURRENCIES_FULL, m);
         }
         let paid = with_money(m, x, i, n);
         return answer(0, with_place(paid, service, f.billed, f.billing));
     }
-    if f.kind == 1 {
+    if f.kind == charge_kind::FREE {
         let free = with_free(m);
         return answer(0, with_place(free, service, f.billed, f.billing));
     }

@@ -1,6 +1,7 @@
 // The parts of a month's totals, by value: the rows of currencies, the sums of units by type, the table of services and billing identifications.
 //
 // A host's memory may hold anything. A count past its places counts them all, and a sum wraps where no month that began empty has it so: every value has its answer.
+use requests::closing_service;
 use types::Currency;
 use types::Entries;
 use types::Units;
@@ -154,7 +155,7 @@ pub fn sum_units(units: [u64; 17], absent: u32, e: Entries, n: usize) -> Sums
 fn service_line(service: u32) -> usize
     ensures { λ r. ⌜ (r ≡ serviceLine service) × (r < 2) ⌝ }
 {
-    if service == 2 { 0 } else { 1 }
+    if service == closing_service::D { 0 } else { 1 }
 }
 
 fn billing_column(billed: u8, billing: u8) -> usize

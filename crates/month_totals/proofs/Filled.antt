@@ -25,9 +25,7 @@ pub sum-small : (t : Posted → Bool) {h : List Posted} → AllFine h → total 
 sum-small t none = omega arith
 sum-small t (more {p} {h} f s) =
     let z = sum-small t s in let y = suc-mul (length h) 16777215000000 in let a = f .amount in
-    by-cases (t p)
-    (λ q. let e : total amountIn (which t (p ∷ h)) ≡ amountIn p + total amountIn (which t h) = rw q refl in omega (arith, z, y, a, e))
-    (λ q. let e : total amountIn (which t (p ∷ h)) ≡ total amountIn (which t h) = rw q refl in omega (arith, z, y, a, e))
+    by-cases (t p) (λ q. rw q (omega (arith, z, y, a))) (λ q. rw q (omega (arith, z, y, a)))
 
 -- ---- the rows that are used
 

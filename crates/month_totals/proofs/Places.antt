@@ -1,8 +1,8 @@
 -- The table: each place counts those figures that belong there. Assumes nothing.
-use Rattle.prelude.proofs.Prelude.{ℕ, suc, _+_, _^_, _<_, _≡_, refl, sym, _∙_, ap, ap₂, List, [], _∷_, Bool, true, false, _&&_, eqb, eqb-true, eqb-false, eq-eqb, arith, length, getD}
+use Rattle.prelude.proofs.Prelude.{ℕ, _+_, _^_, _<_, _≡_, refl, sym, _∙_, ap, ap₂, List, [], _∷_, Bool, true, false, _&&_, eqb, eqb-true, eqb-false, eq-eqb, arith, length, getD}
 use Rattle.prelude.proofs.Prelude.{length-set, mod-eq-of-lt}
 use lib.Seq.{getD-set-same, getD-set-other}
-use Rattle.coding.proofs.Basic.{and-left, and-right, picked, unpicked}
+use Rattle.coding.proofs.Basic.{and-left, and-right, unpicked}
 use Rattle.coding.proofs.Rows.{rows-table}
 use Rattle.coding.specs.Rows.{table}
 use Rattle.prelude.proofs.Ways.{by-cases}
@@ -15,9 +15,8 @@ use Rattle.month_totals.proofs.Ranges.{Fine}
 
 pub counts-more : (t : Posted → Bool) (p : Posted) (h : List Posted) → length h < 4096 → t p ≡ true → plus 32 (length (which t h)) 1 ≡ length (which t (p ∷ h))
 counts-more t p h few q =
-    let z = fewer t h in
-    mod-eq-of-lt (let y : length (which t h) + 1 < 2 ^ 32 = omega (arith, z, few) in y) ∙ (let y : length (which t h) + 1 ≡ suc (length (which t h)) = omega arith in y)
-    ∙ ap length (sym (picked (p ∷ which t h) (which t h) q))
+    let fits : length (which t h) + 1 < 2 ^ 32 = omega (arith, fewer t h, few) in
+    rw (q, mod-eq-of-lt fits) (omega arith)
 
 pub line-small : (s : ℕ) → serviceLine s < 2
 line-small s = by-cases (eqb s 2) (λ q. rw q (omega arith)) (λ q. rw q (omega arith))

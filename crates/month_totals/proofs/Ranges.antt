@@ -5,8 +5,8 @@ use Rattle.coding.{specs.Codec.all, proofs.Basic.and-left, proofs.Basic.and-rig
 use Rattle.prelude.proofs.Ways.{by-cases}
 use Rattle.phases.proofs.Choice.{by-number, never}
 use Rattle.types.specs.{declared.Units.Units, declared.Figure.Figure, declared.Charge.Charge, Entries.unit, Entries.unitAt, Entries.unitList, Arguments.isKind}
-use Rattle.write_tests.{specs.Fine.billingFine, specs.Fine.unbilled, specs.Fine.pricedMarks, specs.Fine.bareKind, specs.Fine.marksFine}
-use Rattle.write_tests.{specs.Fine.figureFine, specs.Fine.entriesFine, proofs.Valid.charge-fine}
+use Rattle.write_tests.{specs.inner.Fine.billingFine, specs.inner.Fine.unbilled, specs.inner.Fine.pricedMarks, specs.inner.Fine.bareKind, specs.inner.Fine.marksFine}
+use Rattle.write_tests.{specs.inner.Fine.figureFine, specs.inner.Fine.entriesFine, proofs.Valid.charge-fine}
 use Rattle.write_charges.proofs.{Charged.units-valid, Entry.unit-is}
 use Rattle.amounts.proofs.Bounded.{bounded}
 use Rattle.closing.{specs.Range.closingService, specs.Range.operationOf, specs.Range.inRange, proofs.Small.operation-range, proofs.Small.small}

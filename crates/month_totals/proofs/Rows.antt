@@ -5,7 +5,7 @@ use Rattle.prelude.proofs.Ways.{by-cases}
 use Rattle.phases.proofs.Choice.{never}
 use Rattle.types.specs.declared.Currency.{Currency}
 use Rattle.amounts.{specs.Currency.equalCurrency, proofs.Currencies.reflexive, proofs.Currencies.symmetric, proofs.Currencies.transitive}
-use Rattle.month_rows.specs.{declared.Row.Row, Rows.plus, Rows.newRow, Rows.oneMore, Rows.raise}
+use Rattle.month_rows.specs.{declared.Row.Row, Rows.newRow, Rows.oneMore, Rows.raise}
 use Rattle.month_totals.specs.Totals.{Posted, which, total, currencyOf, amountIn, isMoneyCall, inCurrency, appears, currencies, rowBy, rowsBy, allDiffer}
 
 -- ---- equal currencies
@@ -88,9 +88,8 @@ module _ (p : Posted) (h : List Posted) where
         → raise c (amountIn p) (length l) (map (rowBy h) l ++ (z ∷ zs)) ≡ map (rowBy (p ∷ h)) (l ++ (c ∷ [])) ++ zs
     unfolding raise
     raise-new [] z zs k none =
-        let w : which (inCurrency c) (p ∷ h) ≡ p ∷ [] = one-in c (reflexive c) ∙ ap (λ (t : List Posted). p ∷ t) none in
-        ap (λ (t : ℕ). newRow c t ∷ zs) (let y : amountIn p ≡ amountIn p + 0 = omega arith in y)
-        ∙ ap (λ (t : List Posted). record { currency = c; unused = 0; calls = length t; sum = total amountIn t } ∷ zs) (sym w)
+        let y : amountIn p ≡ amountIn p + 0 = omega arith in
+        rw (one-in c (reflexive c), none) (ap (λ (t : ℕ). newRow c t ∷ zs) y)
     raise-new (d ∷ l) z zs k none =
         by-cases (equalCurrency d c) (λ q. never (sym (rw q at k)))
         (λ q. unpicked _ _ q ∙ ap₂ (λ (x : Row) (y : List Row). x ∷ y) (miss d (missed d q)) (raise-new l z zs (rw q at k) none))
@@ -111,11 +110,9 @@ module _ (p : Posted) (h : List Posted) where
       hit : (d : Currency) → equalCurrency d c ≡ true → oneMore (rowBy h d) (amountIn p) ≡ rowBy (p ∷ h) d
       hit d q =
           let l : List Posted = which (inCurrency d) h in
-          let a : plus 32 (length l) 1 ≡ length (which (inCurrency d) (p ∷ h)) =
-          mod-eq-of-lt (calls-fit d) ∙ (let z : length l + 1 ≡ suc (length l) = omega arith in z) ∙ ap length (sym (one-in d q)) in
-          let b : plus 64 (total amountIn l) (amountIn p) ≡ total amountIn (which (inCurrency d) (p ∷ h)) =
-          mod-eq-of-lt (sum-fits d) ∙ (let z : total amountIn l + amountIn p ≡ amountIn p + total amountIn l = omega arith in z) ∙ ap (total amountIn) (sym (one-in d q)) in
-          ap₂ (λ (x y : ℕ). record { currency = d; unused = 0; calls = x; sum = y }) a b
+          let a : length l + 1 ≡ suc (length l) = omega arith in
+          let b : total amountIn l + amountIn p ≡ amountIn p + total amountIn l = omega arith in
+          rw (one-in d q, mod-eq-of-lt (calls-fit d), mod-eq-of-lt (sum-fits d), a, b) refl
 
       raise-known : (l : List Currency) (zs : List Row) → allDiffer l ≡ true → appears c l ≡ true
           → raise c (amountIn p) (length l) (map (rowBy h) l ++ zs) ≡ map (rowBy (p ∷ h)) l ++ zs

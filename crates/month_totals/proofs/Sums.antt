@@ -33,8 +33,8 @@ module _ (p : Posted) (h : List Posted) where
   calls-miss : (l : List Currency) → ((d : Currency) → appears d l ≡ true → inCurrency d p ≡ false) → total (callsIn (p ∷ h)) l ≡ total (callsIn h) l
   calls-miss [] n = refl
   calls-miss (d ∷ l) n =
-      ap₂ _+_ (ap length (unpicked (p ∷ which (inCurrency d) h) (which (inCurrency d) h) (n d (rw (reflexive d) refl))))
-      (calls-miss l (λ e a. n e (by-cases (equalCurrency d e) (λ q. rw q refl) (λ q. rw q a))))
+      let rest = calls-miss l (λ e a. n e (by-cases (equalCurrency d e) (λ q. rw q refl) (λ q. rw q a))) in
+      rw (n d (rw (reflexive d) refl)) (omega (arith, rest))
 
   module _ (m : isMoneyCall p ≡ true) where
     abbrev c : Currency
@@ -48,12 +48,10 @@ module _ (p : Posted) (h : List Posted) where
     calls-hit [] a k = never k
     calls-hit (d ∷ l) a k =
         by-cases (equalCurrency d c)
-        (λ q. let x : callsIn (p ∷ h) d ≡ suc (callsIn h d) = ap length (one-in p h m d q) in
+        (λ q. let x = ap length (one-in p h m d q) in
         let y = calls-miss l (strange l (appears-same c d l (symmetric d c q) ∙ not-true (appears d l) (and-left (not (appears d l)) (allDiffer l) a))) in
         omega (arith, x, y))
-        (λ q. let x : callsIn (p ∷ h) d ≡ callsIn h d = ap length (unpicked (p ∷ which (inCurrency d) h) (which (inCurrency d) h) (missed p h m d q)) in
-        let y = calls-hit l (and-right (not (appears d l)) (allDiffer l) a) (rw q at k) in
-        omega (arith, x, y))
+        (λ q. let y = calls-hit l (and-right (not (appears d l)) (allDiffer l) a) (rw q at k) in rw (missed p h m d q) (omega (arith, y)))
 
 all-calls : (h : List Posted) → total (callsIn h) (currencies h) ≡ length (which isMoneyCall h)
 all-calls [] = refl
@@ -66,8 +64,8 @@ all-calls (p ∷ h) =
     let none-before : callsIn h (currencyOf p) ≡ 0 = ap length (none-yet (currencyOf p) h k) in
     let rest = calls-miss p h (currencies h) (strange p h m (currencies h) k) in
     let split = total-append (callsIn (p ∷ h)) (currencies h) (currencyOf p ∷ []) in
-    ap (total (callsIn (p ∷ h))) (grows p h m k) ∙ split ∙ (let z = all-calls h in
-    let y : total (callsIn (p ∷ h)) (currencies h) + (callsIn (p ∷ h) (currencyOf p) + 0) ≡ length (which isMoneyCall (p ∷ h)) = omega (arith, one, none-before, rest, z, w) in y)))
+    let all = ap (total (callsIn (p ∷ h))) (grows p h m k) ∙ split in
+    omega (arith, all, one, none-before, rest, all-calls h, w)))
     (λ m. let same : currencies (p ∷ h) ≡ currencies h = rw m refl in
     ap (total (callsIn (p ∷ h))) same ∙ calls-miss p h (currencies h) (λ d a. rw m refl) ∙ all-calls h ∙ ap length (sym (unpicked (p ∷ which isMoneyCall h) (which isMoneyCall h) m)))
 
@@ -155,19 +153,11 @@ appears-kept d c n (e ∷ l) =
 firsts-more : (c : Currency) (l : List Currency) → firsts (l ++ (c ∷ [])) ≡ cond (appears c (firsts l)) (firsts l) (firsts l ++ (c ∷ []))
 firsts-more c [] = refl
 firsts-more c (d ∷ l) =
-    let whole = ap (λ (k : List Currency). d ∷ others d k) (firsts-more c l) in
-    let cut = ap (λ (k : List Currency). d ∷ k) (which-append (λ e. not (equalCurrency d e)) (firsts l) (c ∷ [])) in
-    by-cases (equalCurrency d c)
-    (λ q. let none-new : others d (c ∷ []) ≡ [] = rw q refl in
-    whole ∙ by-cases (appears c (firsts l)) (λ a. ap (λ (k : List Currency). d ∷ others d k) (picked _ _ a))
-    (λ a. ap (λ (k : List Currency). d ∷ others d k) (unpicked _ _ a) ∙ cut ∙ ap (λ (k : List Currency). d ∷ others d (firsts l) ++ k) none-new
-    ∙ ap (λ (k : List Currency). d ∷ k) (append-nil (others d (firsts l))))
-    ∙ sym (picked _ _ (ap (λ (b : Bool). b || appears c (others d (firsts l))) q)))
-    (λ q. let one-new : others d (c ∷ []) ≡ c ∷ [] = rw q refl in
-    let there : (equalCurrency d c || appears c (others d (firsts l))) ≡ appears c (firsts l) = ap (λ (b : Bool). b || appears c (others d (firsts l))) q ∙ appears-kept d c q (firsts l) in
-    whole ∙ by-cases (appears c (firsts l))
-    (λ a. ap (λ (k : List Currency). d ∷ others d k) (picked _ _ a) ∙ sym (picked _ _ (there ∙ a)))
-    (λ a. ap (λ (k : List Currency). d ∷ others d k) (unpicked _ _ a) ∙ cut ∙ ap (λ (k : List Currency). d ∷ others d (firsts l) ++ k) one-new ∙ sym (unpicked _ _ (there ∙ a))))
+    let cut = which-append (λ e. not (equalCurrency d e)) (firsts l) (c ∷ []) in
+    by-cases (appears c (firsts l))
+    (λ a. by-cases (equalCurrency d c) (λ q. rw (firsts-more c l, a, q) refl) (λ q. rw (firsts-more c l, a, q, appears-kept d c q (firsts l), a) refl))
+    (λ a. by-cases (equalCurrency d c) (λ q. rw (firsts-more c l, a, cut, q, append-nil) refl)
+    (λ q. rw (firsts-more c l, a, cut, q, appears-kept d c q (firsts l), a) refl))
 
 map-append : (l m : List Posted) → map currencyOf (l ++ m) ≡ map currencyOf l ++ map currencyOf m
 map-append [] m = refl

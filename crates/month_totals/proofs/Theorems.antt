@@ -1,13 +1,12 @@
 -- The theorems on a month. Assumes nothing.
-use Rattle.prelude.proofs.Prelude.{ℕ, _+_, _≤_, _≡_, refl, sym, _∙_, ap, ap₂, subst, List, [], _∷_, map, true, not, _&&_, eqb, leb, eqb-true, leb-false, arith, length}
-use Rattle.coding.proofs.Basic.{picked, unpicked}
+use Rattle.prelude.proofs.Prelude.{ℕ, _+_, _≤_, _≡_, refl, ap₂, List, [], _∷_, map, true, not, _&&_, leb, leb-false, arith, length}
 use Rattle.prelude.proofs.Ways.{by-cases}
 use Rattle.types.specs.{declared.Charge.Charge, declared.Currency.Currency, Arguments.isKind}
 use Rattle.closing.specs.Range.{inRange}
 use Rattle.month_rows.specs.declared.Row.{Row}
 use Rattle.month.specs.declared.Month.{Month}
 use Rattle.month.specs.Month.{emptyMonth, used, isNew, addOf}
-use Rattle.month_totals.specs.Totals.{Posted, which, total, currencyOf, amountIn, isMoneyCall, isUnitCall, inCurrency, currencies, unitsIn, absentIn, monthBy, numberAfter, keptAfter}
+use Rattle.month_totals.specs.Totals.{Posted, which, total, currencyOf, amountIn, isMoneyCall, isUnitCall, inCurrency, appears, currencies, unitsIn, absentIn, monthBy, keptAfter}
 use Rattle.month_totals.specs.Totals.{keptThrough, numbersAfter, addedTo, addAll, numbersOf, allDiffer, firsts, inOrder}
 use Rattle.month_totals.proofs.Rows.{differ}
 use Rattle.month_totals.proofs.Ranges.{AllFine, none}
@@ -36,15 +35,10 @@ record Stand (m : Month) (h l : List Posted) : Type 0 where
 
 kept-few : (h : List Posted) (p : Posted) → length h ≤ 4096 → length (keptAfter h p) ≤ 4096
 kept-few h p few =
-    by-cases (eqb (numberAfter h p) 0)
-    (λ z. by-cases (leb 4096 (length h)) (λ l. absurd (let w = eqb-true (numberAfter h p) 0 z in refused w l))
-    (λ l. subst (λ (k : List Posted). length k ≤ 4096) (sym (picked (p ∷ h) h z)) (let w = leb-false 4096 (length h) l in omega (arith, w))))
-    (λ z. subst (λ (k : List Posted). length k ≤ 4096) (sym (unpicked (p ∷ h) h z)) few)
-  where
-    refused : numberAfter h p ≡ 0 → leb 4096 (length h) ≡ true → ⊥
-    refused w l =
-        by-cases (not (inRange (p .service) (p .charge))) (λ q. let y : numberAfter h p ≡ 10 = picked _ _ q in omega (arith, w, y))
-        (λ q. let y : numberAfter h p ≡ 46 = unpicked _ _ q ∙ picked _ _ l in omega (arith, w, y))
+    by-cases (not (inRange (p .service) (p .charge))) (λ q. rw q few)
+    (λ q. by-cases (leb 4096 (length h)) (λ l. rw (q, l) few)
+    (λ l. by-cases (isMoneyCall p && (not (appears (currencyOf p) (currencies h)) && leb 16 (length (currencies h)))) (λ n. rw (q, l, n) few)
+    (λ n. let less = leb-false 4096 (length h) l in rw (q, l, n) (omega arith))))
 
 all-stand : (l : List Posted) (m : Month) (h : List Posted) → Totals m h → AllFine h → length h ≤ 4096 → Stand m h l
 all-stand [] m h t fine few = record { month = t; numbers = refl; fine = fine; few = few }
@@ -86,18 +80,11 @@ module _ (l : List Posted) where
 
   -- the calls of all rows, the free calls and the unit calls are all
   pub calls-add-up : total (λ (r : Row). r .calls) (month .rows) + month .free + length (which isUnitCall kept) ≡ month .added
-  calls-add-up =
-      ap (λ (m : Month). total (λ (r : Row). r .calls) (m .rows) + m .free + length (which isUnitCall kept)) month-totals
-      ∙ (let z = padded-calls kept in let y = kinds-add-up (from-empty .fine) in
-      let x : total (λ (r : Row). r .calls) (monthBy kept .rows) + monthBy kept .free + length (which isUnitCall kept) ≡ length kept = omega (arith, z, y) in x)
-      ∙ sym (ap (λ (m : Month). m .added) month-totals)
+  calls-add-up = rw month-totals (omega (arith, padded-calls kept, kinds-add-up (from-empty .fine)))
 
   -- so are the places of the table
   pub table-adds-up : total sum (month .grid .cells) ≡ month .added
-  table-adds-up =
-      ap (λ (m : Month). total sum (m .grid .cells)) month-totals
-      ∙ (let y = places-add-up (from-empty .fine) in let x : total sum (monthBy kept .grid .cells) ≡ length kept = omega (arith, y) in x)
-      ∙ sym (ap (λ (m : Month). m .added) month-totals)
+  table-adds-up = rw month-totals (omega (arith, places-add-up (from-empty .fine)))
 
   -- no two rows have equal currencies
   pub no-currency-twice : allDiffer (currencies kept) ≡ true

@@ -1,12 +1,11 @@
 -- The sums of units by type and the count of entries not available: picked out, then summed, where no sum wraps. Assumes nothing.
 use Rattle.prelude.proofs.Prelude.{ℕ, zero, suc, _+_, _*_, _^_, _<_, _≤_, _≡_, refl, sym, _∙_, ap, ap₂, List, [], _∷_, Bool, true, false, cond, eqb, eqb-false, eq-eqb, le-leb, arith}
-use Rattle.prelude.proofs.Prelude.{length, getD, set, length-set, mod-eq-of-lt, suc-mul}
+use Rattle.prelude.proofs.Prelude.{length, getD, length-set, mod-eq-of-lt, suc-mul}
 use lib.Seq.{getD-set-same, getD-set-other}
-use Rattle.coding.{specs.Codec.all, specs.Rows.table, proofs.Basic.and-left, proofs.Basic.and-right, proofs.Basic.picked, proofs.Basic.unpicked}
+use Rattle.coding.{specs.Codec.all, specs.Rows.table, proofs.Basic.and-left, proofs.Basic.and-right}
 use Rattle.prelude.proofs.Ways.{by-cases}
 use Rattle.phases.proofs.Choice.{by-number}
 use Rattle.types.specs.{declared.Units.Units, declared.Entries.Entries, Entries.unit, Entries.unitAt, Entries.unitList}
-use Rattle.same_final.specs.Same.{upTo}
 use Rattle.month_rows.specs.{Rows.plus, Sums.addUnit, Sums.sumUnits, Sums.countAbsent}
 use Rattle.month_totals.specs.Totals.{Posted, which, total, ofType, isAbsent, entriesOf, unitsIn, absentIn}
 use Rattle.month_totals.proofs.Filled.{fewer}
@@ -41,18 +40,12 @@ kept-length u s = by-cases (eqb (u .known) 1) (λ q. rw q (length-set s _ _)) (�
 one-unit : (u : Units) (s : List ℕ) (k : ℕ) → unit .valid u ≡ true → length s ≡ 17 → k < 17 → getD s k 0 + u .number < 2 ^ 64
     → getD (addUnit u s) k 0 ≡ getD s k 0 + cond (ofType k u) (u .number) 0
 one-unit u s k v n h f =
-    let same : upTo 16 (u .kind) ≡ u .kind = picked _ _ (le-leb (u .kind) 16 (unit-type u v)) in
-    let put : ℕ → List ℕ = λ (i : ℕ). set s i (plus 64 (getD s i 0) (u .number)) in
-    let left : ofType k u ≡ false → getD s k 0 ≡ getD s k 0 + cond (ofType k u) (u .number) 0 =
-    λ t. (let z : getD s k 0 ≡ getD s k 0 + 0 = omega arith in z) ∙ ap (λ (m : ℕ). getD s k 0 + m) (sym (unpicked _ _ t)) in
+    let small = le-leb (u .kind) 16 (unit-type u v) in
     by-cases (eqb (u .known) 1)
     (λ q. by-number (u .kind) k
-    (λ e. let t : ofType k u ≡ true = rw (q, eq-eqb (u .kind) k e) refl in
-    ap (λ (l : List ℕ). getD l k 0) (picked _ _ q) ∙ ap (λ (i : ℕ). getD (put i) k 0) (same ∙ e)
-    ∙ getD-set-same s k (plus 64 (getD s k 0) (u .number)) 0 (omega (arith, n, h)) ∙ mod-eq-of-lt f ∙ ap (λ (m : ℕ). getD s k 0 + m) (sym (picked _ _ t)))
-    (λ e. ap (λ (l : List ℕ). getD l k 0) (picked _ _ q) ∙ ap (λ (i : ℕ). getD (put i) k 0) same
-    ∙ getD-set-other s (u .kind) k (plus 64 (getD s (u .kind) 0) (u .number)) 0 (λ y. eqb-false (u .kind) k e (sym y)) ∙ left (rw (q, e) refl)))
-    (λ q. ap (λ (l : List ℕ). getD l k 0) (unpicked _ _ q) ∙ left (rw q refl))
+    (λ e. rw (q, small, e, eq-eqb k k refl, getD-set-same s k (plus 64 (getD s k 0) (u .number)) 0 (omega (arith, n, h))) (mod-eq-of-lt f))
+    (λ e. rw (q, small, e, getD-set-other s (u .kind) k (plus 64 (getD s (u .kind) 0) (u .number)) 0 (λ y. eqb-false (u .kind) k e (sym y))) (omega arith)))
+    (λ q. rw q (omega arith))
 
 -- ---- all entries of a list
 
@@ -84,9 +77,7 @@ absent-sum e i (suc n) s f =
     (λ q. let r = absent-sum e (i + 1) n s (omega (arith, f)) in rw q r)
     (λ q. let a : plus 32 s 1 ≡ s + 1 = mod-eq-of-lt (let z : s + 1 < 2 ^ 32 = omega (arith, f) in z) in
     let r = absent-sum e (i + 1) n (s + 1) (omega (arith, f)) in
-    let w : length (which isAbsent (unitAt e i ∷ entriesFrom e (i + 1) n)) ≡ suc (length (which isAbsent (entriesFrom e (i + 1) n))) = rw q refl in
-    let v : countAbsent e i (suc n) s ≡ countAbsent e (i + 1) n (s + 1) = ap (countAbsent e (i + 1) n) (unpicked _ _ q ∙ a) in
-    v ∙ r ∙ (let z : s + 1 + length (which isAbsent (entriesFrom e (i + 1) n)) ≡ s + length (which isAbsent (unitAt e i ∷ entriesFrom e (i + 1) n)) = omega (arith, w) in z))
+    rw (q, a) (omega (arith, r)))
 
 pub units-length : (e : Entries) (i n : ℕ) (s : List ℕ) → length (sumUnits e i n s) ≡ length s
 unfolding sumUnits

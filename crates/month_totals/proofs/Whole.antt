@@ -3,6 +3,7 @@ use Rattle.prelude.proofs.Prelude.{ℕ, zero, suc, _+_, _*_, _^_, _<_, _≤_, _
 use Rattle.prelude.proofs.Prelude.{eqb-true, eqb-false, le-leb, lt-leb, leb-true, leb-false, arith, length, getD, replicate, mod-eq-of-lt}
 use Rattle.coding.{specs.Codec.all, specs.Codec.pad, specs.Rows.table, proofs.Basic.picked, proofs.Basic.unpicked, proofs.Rows.rows-table}
 use Rattle.prelude.proofs.Ways.{by-cases}
+use Rattle.phases.proofs.Choice.{never}
 use Rattle.types.specs.{declared.Units.Units, declared.Charge.Charge, declared.Currency.Currency, Entries.unit}
 use Rattle.same_final.specs.Same.{upTo}
 use Rattle.closing.specs.Range.{inRange}
@@ -57,18 +58,11 @@ module _ (m : Month) (h : List Posted) (p : Posted) (t : Totals m h) (few : leng
 
   -- what is no list of units leaves the sums of units
   module _ (e : isUnitCall p ≡ false) where
-    no-entries : entriesOf p ≡ []
-    no-entries = unpicked _ _ e
-
     same-units : (k : ℕ) → k < 17 → getD (m .units) k 0 ≡ total (unitsIn k) (p ∷ h)
-    same-units k l =
-        t .units k l ∙ (let z : total (unitsIn k) h ≡ 0 + total (unitsIn k) h = omega arith in z)
-        ∙ ap (λ (es : List Units). total number (which (ofType k) es) + total (unitsIn k) h) (sym no-entries)
+    same-units k l = rw e (omega (arith, t .units k l))
 
     same-absent : m .absent ≡ total absentIn (p ∷ h)
-    same-absent =
-        t .absent ∙ (let z : total absentIn h ≡ 0 + total absentIn h = omega arith in z)
-        ∙ ap (λ (es : List Units). length (which isAbsent es) + total absentIn h) (sym no-entries)
+    same-absent = rw e (omega (arith, t .absent))
 
   -- what is no money leaves the rows
   module _ (q : isMoneyCall p ≡ false) where
@@ -87,7 +81,7 @@ module _ (m : Month) (h : List Posted) (p : Posted) (t : Totals m h) (few : leng
     }
 
   not-free : isFreeCall p ≡ false → m .free ≡ length (which isFreeCall (p ∷ h))
-  not-free k = t .free ∙ ap length (sym (unpicked (p ∷ which isFreeCall h) (which isFreeCall h) k))
+  not-free k = rw k (t .free)
 
   money-totals : isMoneyCall p ≡ true → Filled (withMoney m (c .figure .money)) (p ∷ h) → Totals (done (withMoney m (c .figure .money))) (p ∷ h)
   money-totals q filled =
@@ -129,14 +123,14 @@ module _ (m : Month) (h : List Posted) (p : Posted) (t : Totals m h) (few : leng
         let z : length h * 536870880 ≤ 4096 * 536870880 = omega (arith, few) in
         let s = units-sum (c .entries) 0 n (m .units) i (ap (all (unit .valid)) all-entries ∙ f .valid) (t .types) l (omega (arith, o, y, w, a, z)) in
         let b = ap (λ (es : List Units). total number (which (ofType i) es)) all-entries in
-        s ∙ (let r : getD (m .units) i 0 + total number (which (ofType i) (entriesFrom (c .entries) 0 n)) ≡ unitsIn i p + total (unitsIn i) h = omega (arith, o, b) in r)
+        omega (arith, s, o, b)
 
     absent-summed : after .absent ≡ total absentIn (p ∷ h)
     absent-summed =
         let o = t .absent in let y = absent-small fine in let w = up-to-most 32 (c .figure .count) in
         let s = absent-sum (c .entries) 0 n (m .absent) (omega (arith, o, y, w, few)) in
         let b = ap (λ (es : List Units). length (which isAbsent es)) all-entries in
-        s ∙ (let r : m .absent + length (which isAbsent (entriesFrom (c .entries) 0 n)) ≡ absentIn p + total absentIn h = omega (arith, o, b) in r)
+        omega (arith, s, o, b)
 
     units-totals : Totals (done after) (p ∷ h)
     units-totals = counted-totals after refl refl (record {
@@ -207,9 +201,7 @@ module _ (m : Month) (h : List Posted) (p : Posted) (t : Totals m h) (fine : All
       (λ q. stood m h p 10 m (add-10 m (p .service) (p .charge) q) (picked _ _ (ap not q)) t)
 
   accepted : eqb (numberAfter h p) 0 ≡ true → inRange (p .service) (p .charge) ≡ true
-  accepted z =
-      by-cases (inRange (p .service) (p .charge)) (λ q. q)
-      (λ q. let y : numberAfter h p ≡ 10 = picked _ _ (ap not q) in let w = eqb-true (numberAfter h p) 0 z in absurd (omega (arith, y, w)))
+  accepted z = by-cases (inRange (p .service) (p .charge)) (λ q. q) (λ q. never (rw q at z))
 
   pub still-fine : AllFine (keptAfter h p)
   still-fine =

@@ -7,7 +7,7 @@ ghost use lib.Dec.{eqb, ltb};
 ghost use Rattle.coding.specs.Reader.{part};
 ghost use Rattle.coding.specs.Codec.{sameList};
 ghost use Rattle.coding.specs.Contents.{every};
-ghost use Rattle.coding.specs.Written.{Wrote, Room};
+ghost use Rattle.coding.specs.inner.Written.{Wrote, Room};
 
 // ---- as numbers
 

@@ -2,7 +2,7 @@
 use Rattle.prelude.proofs.Prelude.{_≡_, Bool, true, false, cond}
 use Rattle.types.specs.declared.Record.{Record}
 use Rattle.phases.specs.declared.Outcome.{Outcome}
-use Rattle.outcomes.specs.{Outcome.Known, Outcome.judgeRecord, ByNumber.claimRecord, ByNumber.compared}
+use Rattle.outcomes.specs.{Outcome.Known, Outcome.judgeRecord, inner.ByNumber.claimRecord, inner.ByNumber.compared}
 
 module _ (k : Known) (x : Record) where
   each-way : (b : Bool) (p q p′ q′ : Outcome) → compared k p (x .charge) ≡ p′ → compared k q (x .charge) ≡ q′ → compared k (cond b p q) (x .charge) ≡ cond b p′ q′

@@ -1,3 +1,3 @@
 pub mod Outcome
 pub mod Status
-pub mod ByNumber
+pub mod inner

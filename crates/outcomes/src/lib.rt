@@ -3,59 +3,103 @@
 // Services are numbered 1 S, 2 D, 3 E. Phases: 0 Idle, 1 Establishment, 2 Active, 3 Clearing, 4 Ended, 5 Suspended.
 use phases::Outcome;
 use phases::Status;
+use requests::service;
 use types::Charge;
 use types::Front;
+use types::charge_kind;
+use types::frame;
+use types::operation;
 ghost use mathlib.Core.Path.{_≡_};
 ghost use mathlib.Core.Bool.{not, _&&_};
 ghost use lib.Dec.{eqb};
 ghost use Rattle.phases.specs.Phases.{outcome};
 ghost use Rattle.outcomes.specs.Outcome.{serviceOf, holderOf, judgeFinal, judgeFailure, invokeService, its};
 ghost use Rattle.outcomes.specs.Status.{requestsOf, firstFigure, noted, placeOf};
-ghost use Rattle.outcomes.specs.ByNumber.{runsBy, closesBy, claimFigure, claimInvoke, fitsBy, claimResult, claimFrame, claimRecord};
+ghost use Rattle.outcomes.specs.inner.ByNumber.{runsBy, closesBy, claimFigure, claimInvoke, fitsBy, claimResult, claimFrame, claimRecord};
 ghost use Rattle.types.specs.Stored.{withList};
+
+// The outcomes of a component, each by its name in include/aoc.h.
+pub const NEW_RATE: u8 = 20;
+
+pub const NEW_RUNNING: u8 = 21;
+
+pub const FINAL: u8 = 22;
+
+pub const NOT_AVAILABLE: u8 = 23;
+
+pub const GRANTED: u8 = 24;
+
+pub const FAILED: u8 = 25;
+
+pub const IGNORED: u8 = 26;
+
+pub const OUT_OF_PHASE: u8 = 27;
+
+pub const REPEATED: u8 = 28;
+
+pub const CONFLICT: u8 = 29;
+
+pub const NO_REQUEST: u8 = 30;
+
+pub const MISFIT: u8 = 31;
+
+pub const NOT_OURS: u8 = 32;
+
+// Where an account keeps the figure of a component, if at all.
+pub mod place {
+    pub const NONE: u16 = 0;
+
+    pub const RATE: u16 = 1;
+
+    pub const RUNNING: u16 = 2;
+
+    pub const D_FINAL: u16 = 3;
+
+    pub const E_FINAL: u16 = 4;
+}
 
 // ---- the outcome of a component, but for comparing finals: one that is claimed is 22
 
 fn service_of(operation: u8) -> u8
     ensures { λ r. ⌜ r ≡ serviceOf operation ⌝ }
 {
-    if operation <= 32 {
-        return 1;
+    if operation <= operation::S_SPECIAL {
+        return service::S;
     }
-    if operation <= 34 {
-        return 2;
+    if operation <= operation::D_UNITS {
+        return service::D;
     }
-    3
+    service::E
 }
 
 fn runs(phase: u8, service: u8, kind: u8, total: u8) -> bool
     ensures { λ r. ⌜ r ≡ runsBy phase service kind total ⌝ }
 {
-    if service != 2 {
+    if service != service::D {
         return false;
     }
-    if kind == 1 {
-        if phase == 1 {
+    if kind == charge_kind::FREE {
+        if phase == phases::ESTABLISHMENT {
             return true;
         }
-        return phase == 2;
+        return phase == phases::ACTIVE;
     }
     if total != 0 {
         return false;
     }
-    phase == 2
+    phase == phases::ACTIVE
 }
 
 fn closes(phase: u8, service: u8, kind: u8, total: u8) -> bool
     ensures { λ r. ⌜ r ≡ closesBy phase service kind total ⌝ }
 {
-    if phase != 3 {
+    if phase != phases::CLEARING {
         return false;
     }
-    if service == 3 {
+    if service == service::E {
         return true;
     }
-    if kind == 1 {
+    if kind == charge_kind::FREE {
         return true;
     }
     total == 1
@@ -65,26 +109,26 @@ fn closes(phase: u8, service: u8, kind: u8, total: u8) -> bool
 fn figure_outcome(phase: u8, service: u8, kind: u8, total: u8) -> Outcome
     ensures { λ r. ⌜ r ≡ claimFigure phase service kind total ⌝ }
 {
-    if service == 1 {
+    if service == service::S {
         return Outcome {
-            number: 20,
+            number: NEW_RATE,
             service,
         };
     }
     if runs(phase, service, kind, total) {
         return Outcome {
-            number: 21,
+            number: NEW_RUNNING,
             service,
         };
     }
     if closes(phase, service, kind, total) {
         return Outcome {
-            number: 22,
+            number: FINAL,
             service,
         };
     }
     Outcome {
-        number: 27,
+        number: OUT_OF_PHASE,
         service,
     }
 }
@@ -92,23 +136,23 @@ fn figure_outcome(phase: u8, service: u8, kind: u8, total: u8) -> Outcome
 fn invoke_outcome(t: Status, operation: u8, kind: u8, total: u8) -> Outcome
     ensures { λ r. ⌜ r ≡ claimInvoke (t .phase) (requestsOf t) operation kind total ⌝ }
 {
-    if operation == 30 {
+    if operation == operation::CHARGING_REQUEST {
         return Outcome {
-            number: 32,
-            service: 0,
+            number: NOT_OURS,
+            service: service::NONE,
         };
     }
     let service = service_of(operation);
     let asked = t.asked;
     if asked.has(service) {
         return Outcome {
-            number: 26,
+            number: IGNORED,
             service,
         };
     }
-    if kind == 0 {
+    if kind == charge_kind::NONE {
         return Outcome {
-            number: 23,
+            number: NOT_AVAILABLE,
             service,
         };
     }
@@ -130,46 +174,46 @@ fn holder(t: Status, id: u16) -> u8
 {
     let asked = t.asked;
     if matches(asked.s, t.s, id) {
-        return 1;
+        return service::S;
     }
     if matches(asked.d, t.d, id) {
-        return 2;
+        return service::D;
     }
     if matches(asked.e, t.e, id) {
-        return 3;
+        return service::E;
     }
-    0
+    service::NONE
 }
 
 fn fits(service: u8, kind: u8) -> bool
     ensures { λ r. ⌜ r ≡ fitsBy service kind ⌝ }
 {
-    if service != 1 {
-        return kind == 0;
+    if service != service::S {
+        return kind == charge_kind::NONE;
     }
-    if kind == 4 {
+    if kind == charge_kind::RATES {
         return true;
     }
-    kind == 5
+    kind == charge_kind::ARRANGEMENT
 }
 
 fn result_outcome(service: u8, kind: u8) -> Outcome
     ensures { λ r. ⌜ r ≡ claimResult service kind ⌝ }
 {
-    if service == 0 {
+    if service == service::NONE {
         return Outcome {
-            number: 30,
-            service: 0,
+            number: NO_REQUEST,
+            service: service::NONE,
         };
     }
     if fits(service, kind) {
         return Outcome {
-            number: 24,
+            number: GRANTED,
             service,
         };
     }
     Outcome {
-        number: 31,
+        number: MISFIT,
         service,
     }
 }
@@ -177,14 +221,14 @@ fn result_outcome(service: u8, kind: u8) -> Outcome
 fn failure_outcome(service: u8) -> Outcome
     ensures { λ r. ⌜ r ≡ judgeFailure service ⌝ }
 {
-    if service == 0 {
+    if service == service::NONE {
         return Outcome {
-            number: 30,
-            service: 0,
+            number: NO_REQUEST,
+            service: service::NONE,
         };
     }
     Outcome {
-        number: 25,
+        number: FAILED,
         service,
     }
 }
@@ -192,17 +236,17 @@ fn failure_outcome(service: u8) -> Outcome
 fn frame_outcome(t: Status, f: Front, kind: u8, total: u8) -> Outcome
     ensures { λ r. ⌜ r ≡ claimFrame (t .phase) (requestsOf t) f kind total ⌝ }
 {
-    if f.frame == 1 {
+    if f.frame == frame::INVOKE {
         return invoke_outcome(t, f.operation, kind, total);
     }
     let service = holder(t, f.id);
-    if f.frame == 2 {
+    if f.frame == frame::RESULT {
         return result_outcome(service, kind);
     }
     if f.unnamed == 1 {
         return Outcome {
-            number: 30,
-            service: 0,
+            number: NO_REQUEST,
+            service: service::NONE,
         };
     }
     failure_outcome(service)
@@ -212,11 +256,11 @@ fn frame_outcome(t: Status, f: Front, kind: u8, total: u8) -> Outcome
 fn service_by(f: Front) -> u8
     ensures { λ r. ⌜ r ≡ invokeService f ⌝ }
 {
-    if f.frame != 1 {
-        return 0;
+    if f.frame != frame::INVOKE {
+        return service::NONE;
     }
-    if f.operation == 30 {
-        return 0;
+    if f.operation == operation::CHARGING_REQUEST {
+        return service::NONE;
     }
     service_of(f.operation)
 }
@@ -224,10 +268,10 @@ fn service_by(f: Front) -> u8
 pub fn claimed(t: Status, f: Front, kind: u8, total: u8) -> Outcome
     ensures { λ r. ⌜ r ≡ claimRecord (t .phase) (requestsOf t) f kind total ⌝ }
 {
-    if t.phase == 5 {
+    if t.phase == phases::SUSPENDED {
         let service = service_by(f);
         return Outcome {
-            number: 27,
+            number: OUT_OF_PHASE,
             service,
         };
     }
@@ -246,9 +290,9 @@ pub fn final_outcome(
 ) -> Outcome
     ensures { λ r. ⌜ r ≡ judgeFinal (firstFigure first) service (withList figure (now (numbers .entry)) (now (rows .entry))) ⌝ }
 {
-    if first.figure.kind == 0 {
+    if first.figure.kind == charge_kind::NONE {
         return Outcome {
-            number: 22,
+            number: FINAL,
             service,
         };
     }
@@ -258,12 +302,12 @@ pub fn final_outcome(
     };
     if same_final::same(first, Charge { figure, entries }) {
         return Outcome {
-            number: 28,
+            number: REPEATED,
             service,
         };
     }
     Outcome {
-        number: 29,
+        number: CONFLICT,
         service,
     }
 }
@@ -272,17 +316,17 @@ pub fn final_outcome(
 fn settled(mut t: Status, service: u8) -> Status
     ensures { λ r. ⌜ r ≡ noted t (outcome 24 service) ⌝ }
 {
-    if service == 1 {
+    if service == service::S {
         t.asked.s = 0;
         t.s = 0;
         return t;
     }
-    if service == 2 {
+    if service == service::D {
         t.asked.d = 0;
         t.d = 0;
         return t;
     }
-    if service == 3 {
+    if service == service::E {
         t.asked.e = 0;
         t.e = 0;
         return t;
@@ -294,19 +338,19 @@ fn settled(mut t: Status, service: u8) -> Status
 pub fn noted(mut t: Status, o: Outcome) -> Status
     ensures { λ r. ⌜ r ≡ noted t o ⌝ }
 {
-    if o.number == 23 {
+    if o.number == NOT_AVAILABLE {
         let absent = t.absent;
         let more = absent.with(o.service);
         t.absent = more;
         return t;
     }
-    if o.number == 24 {
+    if o.number == GRANTED {
         return settled(t, o.service);
     }
-    if o.number == 25 {
+    if o.number == FAILED {
         return settled(t, o.service);
     }
-    if o.number == 29 {
+    if o.number == CONFLICT {
         let conflict = t.conflict;
         let more = conflict.with(o.service);
         t.conflict = more;
@@ -318,28 +362,28 @@ pub fn noted(mut t: Status, o: Outcome) -> Status
 pub fn place_of(o: Outcome) -> u16
     ensures { λ r. ⌜ r ≡ placeOf o ⌝ }
 {
-    if o.number == 20 {
-        return 1;
+    if o.number == NEW_RATE {
+        return place::RATE;
     }
-    if o.number == 21 {
-        return 2;
+    if o.number == NEW_RUNNING {
+        return place::RUNNING;
     }
-    if o.number == 22 {
-        if o.service == 2 {
-            return 3;
+    if o.number == FINAL {
+        if o.service == service::D {
+            return place::D_FINAL;
         }
-        if o.service == 3 {
-            return 4;
+        if o.service == service::E {
+            return place::E_FINAL;
         }
-        return 0;
+        return place::NONE;
     }
-    if o.number == 24 {
-        if o.service == 1 {
-            return 1;
+    if o.number == GRANTED {
+        if o.service == service::S {
+            return place::RATE;
         }
-        return 0;
+        return place::NONE;
     }
-    0
+    place::NONE
 }
 
 // ---- which outcome it is

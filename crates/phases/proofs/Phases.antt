@@ -1,6 +1,6 @@
 -- An event that is no component, by the code's tests.
 use Rattle.prelude.proofs.Prelude.{ℕ, _≡_, sym, true, false, _&&_, eqb}
-use Rattle.phases.specs.{declared.Event.Event, declared.Status.Status, Phases.Idle, Phases.Setup, Phases.clashes, Phases.moved, ByNumber.nextPhase, ByNumber.moving, ByNumber.movingOf}
+use Rattle.phases.specs.{declared.Event.Event, declared.Status.Status, Phases.Idle, Phases.Setup, Phases.clashes, Phases.moved, inner.ByNumber.nextPhase, inner.ByNumber.moving, inner.ByNumber.movingOf}
 use Rattle.phases.proofs.Transitions.{next-none, next-some}
 
 module _ (t : Status) (e : Event) (n : ℕ) (leads : n ≡ nextPhase (e .kind) (t .phase)) where

@@ -3,7 +3,7 @@ use Rattle.prelude.proofs.Prelude.{ℕ, zero, suc, _≤_, _<_, _+_, _*_, _/_, _
 use Rattle.prelude.proofs.Prelude.{leb-true}
 use Rattle.octets.{specs.Each.each, proofs.Each.each-fails}
 use Rattle.phases.specs.Phases.{Idle, Ended, Setup, Released, Component, Transition, goes, transitions, isFor, allowedBy, leadsBy, allowed, leadsTo}
-use Rattle.phases.specs.ByNumber.{nextPhase}
+use Rattle.phases.specs.inner.ByNumber.{nextPhase}
 use Rattle.prelude.proofs.Ways.{by-cases}
 use Rattle.phases.proofs.Choice.{first-of, second-of, implied, never}
 

@@ -2,13 +2,42 @@
 //
 // What a host holds is flat structs of numbers: its memory may hold anything, and any value has its answer.
 // Services are numbered 1 S, 2 D, 3 E. Phases: 0 Idle, 1 Establishment, 2 Active, 3 Clearing, 4 Ended, 5 Suspended.
+use coding::refusal;
 use requests::Services;
+use requests::service;
 ghost use mathlib.Core.Path.{_≡_};
 ghost use mathlib.Core.Bool.{_&&_};
 ghost use lib.Dec.{eqb};
 ghost use Prim.Native.Nat.{ℕ};
 ghost use Rattle.phases.specs.Phases.{clash, asking, clashes, moved};
-ghost use Rattle.phases.specs.ByNumber.{nextPhase, moving, movingOf};
+ghost use Rattle.phases.specs.inner.ByNumber.{nextPhase, moving, movingOf};
+
+// The phases and the kinds of events, each by its name in include/aoc.h.
+pub const IDLE: u8 = 0;
+
+pub const ESTABLISHMENT: u8 = 1;
+
+pub const ACTIVE: u8 = 2;
+
+pub const CLEARING: u8 = 3;
+
+pub const ENDED: u8 = 4;
+
+pub const SUSPENDED: u8 = 5;
+
+pub const SETUP: u8 = 1;
+
+pub const CONNECT: u8 = 2;
+
+pub const CLEAR: u8 = 3;
+
+pub const RELEASED: u8 = 4;
+
+pub const COMPONENT: u8 = 5;
+
+pub const SUSPEND: u8 = 6;
+
+pub const RESUME: u8 = 7;
 
 // number: 20 to 32, a refusal, or 0 for a phase event that is not refused. service: 0 for none.
 #[repr(C)]
@@ -27,7 +56,7 @@ pub struct Event {
     pub e: u16,
 }
 
-// asked: the services with a request pending, and the requests' identifiers. absent: the services told not available.
+// asked: the services with a request pending, and the requests' identifiers. absent: the services reported as not available.
 // conflict: the services with a final that differs from the first.
 #[repr(C)]
 pub struct Status {
@@ -48,7 +77,7 @@ pub struct Moving {
 }
 
 // Where each kind of event leads, in hexadecimal: the digit at a phase, counted from the right, is the phase that it leads to from there.
-// 0 stands where it is not allowed, since nothing leads to Idle.
+// 0 means that it is not allowed, since nothing leads to Idle.
 const NEXT: [u32; 8] = [0, 0x1, 0x20, 0x300330, 0x4000, 0x503210, 0x500, 0x200000];
 
 pub fn next_phase(kind: u8, phase: u8) -> u8
@@ -94,7 +123,7 @@ fn clashes(e: Event) -> bool
 fn bad_setup(e: Event) -> bool
     ensures { λ r. ⌜ r ≡ eqb (e .kind) 1 && clashes e ⌝ }
 {
-    if e.kind != 1 {
+    if e.kind != SETUP {
         return false;
     }
     clashes(e)
@@ -118,7 +147,7 @@ fn moved(mut t: Status, e: Event, phase: u8) -> Status
     ensures { λ r. ⌜ r ≡ moved t e phase ⌝ }
 {
     t.phase = phase;
-    if e.kind != 1 {
+    if e.kind != SETUP {
         return t;
     }
     let asked = e.asked;
@@ -139,7 +168,10 @@ fn moved(mut t: Status, e: Event, phase: u8) -> Status
 fn going(number: u8, status: Status) -> Moving
     ensures { λ r. ⌜ r ≡ moving number status ⌝ }
 {
-    let outcome = Outcome { number, service: 0 };
+    let outcome = Outcome {
+        number,
+        service: service::NONE,
+    };
     Moving { outcome, status }
 }
 
@@ -148,11 +180,11 @@ pub fn phase_step(t: Status, e: Event) -> Moving
     ensures { λ r. ⌜ r ≡ movingOf t e ⌝ }
 {
     let phase = next_phase(e.kind, t.phase);
-    if phase == 0 {
-        return going(14, t);
+    if phase == IDLE {
+        return going(refusal::WRONG_PHASE, t);
     }
     if bad_setup(e) {
-        return going(13, t);
+        return going(refusal::BAD_SETUP, t);
     }
     let next = moved(t, e, phase);
     going(0, next)

@@ -3,7 +3,7 @@ use Rattle.prelude.proofs.Prelude.{ℕ, zero, suc, _+_, _-_, _/_, _≤_, _<_, _
 use Rattle.phases.{specs.declared.Outcome.Outcome, specs.Phases.Given, specs.Phases.noService, proofs.Choice.by-number}
 use Rattle.outcomes.specs.Outcome.{judge}
 use Rattle.account.specs.History.{known, judged}
-use Rattle.events.{specs.Events.rowAt, specs.Events.countAt, specs.Events.eventsFrom, specs.Events.eventsOf, specs.Prefix.placeAt, specs.Prefix.octetsAt, specs.Prefix.before}
+use Rattle.events.{specs.Events.rowAt, specs.Events.countAt, specs.Events.eventsFrom, specs.Events.eventsOf, specs.inner.Prefix.placeAt, specs.inner.Prefix.octetsAt, specs.inner.Prefix.before}
 use Rattle.events.proofs.Prefix.{before-next, place-next}
 use Rattle.plain.specs.Answers.{outcomeAt}
 

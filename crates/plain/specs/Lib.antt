@@ -1,3 +1,3 @@
 pub mod Answers
-pub mod Marked
 pub mod Replay
+pub mod inner

@@ -2,9 +2,14 @@
 use account::Closing;
 use account::Marks;
 use account::Pending;
+use coding::refusal;
+use outcomes::place;
 use phases::Outcome;
 use requests::Services;
+use requests::closing_service;
+use requests::service;
 use types::Charge;
+use types::charge_kind;
 ghost use mathlib.Core.Path.{_≡_};
 ghost use mathlib.Core.Bool.{true};
 ghost use mathlib.Core.List.{[], reverse};
@@ -15,10 +20,15 @@ ghost use Rattle.outcomes.specs.Outcome.{its};
 ghost use Rattle.outcomes.specs.Status.{placeOf};
 ghost use Rattle.events.specs.Events.{addsUp, eventsOf};
 ghost use Rattle.account.specs.History.{any, last, judged, phase, requests, currentRate, running, closing, marks, pendingOf};
-ghost use Rattle.plain.specs.Marked.{toldSet};
+ghost use Rattle.plain.specs.inner.Marked.{toldSet};
 ghost use Rattle.plain.specs.Answers.{outcomeAt, plainOutcome, plainPhase, plainPending, plainCurrentRate, plainRunning, plainClosing, plainMarks};
 
-// ---- what is kept and what was told
+// As wide as the answers have it.
+const LENGTHS: u16 = refusal::LENGTHS as u16;
+
+const WIDE_LENGTHS: u32 = refusal::LENGTHS as u32;
+
+// ---- what is kept and what was reported
 
 // The charge of the last event whose outcome keeps it at a place: 1 the rate, 2 the running figure, 3 the final of D, 4 the final of E.
 fn last_kept(rows: &[u16], octets: &[u8], place: u16) -> Charge
@@ -62,9 +72,9 @@ fn told_set(rows: &[u16], octets: &[u8], number: u8) -> Services
     requires { ⌜ addsUp (now rows) (length (now octets)) ≡ true ⌝ }
     ensures { λ r. ⌜ r ≡ toldSet number (judged (reverse (eventsOf (now (rows .entry)) (now (octets .entry))))) ⌝ }
 {
-    let s = flag(told(rows, octets, 1, number));
-    let d = flag(told(rows, octets, 2, number));
-    let e = flag(told(rows, octets, 3, number));
+    let s = flag(told(rows, octets, service::S, number));
+    let d = flag(told(rows, octets, service::D, number));
+    let e = flag(told(rows, octets, service::E, number));
     Services { s, d, e }
 }
 
@@ -98,42 +108,42 @@ fn rate_in(rows: &[u16], octets: &[u8]) -> Charge
     requires { ⌜ addsUp (now rows) (length (now octets)) ≡ true ⌝ }
     ensures { λ r. ⌜ r ≡ currentRate (judged (reverse (eventsOf (now (rows .entry)) (now (octets .entry))))) ⌝ }
 {
-    last_kept(rows, octets, 1)
+    last_kept(rows, octets, place::RATE)
 }
 
 fn running_in(rows: &[u16], octets: &[u8]) -> Charge
     requires { ⌜ addsUp (now rows) (length (now octets)) ≡ true ⌝ }
     ensures { λ r. ⌜ r ≡ running (judged (reverse (eventsOf (now (rows .entry)) (now (octets .entry))))) ⌝ }
 {
-    last_kept(rows, octets, 2)
+    last_kept(rows, octets, place::RUNNING)
 }
 
 fn closing_in(rows: &[u16], octets: &[u8]) -> Closing
     requires { ⌜ addsUp (now rows) (length (now octets)) ≡ true ⌝ }
     ensures { λ r. ⌜ r ≡ closing (judged (reverse (eventsOf (now (rows .entry)) (now (octets .entry))))) ⌝ }
 {
-    if phase_in(rows, octets) != 4 {
+    if phase_in(rows, octets) != phases::ENDED {
         return Closing {
-            service: 0,
+            service: closing_service::NONE,
             value: account::no_charge(),
         };
     }
-    let e = last_kept(rows, octets, 4);
-    if e.figure.kind != 0 {
+    let e = last_kept(rows, octets, place::E_FINAL);
+    if e.figure.kind != charge_kind::NONE {
         return Closing {
-            service: 3,
+            service: closing_service::E,
             value: e,
         };
     }
-    let d = last_kept(rows, octets, 3);
-    if d.figure.kind != 0 {
+    let d = last_kept(rows, octets, place::D_FINAL);
+    if d.figure.kind != charge_kind::NONE {
         return Closing {
-            service: 2,
+            service: closing_service::D,
             value: d,
         };
     }
     Closing {
-        service: 0,
+        service: closing_service::NONE,
         value: account::no_charge(),
     }
 }
@@ -142,8 +152,8 @@ fn marks_in(rows: &[u16], octets: &[u8]) -> Marks
     requires { ⌜ addsUp (now rows) (length (now octets)) ≡ true ⌝ }
     ensures { λ r. ⌜ r ≡ marks (judged (reverse (eventsOf (now (rows .entry)) (now (octets .entry))))) ⌝ }
 {
-    let absent = told_set(rows, octets, 23);
-    let conflict = told_set(rows, octets, 29);
+    let absent = told_set(rows, octets, outcomes::NOT_AVAILABLE);
+    let conflict = told_set(rows, octets, outcomes::CONFLICT);
     Marks { absent, conflict }
 }
 
@@ -200,13 +210,13 @@ fn outcome_in(rows: &[u16], octets: &[u8], k: usize) -> Outcome
     if k == 0 {
         return Outcome {
             number: 0,
-            service: 0,
+            service: service::NONE,
         };
     }
     if k > n {
         return Outcome {
             number: 0,
-            service: 0,
+            service: service::NONE,
         };
     }
     plain_scans::outcome_at(rows, octets, k - 1)
@@ -218,10 +228,10 @@ pub fn outcome(rows: &[u16], octets: &[u8], k: usize) -> PlainOutcome
     if !is_list(rows, octets) {
         let outcome = Outcome {
             number: 0,
-            service: 0,
+            service: service::NONE,
         };
         return PlainOutcome {
-            number: 48,
+            number: LENGTHS,
             outcome,
         };
     }
@@ -234,7 +244,7 @@ pub fn phase(rows: &[u16], octets: &[u8]) -> PlainPhase
 {
     if !is_list(rows, octets) {
         return PlainPhase {
-            number: 48,
+            number: LENGTHS,
             phase: 0,
         };
     }
@@ -258,7 +268,7 @@ pub fn pending(rows: &[u16], octets: &[u8]) -> PlainPending
             e: 0,
         };
         return PlainPending {
-            number: 48,
+            number: LENGTHS,
             pending,
         };
     }
@@ -271,7 +281,10 @@ pub fn rate(rows: &[u16], octets: &[u8]) -> PlainCharge
 {
     if !is_list(rows, octets) {
         let value = account::no_charge();
-        return PlainCharge { number: 48, value };
+        return PlainCharge {
+            number: WIDE_LENGTHS,
+            value,
+        };
     }
     let value = rate_in(rows, octets);
     PlainCharge { number: 0, value }
@@ -282,7 +295,10 @@ pub fn running(rows: &[u16], octets: &[u8]) -> PlainCharge
 {
     if !is_list(rows, octets) {
         let value = account::no_charge();
-        return PlainCharge { number: 48, value };
+        return PlainCharge {
+            number: WIDE_LENGTHS,
+            value,
+        };
     }
     let value = running_in(rows, octets);
     PlainCharge { number: 0, value }
@@ -293,9 +309,12 @@ pub fn closing(rows: &[u16], octets: &[u8]) -> PlainClosing
 {
     if !is_list(rows, octets) {
         let value = account::no_charge();
-        let closing = Closing { service: 0, value };
+        let closing = Closing {
+            service: closing_service::NONE,
+            value,
+        };
         return PlainClosing {
-            number: 48,
+            number: WIDE_LENGTHS,
             closing,
         };
     }
@@ -312,7 +331,10 @@ pub fn marks(rows: &[u16], octets: &[u8]) -> PlainMarks
             absent: none,
             conflict: none,
         };
-        return PlainMarks { number: 48, marks };
+        return PlainMarks {
+            number: LENGTHS,
+            marks,
+        };
     }
     let marks = marks_in(rows, octets);
     PlainMarks { number: 0, marks }

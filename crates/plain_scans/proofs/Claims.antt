@@ -1,20 +1,19 @@
 -- What the scans test is what the rules of outcomes say: an outcome of a service hangs on that service's request alone.
 use Rattle.prelude.proofs.Prelude.{ℕ, _≡_, refl, sym, _∙_, List, Bool, true, false, not, _&&_, cond, eqb, eqb-true, eq-eqb, ne-eqb, and-false, _≤_, leb, arith}
-use Rattle.types.specs.{declared.Charge.Charge, declared.Front.Front, declared.Record.Record, Frames.readOf}
+use Rattle.types.specs.{declared.Charge.Charge, declared.Front.Front, Frames.readOf}
 use Rattle.requests.specs.Sets.{has}
-use Rattle.same_final.specs.Same.{sameOf}
 use Rattle.phases.{specs.declared.Event.Event, specs.declared.Outcome.Outcome, specs.Phases.Suspended, specs.Phases.Setup, specs.Phases.Component, specs.Phases.S, specs.Phases.D, specs.Phases.E}
 use Rattle.phases.{specs.Phases.outcome, specs.Phases.noService, specs.Phases.allowed, specs.Phases.clashes, specs.Phases.Request, specs.Phases.clash}
 use Rattle.prelude.proofs.Ways.{by-cases}
 use Rattle.phases.proofs.Choice.{by-number, never, first-of, second-of}
 use Rattle.outcomes.{specs.Outcome.serviceOf, specs.Outcome.Requests, specs.Outcome.holderOf, specs.Outcome.Known, specs.Outcome.firstFinal}
-use Rattle.outcomes.{specs.Outcome.judgeFailure, specs.Outcome.judgeRecord, specs.Outcome.judge, specs.Outcome.chargeIn, specs.Outcome.was, specs.Outcome.its}
+use Rattle.outcomes.{specs.Outcome.judgeFailure, specs.Outcome.judge, specs.Outcome.chargeIn, specs.Outcome.was, specs.Outcome.its}
 use Rattle.outcomes.{specs.Outcome.settles}
 use Rattle.outcomes.specs.Outcome.{isRefusal}
-use Rattle.phases.specs.ByNumber.{movingOf}
-use Rattle.outcomes.specs.ByNumber.{runsBy, closesBy, fitsBy, claimFigure, claimInvoke, claimResult, claimFrame, claimRecord, compared}
+use Rattle.phases.specs.inner.ByNumber.{movingOf}
+use Rattle.outcomes.specs.inner.ByNumber.{runsBy, closesBy, fitsBy, claimFigure, claimInvoke, claimResult, claimFrame, claimRecord, compared}
 use Rattle.outcomes.proofs.{Refusals.decoding-refusal, Refusals.apart, Claims.resolves}
-use Rattle.plain_scans.specs.Claim.{bare, three, sole, claimOf}
+use Rattle.plain_scans.specs.inner.Claim.{bare, three, sole, claimOf}
 
 by-way : (P : Outcome → Type 0) (b : Bool) (x y : Outcome) → P x → P y → P (cond b x y)
 by-way P true x y p q = p
@@ -49,53 +48,33 @@ judge-other k e o h =
     (λ a. by-cases (eqb (e .kind) Component) (λ c. never (sym (rw (c, a) at h))) (λ c. rw (a, c)))
     (λ a. rw a)
 
-other-settles : (s : ℕ) (a c : Bool) → settles s (cond a (cond c (noService 13) (noService 0)) (noService 14)) ≡ false
-other-settles s true true = refl
-other-settles s true false = refl
-other-settles s false c = refl
-
-other-final : (s : ℕ) (a c : Bool) → its s 22 (cond a (cond c (noService 13) (noService 0)) (noService 14)) ≡ false
-other-final s true true = refl
-other-final s true false = refl
-other-final s false c = refl
-
-final-settles : (s u : ℕ) (b c : Bool) → settles s (cond b (cond c (outcome 28 u) (outcome 29 u)) (outcome 22 u)) ≡ false
-final-settles s u true true = refl
-final-settles s u true false = refl
-final-settles s u false c = refl
-
 -- comparing alters no 24 or 25
 compared-settles : (k : Known) (r : Outcome) (c : Charge) (s : ℕ) → settles s (compared k r c) ≡ settles s r
 compared-settles k r c s =
     by-number (r .number) 22
-    (λ e. rw e (final-settles s (r .service) (firstFinal k (r .service) .given) (sameOf (firstFinal k (r .service) .charge) c)))
+    (λ e. rw e (search (by-way (λ x. settles s x ≡ false))))
     (λ e. rw e)
 
 -- and where a service has no final yet, it leaves its 22
 compared-final : (k : Known) (r : Outcome) (c : Charge) (s : ℕ) → firstFinal k s .given ≡ false → its s 22 (compared k r c) ≡ its s 22 r
 compared-final k r c s g =
     by-number (r .number) 22
-    (λ e. by-number (r .service) s (λ f. rw (e, f, g)) (λ f. rw (e, f) (none (firstFinal k (r .service) .given) (sameOf (firstFinal k (r .service) .charge) c) (r .service) f)))
+    (λ e. by-number (r .service) s (λ f. rw (e, f, g)) (λ f. rw (e, f) (search (by-way (λ x. its s 22 x ≡ false)))))
     (λ e. simp e)
-  where
-    none : (b c : Bool) (u : ℕ) → eqb u s ≡ false → its s 22 (cond b (cond c (outcome 28 u) (outcome 29 u)) (outcome 22 u)) ≡ false
-    none true true u f = refl
-    none true false u f = refl
-    none false c u f = f
 
 pub judge-settles : (k : Known) (e : Event) (o : List ℕ) (s : ℕ) → settles s (judge k e o) ≡ settles s (claimOf (k .phase) (k .pending) (e .kind) o)
 unfolding claimOf
 judge-settles k e o s =
     by-cases (eqb (e .kind) Component && allowed (e .kind) (k .phase))
     (λ h. rw (judge-claim k e o h) (compared-settles k (claimOf (k .phase) (k .pending) (e .kind) o) (chargeIn o) s))
-    (λ h. rw (judge-other k e o h, h) (other-settles s (allowed (e .kind) (k .phase)) (eqb (e .kind) Setup && clashes e)))
+    (λ h. rw (judge-other k e o h, h) (search (by-way (λ x. settles s x ≡ false))))
 
 pub judge-final : (k : Known) (e : Event) (o : List ℕ) (s : ℕ) → firstFinal k s .given ≡ false → its s 22 (judge k e o) ≡ its s 22 (claimOf (k .phase) (k .pending) (e .kind) o)
 unfolding claimOf
 judge-final k e o s g =
     by-cases (eqb (e .kind) Component && allowed (e .kind) (k .phase))
     (λ h. rw (judge-claim k e o h) (compared-final k (claimOf (k .phase) (k .pending) (e .kind) o) (chargeIn o) s g))
-    (λ h. rw (judge-other k e o h, h) (other-final s (allowed (e .kind) (k .phase)) (eqb (e .kind) Setup && clashes e)))
+    (λ h. rw (judge-other k e o h, h) (search (by-way (λ x. its s 22 x ≡ false))))
 
 -- ---- 24 and 25 hang on one service's request alone
 
@@ -159,10 +138,7 @@ module _ (p q : Requests) (s : ℕ) (alike : has (p .asked) s ≡ has (q .asked)
       (λ e. rw (one p phase operation kind total e, one q phase operation kind total e))
     where
       one : (r : Requests) (phase operation kind total : ℕ) → eqb (serviceOf operation) s ≡ false → its s 22 (claimInvoke phase r operation kind total) ≡ false
-      one r phase operation kind total f =
-          by-way (λ r. its s 22 r ≡ false) (eqb operation 30) _ _ refl
-          (by-way (λ r. its s 22 r ≡ false) (has (r .asked) (serviceOf operation)) _ _ refl
-          (by-way (λ r. its s 22 r ≡ false) (eqb kind 0) _ _ refl (figure-final phase (serviceOf operation) kind total s f)))
+      one r phase operation kind total f = search (by-way (λ r. its s 22 r ≡ false), figure-final phase (serviceOf operation) kind total s f) depth 12 fits 3000
 
   pub claim-final : (phase kind : ℕ) (o : List ℕ) → its s 22 (claimOf phase p kind o) ≡ its s 22 (claimOf phase q kind o)
   unfolding claimOf claimRecord
@@ -208,23 +184,14 @@ module _ (a b c : Request) (ab : clash a b ≡ false) (ac : clash a c ≡ false)
   all-apart : (eqb (holderOf (three a b c) id) 1 ≡ holds a id) × (eqb (holderOf (three a b c) id) 2 ≡ holds b id) × (eqb (holderOf (three a b c) id) 3 ≡ holds c id)
   all-apart = apart-three (holds a id) (holds b id) (holds c id) (not-both a b id ab) (not-both a c id ac) (not-both b c id bc)
 
-  sole-1 : eqb (holderOf (sole 1 a) id) 1 ≡ holds a id
-  sole-1 = by-cases (holds a id) (λ t. rw t) (λ t. rw t)
-
-  sole-2 : eqb (holderOf (sole 2 b) id) 2 ≡ holds b id
-  sole-2 = by-cases (holds b id) (λ t. rw t) (λ t. rw t)
-
-  sole-3 : eqb (holderOf (sole 3 c) id) 3 ≡ holds c id
-  sole-3 = by-cases (holds c id) (λ t. rw t) (λ t. rw t)
-
-  pub holder-1 : eqb (holderOf (three a b c) id) 1 ≡ eqb (holderOf (sole 1 a) id) 1
-  holder-1 = all-apart .0 ∙ sym sole-1
-
-  pub holder-2 : eqb (holderOf (three a b c) id) 2 ≡ eqb (holderOf (sole 2 b) id) 2
-  holder-2 = all-apart .1 ∙ sym sole-2
-
-  pub holder-3 : eqb (holderOf (three a b c) id) 3 ≡ eqb (holderOf (sole 3 c) id) 3
-  holder-3 = all-apart .2 ∙ sym sole-3
+  -- the holder is a service exactly where it is, the request of that service being there alone
+  pub holders : (eqb (holderOf (three a b c) id) 1 ≡ eqb (holderOf (sole 1 a) id) 1) × (eqb (holderOf (three a b c) id) 2 ≡ eqb (holderOf (sole 2 b) id) 2)
+      × (eqb (holderOf (three a b c) id) 3 ≡ eqb (holderOf (sole 3 c) id) 3)
+  holders = (
+    all-apart .0 ∙ by-cases (holds a id) (λ t. rw t) (λ t. rw t),
+    all-apart .1 ∙ by-cases (holds b id) (λ t. rw t) (λ t. rw t),
+    all-apart .2 ∙ by-cases (holds c id) (λ t. rw t) (λ t. rw t),
+  )
 
 -- ---- a final is of D or E
 

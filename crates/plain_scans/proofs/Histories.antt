@@ -7,7 +7,7 @@ use Rattle.phases.{specs.Phases.Given}
 use Rattle.phases.{specs.Phases.outcome, specs.Phases.noService, specs.Phases.allowed, specs.Phases.leadsTo, specs.Phases.clashes, specs.Phases.Request, specs.Phases.noRequest}
 use Rattle.phases.{specs.Phases.requestFor, specs.Phases.clash}
 use Rattle.phases.proofs.Choice.{if-same, by-number, never, first-of, second-of}
-use Rattle.prelude.proofs.Ways.{by-cases}
+use Rattle.prelude.proofs.Ways.{by-cases, the-second}
 use Rattle.phases.proofs.Transitions.{to-idle, from-idle, setup-idle, component-stays}
 use Rattle.requests.specs.Sets.{has}
 use Rattle.outcomes.specs.Outcome.{Requests, holderOf, judge, was, its, settles, firstFinal}
@@ -15,11 +15,11 @@ use Rattle.outcomes.proofs.Judging.{phased-judge}
 use Rattle.account.specs.History.{Judged, any, phase, named, pending, hasFinal, requests, known, judged}
 use Rattle.events.specs.Events.{rowAt}
 use Rattle.events.proofs.Prefix.{before-next}
-use Rattle.events.specs.Prefix.{octetsAt, givenAt, before}
-use Rattle.plain_scans.specs.Scan.{FirstAt}
-use Rattle.phases.specs.ByNumber.{movingOf}
-use Rattle.plain_scans.specs.Claim.{nextBy, bare, three, sole, claimOf}
-use Rattle.plain_scans.proofs.Claims.{judge-settles, judge-final, claim-settles, claim-final, holder-1, holder-2, holder-3}
+use Rattle.events.specs.inner.Prefix.{octetsAt, givenAt, before}
+use Rattle.plain_scans.specs.inner.Scan.{FirstAt}
+use Rattle.phases.specs.inner.ByNumber.{movingOf}
+use Rattle.plain_scans.specs.inner.Claim.{nextBy, bare, three, sole, claimOf}
+use Rattle.plain_scans.proofs.Claims.{judge-settles, judge-final, claim-settles, claim-final, holders}
 
 -- ---- the phase after one event more
 
@@ -78,6 +78,11 @@ busy-kept h g n = by-number (phase (judged (g ∷ h))) Idle (λ e. never (sym (s
 pub named-kept : (s : ℕ) (h : List Given) (g : Given) → eqb (phase (judged h)) Idle ≡ false → named s (judged (g ∷ h)) ≡ named s (judged h)
 named-kept s h g n = by-cases (accepts h g) (λ a. never (sym (sym (eq-eqb _ _ (accepted-idle h g a .0)) ∙ n))) (λ a. rw a)
 
+-- ---- a service by its number
+
+by-service : {P : Type 0} (s : ℕ) → 1 ≤ s → s ≤ 3 → (s ≡ 1 → P) → (s ≡ 2 → P) → (s ≡ 3 → P) → P
+by-service s low high a b c = by-number s 1 a (λ n. by-number s 2 b (λ m. c (omega (arith, eqb-false s 1 n, eqb-false s 2 m))))
+
 -- ---- no two requests have one identifier
 
 record Distinct (a b c : Request) : Type 0 where
@@ -135,22 +140,13 @@ pick s a b c = cond (eqb s 1) a (cond (eqb s 2) b c)
 
 module _ (a b c : Request) (d : Distinct a b c) (s : ℕ) (low : 1 ≤ s) (high : s ≤ 3) where
   held : (id : ℕ) → eqb (holderOf (three a b c) id) s ≡ eqb (holderOf (sole s (pick s a b c)) id) s
-  held id =
-      by-number s 1 (λ e. rw e (holder-1 a b c (d .sd) (d .se) (d .de) id))
-      (λ n. by-number s 2 (λ e. rw e (holder-2 a b c (d .sd) (d .se) (d .de) id))
-      (λ m. let e : s ≡ 3 = omega (arith, eqb-false s 1 n, eqb-false s 2 m) in rw e (holder-3 a b c (d .sd) (d .se) (d .de) id)))
+  held id = let h = holders a b c (d .sd) (d .se) (d .de) id in by-service s low high (λ e. rw e (h .0)) (λ e. rw e (h .1)) (λ e. rw e (h .2))
 
   marked : has (three a b c .asked) s ≡ has (sole s (pick s a b c) .asked) s
-  marked =
-      by-number s 1 (λ e. rw e)
-      (λ n. by-number s 2 (λ e. rw e)
-      (λ m. let e : s ≡ 3 = omega (arith, eqb-false s 1 n, eqb-false s 2 m) in rw e))
+  marked = by-service s low high (λ e. rw e) (λ e. rw e) (λ e. rw e)
 
 picked : (s : ℕ) → 1 ≤ s → s ≤ 3 → (h : List Judged) → pick s (pending 1 h) (pending 2 h) (pending 3 h) ≡ pending s h
-picked s low high h =
-    by-number s 1 (λ e. rw e)
-    (λ n. by-number s 2 (λ e. rw e)
-    (λ m. let e : s ≡ 3 = omega (arith, eqb-false s 1 n, eqb-false s 2 m) in rw e))
+picked s low high h = by-service s low high (λ e. rw e) (λ e. rw e) (λ e. rw e)
 
 module _ (h : List Given) (e : Event) (o : List ℕ) (s : ℕ) (low : 1 ≤ s) (high : s ≤ 3) (q : Request) (asked : eqb (phase (judged h)) Idle ≡ false → pending s (judged h) ≡ q) where
   pub settle-step : settles s (judge (known (judged h)) e o) ≡ settles s (claimOf (phase (judged h)) (sole s q) (e .kind) o)
@@ -174,9 +170,10 @@ module _ (h : List Given) (e : Event) (o : List ℕ) (s : ℕ) (low : 1 ≤ s) (
 pub first-given : (h : List Judged) (s : ℕ) → 2 ≤ s → s ≤ 3 → firstFinal (known h) s .given ≡ hasFinal s h
 first-given h s low high = by-number s 2 (λ e. rw e) (λ n. let e : s ≡ 3 = omega (arith, eqb-false s 2 n) in rw e)
 
-or-yes : (a b : Bool) → b ≡ true → (a || b) ≡ true
-or-yes true b q = refl
-or-yes false b q = q
+-- what holds at one number, and passes on to the next, holds from there on
+pub upwards : (P : ℕ → Type 0) → ((m : ℕ) → P m → P (suc m)) → (m i : ℕ) → i ≤ m → P i → P m
+upwards P next zero i h p = let e : i ≡ 0 = omega arith in rw e at p
+upwards P next (suc m) i h p = by-number i (suc m) (λ e. rw e at p) (λ n. next m (upwards P next m i (omega (arith, eqb-false i (suc m) n)) p))
 
 -- ---- the first that passes a test
 
@@ -187,12 +184,12 @@ module _ (rows octets : List ℕ) where
 
     pub any-next : (i : ℕ) → passes i ≡ true → passes (suc i) ≡ true
     unfolding before
-    any-next i q = or-yes (t (record { event = rowAt rows i; octets = octetsAt rows octets i; outcome = judge (known (judged (before rows octets i))) (rowAt rows i) (octetsAt rows octets i) }))
-        (passes i) q
+    any-next i q =
+        let now = judge (known (judged (before rows octets i))) (rowAt rows i) (octetsAt rows octets i) in
+        the-second (t (record { event = rowAt rows i; octets = octetsAt rows octets i; outcome = now })) (passes i) q
 
     pub any-up : (m i : ℕ) → i ≤ m → passes i ≡ true → passes m ≡ true
-    any-up zero i h q = let e : i ≡ 0 = omega arith in rw e at q
-    any-up (suc m) i h q = by-number i (suc m) (λ e. rw e at q) (λ n. any-next m (any-up m i (omega (arith, eqb-false i (suc m) n)) q))
+    any-up = upwards (λ m. passes m ≡ true) any-next
 
     module _ (k r : ℕ) (f : FirstAt t rows octets k r) where
       pub found-by : (i : ℕ) → i ≤ k → passes i ≡ ltb r i

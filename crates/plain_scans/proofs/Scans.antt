@@ -1,6 +1,6 @@
 -- The scans, one event more.
-use Rattle.prelude.proofs.Prelude.{ℕ, zero, suc, _+_, _-_, _≤_, _<_, _≡_, refl, sym, _∙_, ap, List, Bool, true, false, not, cond, eqb, ltb, eqb-true, eqb-false}
-use Rattle.prelude.proofs.Prelude.{arith, take, drop, lt-ltb, le-ltb}
+use Rattle.prelude.proofs.Prelude.{ℕ, suc, _+_, _-_, _≤_, _<_, _≡_, refl, sym, _∙_, ap, List, Bool, true, false, not, cond, eqb, ltb, eqb-true, eqb-false}
+use Rattle.prelude.proofs.Prelude.{arith, length, take, drop, lt-ltb, le-ltb}
 use Rattle.requests.specs.Sets.{emptySet}
 use Rattle.same_final.specs.Same.{sameOf}
 use Rattle.types.specs.declared.Charge.{Charge}
@@ -14,12 +14,13 @@ use Rattle.outcomes.specs.Status.{requestsOf}
 use Rattle.outcomes.proofs.Judging.{phased-judge, only-final}
 use Rattle.account.specs.History.{any, phase, named, pending, hasFinal, final, known, judged}
 use Rattle.events.specs.Events.{rowAt, countAt}
-use Rattle.events.specs.Prefix.{placeAt, octetsAt, givenAt, before}
-use Rattle.plain_scans.specs.Scan.{Here, FirstAt}
-use Rattle.plain_scans.specs.Claim.{nextBy, askOf, requestOf, sole, claimOf, Asks}
+use Rattle.events.specs.inner.Prefix.{placeAt, octetsAt, givenAt, before}
+use Rattle.plain_scans.specs.inner.Scan.{Scan, Here, FirstAt}
+use Rattle.plain_scans.specs.inner.Claim.{nextBy, askOf, requestOf, sole, claimOf, Asks}
 use Rattle.plain_scans.specs.declared.Ask.{Ask}
-use Rattle.plain_scans.proofs.Histories.{accepts, idle-unnamed, busy-kept, named-kept, settle-step, final-step, first-given, any-up, found-by, phase-more}
-use Rattle.events.proofs.Prefix.{before-next, place-next}
+use Rattle.plain_scans.proofs.Histories.{accepts, idle-unnamed, busy-kept, named-kept}
+use Rattle.plain_scans.proofs.Histories.{settle-step, final-step, first-given, upwards, any-next, found-by, phase-more}
+use Rattle.events.proofs.Prefix.{before-next, part-at, turn-inside, next-place}
 
 -- an event that leaves Idle is the accepted Setup
 accepted-of : (h : List Given) (g : Given) → phase (judged h) ≡ Idle → (nextBy 0 (g .event) ≡ 0 → ⊥) → accepts h g ≡ true
@@ -33,24 +34,25 @@ accepted-of h g idle n =
     (λ k. never (sym (from-idle (g .event .kind) 0 refl k) ∙ a)))
     (λ a. absurd (n (rw a)))
 
+-- the outcome of event i
+abbrev pub outcomeOf : List ℕ → List ℕ → ℕ → Outcome
+outcomeOf rows octets i = judge (known (judged (before rows octets i))) (rowAt rows i) (octetsAt rows octets i)
+
 module _ (rows octets : List ℕ) where
   -- ---- the accepted Setup
-
-  busy-at : (k i : ℕ) → i ≤ k → eqb (phase (judged (before rows octets i))) Idle ≡ false → eqb (phase (judged (before rows octets k))) Idle ≡ false
-  unfolding before
-  busy-at zero i h n = let e : i ≡ 0 = omega arith in rw e at n
-  busy-at (suc k) i h n =
-      by-number i (suc k) (λ e. rw e at n)
-      (λ m. busy-kept (before rows octets k) (givenAt rows octets k) (busy-at k i (omega (arith, eqb-false i (suc k) m)) n))
 
   -- what is named once the call is not Idle stays named
   pub named-at : (s k i : ℕ) → i ≤ k → eqb (phase (judged (before rows octets i))) Idle ≡ false → named s (judged (before rows octets i)) ≡ named s (judged (before rows octets k))
   unfolding before
-  named-at s zero i h n = let e : i ≡ 0 = omega arith in rw e refl
-  named-at s (suc k) i h n =
-      by-number i (suc k) (λ e. rw e refl)
-      (λ m. let l : i ≤ k = omega (arith, eqb-false i (suc k) m) in
-      named-at s k i l n ∙ sym (named-kept s (before rows octets k) (givenAt rows octets k) (busy-at k i l n)))
+  named-at s k i h n =
+      upwards (λ m. (eqb (phase (judged (before rows octets m))) Idle ≡ false)
+      × (named s (judged (before rows octets i)) ≡ named s (judged (before rows octets m))))
+      (λ m p. (
+        busy-kept (before rows octets m) (givenAt rows octets m) (p .0),
+        p .1
+            ∙ sym (named-kept s (before rows octets m) (givenAt rows octets m) (p .0)),
+      ))
+      k i h (n, refl) .1
 
   module _ (i : ℕ) (idle : phase (judged (before rows octets i)) ≡ Idle) (e : Event) (row : e ≡ rowAt rows i) where
     pub idle-more : nextBy 0 e ≡ 0 → phase (judged (before rows octets (i + 1))) ≡ Idle
@@ -71,60 +73,61 @@ module _ (rows octets : List ℕ) where
   pub setup-none : (k : ℕ) → phase (judged (before rows octets k)) ≡ Idle → (none : Event) → none .asked ≡ emptySet → Asks (judged (before rows octets k)) none
   setup-none k idle none e = record { all = λ s. idle-unnamed s (before rows octets k) idle ∙ sym (rw e (simp if-same)) }
 
-  -- ---- a scan
+-- ---- a scan
 
-  pub scan-starts : (k : ℕ) → Here rows octets k 0 0 0
-  unfolding before placeAt
-  scan-starts k = record { row = omega arith; place = refl; met = refl }
+pub scan-starts : {rows octets : List ℕ} {k : ℕ} → Here rows octets k 0 0 0
+unfolding before placeAt
+scan-starts = record { row = omega arith; place = refl; met = refl }
 
-  module _ (k i at p : ℕ) (here : Here rows octets k i at p) (c : ℕ) (counted : c ≡ countAt rows i) (e : Event) (row : e ≡ rowAt rows i) where
-    pub scan-goes-on : i < k → (r : ℕ) → r ≡ nextBy p e → Here rows octets k (i + 1) (at + c) r
-    scan-goes-on h r q = record {
-      row = omega arith;
-      place = rw (here .place, counted) (sym (place-next rows octets i));
-      met = phase-more rows octets i p e r (here .met) row q;
-    }
+-- before event i (the code's count is c, its row e)
+module _ {rows octets : List ℕ} {k i at p c : ℕ} (here : Here rows octets k i at p) (counted : c ≡ countAt rows i) where
+  pub scan-inside : Scan rows octets k → i < k → at + c ≤ length octets
+  scan-inside s h = turn-inside rows octets i (here .place) counted (s .list) (omega (arith, s .some))
 
-    -- what is tested of event i
-    module _ (t : Status) (s : ℕ) (q : Request) (phased : t .phase ≡ p) (asks : requestsOf t ≡ sole s q) (o : Outcome)
+  module _ {e : Event} (row : e ≡ rowAt rows i) where
+    pub scan-goes-on : i < k → {r : ℕ} → r ≡ nextBy p e → Here rows octets k (i + 1) (at + c) r
+    scan-goes-on h {r} q =
+        record { row = omega arith; place = next-place rows octets i (here .place) counted; met = phase-more rows octets i p e r (here .met) row q }
+
+    -- what is tested of it: the outcome at a status with one service's request alone
+    module _ (t : Status) (s : ℕ) (q : Request) (alone : (t .phase ≡ p) × (requestsOf t ≡ sole s q)) {o : Outcome}
         (is : o ≡ claimOf (t .phase) (requestsOf t) (e .kind) (take (at + c - at) (drop at octets))) where
       claim-at : o ≡ claimOf (phase (judged (before rows octets i))) (sole s q) (rowAt rows i .kind) (octetsAt rows octets i)
-      claim-at =
-          let n : at + c - at ≡ countAt rows i = omega (arith, counted) in
-          is ∙ rw (phased, asks, here .met, row, n, here .place) refl
+      claim-at = is ∙ rw (alone .0, alone .1, here .met, row, part-at rows octets i (here .place) counted) refl
 
       module _ (low : 1 ≤ s) (high : s ≤ 3) (asked : eqb (phase (judged (before rows octets i))) Idle ≡ false → pending s (judged (before rows octets i)) ≡ q) where
-        pub tells-settled : settles s (judge (known (judged (before rows octets i))) (rowAt rows i) (octetsAt rows octets i)) ≡ settles s o
+        pub tells-settled : settles s (outcomeOf rows octets i) ≡ settles s o
         tells-settled = settle-step (before rows octets i) (rowAt rows i) (octetsAt rows octets i) s low high q asked ∙ ap (settles s) (sym claim-at)
 
-        pub tells-final : hasFinal s (judged (before rows octets i)) ≡ false → 2 ≤ s → its s 22 (judge (known (judged (before rows octets i))) (rowAt rows i) (octetsAt rows octets i)) ≡ its s 22 o
+        pub tells-final : hasFinal s (judged (before rows octets i)) ≡ false → 2 ≤ s → its s 22 (outcomeOf rows octets i) ≡ its s 22 o
         tells-final none two =
             final-step (before rows octets i) (rowAt rows i) (octetsAt rows octets i) s low high q asked (first-given (judged (before rows octets i)) s two high ∙ none)
             ∙ ap (its s 22) (sym claim-at)
 
-  -- ---- the first that passes a test of outcomes
+-- ---- the first that passes a test of outcomes
 
-  module _ (f : Outcome → Bool) (k i : ℕ) (none : any (λ j. f (j .outcome)) (judged (before rows octets i)) ≡ false) where
-    pub found-here : i < k → f (judge (known (judged (before rows octets i))) (rowAt rows i) (octetsAt rows octets i)) ≡ true → FirstAt (λ j. f (j .outcome)) rows octets k i
+module _ (rows octets : List ℕ) where
+  module _ (f : Outcome → Bool) (i : ℕ) (none : any (λ j. f (j .outcome)) (judged (before rows octets i)) ≡ false) where
+    pub found-here : {k : ℕ} → i < k → f (outcomeOf rows octets i) ≡ true → FirstAt (λ j. f (j .outcome)) rows octets k i
     unfolding before
     found-here h q = record { inside = omega arith; none = none; there = λ _. rw q refl }
 
-    pub none-yet : f (judge (known (judged (before rows octets i))) (rowAt rows i) (octetsAt rows octets i)) ≡ false → any (λ j. f (j .outcome)) (judged (before rows octets (i + 1))) ≡ false
+    pub none-yet : f (outcomeOf rows octets i) ≡ false → any (λ j. f (j .outcome)) (judged (before rows octets (i + 1))) ≡ false
     none-yet q = ap (λ (l : List Given). any (λ j. f (j .outcome)) (judged l)) (before-next rows octets i) ∙ rw (q, none) refl
 
-    pub found-none : i ≤ k → k ≤ i → FirstAt (λ j. f (j .outcome)) rows octets k k
-    found-none h l = let e : i ≡ k = omega arith in record { inside = omega arith; none = rw e at none; there = λ m. absurd (omega arith) }
+    pub found-none : {k : ℕ} → i ≤ k → k ≤ i → FirstAt (λ j. f (j .outcome)) rows octets k k
+    found-none {k} h l = let e : i ≡ k = omega arith in record { inside = omega arith; none = rw e at none; there = λ m. absurd (omega arith) }
 
   -- ---- a request at event i, by what the Setup named and the place of the answer
 
   module _ (s k i : ℕ) (h : i ≤ k) (q : Request) (names : named s (judged (before rows octets k)) ≡ q) where
     pub still-named : any (λ j. settles s (j .outcome)) (judged (before rows octets i)) ≡ false
         → eqb (phase (judged (before rows octets i))) Idle ≡ false → pending s (judged (before rows octets i)) ≡ q
-    still-named none busy = rw none (named-at s k i h busy ∙ names)
+    still-named none busy = rw none (named-at rows octets s k i h busy ∙ names)
 
     pub pending-at : (r : ℕ) → FirstAt (λ j. settles s (j .outcome)) rows octets k r
         → eqb (phase (judged (before rows octets i))) Idle ≡ false → pending s (judged (before rows octets i)) ≡ cond (ltb r i) noRequest q
-    pending-at r f busy = rw (found-by rows octets (λ j. settles s (j .outcome)) k r f i h, named-at s k i h busy, names) refl
+    pending-at r f busy = rw (found-by rows octets (λ j. settles s (j .outcome)) k r f i h, named-at rows octets s k i h busy, names) refl
 
   pub pending-last : (s k : ℕ) (q : Request) → named s (judged (before rows octets k)) ≡ q → (r : ℕ) → FirstAt (λ j. settles s (j .outcome)) rows octets k r
       → pending s (judged (before rows octets k)) ≡ cond (ltb r k) noRequest q
@@ -134,42 +137,38 @@ module _ (rows octets : List ℕ) where
   pub names : (s k : ℕ) (e : Event) (q : Ask) → Asks (judged (before rows octets k)) e → q ≡ askOf (requestFor s e) → named s (judged (before rows octets k)) ≡ requestOf q
   names s k e q a p = a .all s ∙ sym (ap requestOf p)
 
-  -- ---- the first final of a service
+-- ---- the first final of a service
 
-  module _ (s : ℕ) (low : 2 ≤ s) (high : s ≤ 3) where
-    final-up : (m i : ℕ) → i ≤ m → hasFinal s (judged (before rows octets i)) ≡ true → final s (judged (before rows octets m)) ≡ final s (judged (before rows octets i))
-    unfolding before
-    final-up zero i h q = let e : i ≡ 0 = omega arith in rw e refl
-    final-up (suc m) i h q =
-        by-number i (suc m) (λ e. rw e refl)
-        (λ n. let l : i ≤ m = omega (arith, eqb-false i (suc m) n) in
-        let given : firstFinal (known (judged (before rows octets m))) s .given ≡ true = first-given (judged (before rows octets m)) s low high
-        ∙ any-up rows octets (λ j. its s 22 (j .outcome)) m i l q in
-        rw (only-final (known (judged (before rows octets m))) (rowAt rows m) (octetsAt rows octets m) s given) (final-up m i l q))
+module _ {rows octets : List ℕ} {k i : ℕ} (s : ℕ) (low : 2 ≤ s) (high : s ≤ 3) (f : FirstAt (λ j. its s 22 (j .outcome)) rows octets k i) where
+  final-up : (m n : ℕ) → n ≤ m → hasFinal s (judged (before rows octets n)) ≡ true
+      → final s (judged (before rows octets m)) ≡ final s (judged (before rows octets n))
+  unfolding before
+  final-up m n h q =
+      upwards (λ m. (hasFinal s (judged (before rows octets m)) ≡ true) × (final s (judged (before rows octets m)) ≡ final s (judged (before rows octets n))))
+      (λ m p. (
+        any-next rows octets (λ j. its s 22 (j .outcome)) m (p .0),
+        rw (only-final (known (judged (before rows octets m))) (rowAt rows m) (octetsAt rows octets m) s
+            (first-given (judged (before rows octets m)) s low high ∙ p .0)) (p .1),
+      ))
+      m n h (q, refl) .1
 
-    module _ (k i : ℕ) (f : FirstAt (λ j. its s 22 (j .outcome)) rows octets k i) where
-      final-now : i < k → final s (judged (before rows octets (suc i))) ≡ chargeIn (octetsAt rows octets i)
-      unfolding before
-      final-now h =
-          by-cases (its s 22 (judge (known (judged (before rows octets i))) (rowAt rows i) (octetsAt rows octets i)))
-          (λ t. rw t refl)
-          (λ t. never (sym (f .none) ∙ rw t at (f .there h)))
+  final-now : i < k → final s (judged (before rows octets (suc i))) ≡ chargeIn (octetsAt rows octets i)
+  unfolding before
+  final-now h = by-cases (its s 22 (outcomeOf rows octets i)) (λ t. rw t refl) (λ t. never (sym (f .none) ∙ rw t at (f .there h)))
 
-      first-charge : i < k → firstFinal (known (judged (before rows octets k))) s .charge ≡ chargeIn (octetsAt rows octets i)
-      first-charge h =
-          by-number s 2 (λ e. rw e refl) (λ n. let e : s ≡ 3 = omega (arith, eqb-false s 2 n) in rw e refl)
-          ∙ final-up k (suc i) (omega arith) (f .there h) ∙ final-now h
+  first-charge : i < k → firstFinal (known (judged (before rows octets k))) s .charge ≡ chargeIn (octetsAt rows octets i)
+  first-charge h =
+      by-number s 2 (λ e. rw e refl) (λ n. let e : s ≡ 3 = omega (arith, eqb-false s 2 n) in rw e refl)
+      ∙ final-up k (suc i) (omega arith) (f .there h) ∙ final-now h
 
-      first-is : firstFinal (known (judged (before rows octets k))) s .given ≡ ltb i k
-      first-is = first-given (judged (before rows octets k)) s low high ∙ found-by rows octets (λ j. its s 22 (j .outcome)) k i f k (omega arith)
+  first-is : firstFinal (known (judged (before rows octets k))) s .given ≡ ltb i k
+  first-is = first-given (judged (before rows octets k)) s low high ∙ found-by rows octets (λ j. its s 22 (j .outcome)) k i f k (omega arith)
 
-      module _ (c : Charge) where
-        pub final-first : k ≤ i → outcome 22 s ≡ judgeFinal (firstFinal (known (judged (before rows octets k))) s) s c
-        final-first h = sym (rw (first-is, le-ltb i k h))
+  -- a final beside it
+  module _ (c : Charge) where
+    pub final-first : k ≤ i → outcome 22 s ≡ judgeFinal (firstFinal (known (judged (before rows octets k))) s) s c
+    final-first h = sym (rw (first-is, le-ltb i k h))
 
-        module _ (h : i < k) (first : Charge) (is : first ≡ chargeIn (octetsAt rows octets i)) (b : Bool) (same : b ≡ sameOf first c) where
-          pub final-same : b ≡ true → outcome 28 s ≡ judgeFinal (firstFinal (known (judged (before rows octets k))) s) s c
-          final-same t = sym (rw (first-is, lt-ltb i k h, first-charge h, ← is, ← same, t))
-
-          pub final-other : b ≡ false → outcome 29 s ≡ judgeFinal (firstFinal (known (judged (before rows octets k))) s) s c
-          final-other t = sym (rw (first-is, lt-ltb i k h, first-charge h, ← is, ← same, t))
+    pub final-again : i < k → {first : Charge} → first ≡ chargeIn (octetsAt rows octets i) → {b : Bool} → b ≡ sameOf first c
+        → cond b (outcome 28 s) (outcome 29 s) ≡ judgeFinal (firstFinal (known (judged (before rows octets k))) s) s c
+    final-again h is same = sym (rw (first-is, lt-ltb i k h, first-charge h, ← is, ← same))

@@ -1,10 +1,12 @@
-// The plain engine's scans: what stands before an event of a list, and the outcome of the event, found by going over the list. No account is kept.
+// The plain engine's scans: what comes before an event of a list, and the outcome of the event, found by going over the list. No account is kept.
 //
 // A scan carries the place in the list and the phase that the events gone over lead to, and nothing of what was found before.
+use coding::refusal;
 use phases::Event;
 use phases::Outcome;
 use phases::Status;
 use requests::Services;
+use requests::service;
 use types::Charge;
 ghost use mathlib.Core.Path.{_≡_};
 ghost use mathlib.Core.Bool.{true, cond};
@@ -16,10 +18,10 @@ ghost use Rattle.phases.specs.Phases.{noRequest, asking, requestFor};
 ghost use Rattle.outcomes.specs.Outcome.{its, settles, judge, judgeFinal, firstFinal, chargeIn};
 ghost use Rattle.outcomes.specs.Status.{requestsOf};
 ghost use Rattle.events.specs.Events.{addsUp, rowAt};
-ghost use Rattle.events.specs.Prefix.{placeAt, octetsAt, before};
+ghost use Rattle.events.specs.inner.Prefix.{placeAt, octetsAt, before};
 ghost use Rattle.account.specs.History.{judged, phase, named, pending, requests, known};
-ghost use Rattle.plain_scans.specs.Scan.{Scan, FirstAt};
-ghost use Rattle.plain_scans.specs.Claim.{nextBy, bare, askOf, requestOf, sole, claimOf, Asks};
+ghost use Rattle.plain_scans.specs.inner.Scan.{Scan, FirstAt};
+ghost use Rattle.plain_scans.specs.inner.Claim.{nextBy, bare, askOf, requestOf, sole, claimOf, Asks};
 
 // A service's request: mark 0 for none.
 struct Ask {
@@ -59,7 +61,7 @@ pub fn phase_before(rows: &[u16], k: usize) -> u8
     requires { ⌜ k ≤ length (now rows) / 6 ⌝ }
     ensures { λ r. ⌜ ((o : List ℕ) → r ≡ phase (judged (before (now (rows .entry)) o k))) ⌝ }
 {
-    let mut phase: u8 = 0;
+    let mut phase: u8 = phases::IDLE;
     let mut i: usize = 0;
     while i < k {
         let e = events::row_at(rows, i);
@@ -80,7 +82,7 @@ fn setup_before(rows: &[u16], k: usize) -> Event
     let mut i: usize = 0;
     while i < k {
         let e = events::row_at(rows, i);
-        if passed(0, e) != 0 {
+        if passed(phases::IDLE, e) != phases::IDLE {
             return e;
         }
         i += 1;
@@ -109,10 +111,10 @@ fn asked_for(e: Event, service: u8) -> Ask
     ensures { λ r. ⌜ r ≡ askOf (requestFor service e) ⌝ }
 {
     let asked = e.asked;
-    if service == 1 {
+    if service == service::S {
         return asking(asked.s, e.s);
     }
-    if service == 2 {
+    if service == service::D {
         return asking(asked.d, e.d);
     }
     asking(asked.e, e.e)
@@ -133,17 +135,17 @@ fn alone(phase: u8, service: u8, q: Ask) -> Status
     ensures { λ r. ⌜ (r .phase ≡ phase) × (requestsOf r ≡ sole service (requestOf q)) ⌝ }
 {
     let mut t = bare(phase);
-    if service == 1 {
+    if service == service::S {
         t.asked.s = q.mark;
         t.s = q.id;
         return t;
     }
-    if service == 2 {
+    if service == service::D {
         t.asked.d = q.mark;
         t.d = q.id;
         return t;
     }
-    if service == 3 {
+    if service == service::E {
         t.asked.e = q.mark;
         t.e = q.id;
         return t;
@@ -157,23 +159,23 @@ fn alone(phase: u8, service: u8, q: Ask) -> Status
 fn claim(t: Status, kind: u8, octets: &[u8]) -> Outcome
     ensures { λ r. ⌜ r ≡ claimOf (t .phase) (requestsOf t) kind (now (octets .entry)) ⌝ }
 {
-    if kind != 5 {
+    if kind != phases::COMPONENT {
         return Outcome {
-            number: 14,
-            service: 0,
+            number: refusal::WRONG_PHASE,
+            service: service::NONE,
         };
     }
-    if phases::next_phase(kind, t.phase) == 0 {
+    if phases::next_phase(kind, t.phase) == phases::IDLE {
         return Outcome {
-            number: 14,
-            service: 0,
+            number: refusal::WRONG_PHASE,
+            service: service::NONE,
         };
     }
     let a = read::read(octets);
     if a.number != 0 {
         return Outcome {
             number: a.number as u8,
-            service: 0,
+            service: service::NONE,
         };
     }
     let front = a.value.front;
@@ -188,10 +190,10 @@ fn claim(t: Status, kind: u8, octets: &[u8]) -> Outcome
 fn settles(o: Outcome, service: u8) -> bool
     ensures { λ r. ⌜ r ≡ settles service o ⌝ }
 {
-    if outcomes::is_its(o, service, 24) {
+    if outcomes::is_its(o, service, outcomes::GRANTED) {
         return true;
     }
-    outcomes::is_its(o, service, 25)
+    outcomes::is_its(o, service, outcomes::FAILED)
 }
 
 // ---- the places of answers and finals
@@ -201,7 +203,7 @@ fn answer_before(rows: &[u16], octets: &[u8], k: usize, service: u8, q: Ask) -> 
     requires { ⌜ Scan (now rows) (now octets) k × (1 ≤ service) × (service ≤ 3) × (named service (judged (before (now rows) (now octets) k)) ≡ requestOf q) ⌝ }
     ensures { λ r. ⌜ FirstAt (λ j. settles service (j .outcome)) (now (rows .entry)) (now (octets .entry)) k r ⌝ }
 {
-    let mut phase: u8 = 0;
+    let mut phase: u8 = phases::IDLE;
     let mut at: usize = 0;
     let mut i: usize = 0;
     while i < k {
@@ -228,7 +230,7 @@ fn final_before(rows: &[u16], octets: &[u8], k: usize, service: u8) -> usize
     let setup = setup_before(rows, k);
     let q = asked_for(setup, service);
     let place = answer_before(rows, octets, k, service, q);
-    let mut phase: u8 = 0;
+    let mut phase: u8 = phases::IDLE;
     let mut at: usize = 0;
     let mut i: usize = 0;
     while i < k {
@@ -237,7 +239,7 @@ fn final_before(rows: &[u16], octets: &[u8], k: usize, service: u8) -> usize
         let p = until(q, place, i);
         let t = alone(phase, service, p);
         let o = claim(t, e.kind, &octets[at..end]);
-        if outcomes::is_its(o, service, 22) {
+        if outcomes::is_its(o, service, outcomes::FINAL) {
             return i;
         }
         let next = passed(phase, e);
@@ -267,9 +269,9 @@ pub fn status_before(rows: &[u16], octets: &[u8], k: usize) -> Status
     ensures { λ r. ⌜ (r .phase ≡ phase (judged (before (now (rows .entry)) (now (octets .entry)) k))) × (requestsOf r ≡ requests (judged (before (now (rows .entry)) (now (octets .entry)) k))) ⌝ }
 {
     let phase = phase_before(rows, k);
-    let s = pending_before(rows, octets, k, 1);
-    let d = pending_before(rows, octets, k, 2);
-    let e = pending_before(rows, octets, k, 3);
+    let s = pending_before(rows, octets, k, service::S);
+    let d = pending_before(rows, octets, k, service::D);
+    let e = pending_before(rows, octets, k, service::E);
     let none = Services::empty();
     let asked = Services {
         s: s.mark,
@@ -322,19 +324,19 @@ fn final_at(rows: &[u16], octets: &[u8], k: usize, service: u8, charge: Charge) 
     let i = final_before(rows, octets, k, service);
     if i >= k {
         return Outcome {
-            number: 22,
+            number: outcomes::FINAL,
             service,
         };
     }
     let first = charge_at(rows, octets, i);
     if same_final::same(first, charge) {
         return Outcome {
-            number: 28,
+            number: outcomes::REPEATED,
             service,
         };
     }
     Outcome {
-        number: 29,
+        number: outcomes::CONFLICT,
         service,
     }
 }
@@ -345,7 +347,7 @@ pub fn outcome_at(rows: &[u16], octets: &[u8], k: usize) -> Outcome
     ensures { λ r. ⌜ r ≡ judge (known (judged (before (now (rows .entry)) (now (octets .entry)) k))) (rowAt (now (rows .entry)) k) (octetsAt (now (rows .entry)) (now (octets .entry)) k) ⌝ }
 {
     let e = events::row_at(rows, k);
-    if e.kind != 5 {
+    if e.kind != phases::COMPONENT {
         let t = bare(phase_before(rows, k));
         let m = phases::phase_step(t, e);
         return m.outcome;
@@ -354,7 +356,7 @@ pub fn outcome_at(rows: &[u16], octets: &[u8], k: usize) -> Outcome
     let end = at + events::count_at(rows, k);
     let t = status_before(rows, octets, k);
     let o = claim(t, e.kind, &octets[at..end]);
-    if o.number != 22 {
+    if o.number != outcomes::FINAL {
         return o;
     }
     let charge = charge_at(rows, octets, k);

@@ -1,10 +1,20 @@
 // The price of a call as the front desk's screen takes it: doubles.
+use coding::refusal;
+use requests::closing_service;
 use types::Charge;
 use types::Currency;
 use types::Money;
+use types::charge_kind;
 ghost use mathlib.Core.Path.{_≡_};
 ghost use Prim.Native.Nat.{_≤_};
 ghost use Rattle.price.specs.Price.{noAmount, pricedMoney, priceOf};
+
+// As wide as the answer has them.
+const NO_CLOSING: u32 = refusal::NO_CLOSING as u32;
+
+const BAD_RECORD: u32 = refusal::BAD_RECORD as u32;
+
+const UNIT_LIST: u32 = refusal::UNIT_LIST as u32;
 
 // number: 0, or the refusal 39, 10 or 38. free: 1 for a call that is free. What is not used is zero.
 #[repr(C)]
@@ -53,16 +63,16 @@ pub fn price(service: u32, c: Charge) -> Priced
 {
     let money = c.figure.money;
     let kind = c.figure.kind;
-    if service == 0 {
-        return no_amount(39, 0);
+    if service == closing_service::NONE {
+        return no_amount(NO_CLOSING, 0);
     }
     if !closing::in_range(service, c) {
-        return no_amount(10, 0);
+        return no_amount(BAD_RECORD, 0);
     }
-    if kind == 3 {
-        return no_amount(38, 0);
+    if kind == charge_kind::UNITS {
+        return no_amount(UNIT_LIST, 0);
     }
-    if kind == 1 {
+    if kind == charge_kind::FREE {
         return no_amount(0, 1);
     }
     priced_money(money)

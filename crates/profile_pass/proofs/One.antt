@@ -5,7 +5,7 @@ use Rattle.profile_read.{specs.declared.Judged.Judged, specs.Profile.Either, pr
 use Rattle.profile_pass.specs.{declared.NextBy.NextBy, Passing.nextIn}
 
 abbrev passedIn : NextBy → Parts → Passed Either
-passedIn r p = nextIn r (p .front) (p .figure) (p .numbers) (p .rows) (p .lead) (p .lent) (p .trunkFigure) (p .trunkNumbers) (p .trunkRows)
+passedIn r p = nextIn r (p .front) (p .figure) (p .numbers) (p .rows) (p .trunkFront) (p .extension) (p .trunkFigure) (p .trunkNumbers) (p .trunkRows)
 
 pub one-next-by : (p q : Parts) (r r′ : NextBy) → passedIn r p ≡ passedIn r′ q → (r ≡ r′) × Equal p q
 one-next-by p q r r′ e =

@@ -8,10 +8,10 @@ use Rattle.profile_pass.specs.declared.NextBy.{NextBy}
 abbrev pub families : Reads Either
 families = record { by = readBy; none = ofNone }
 
--- as it lies in the parts that are lent
+-- as it lies in the caller's parts
 abbrev pub nextIn : NextBy → List ℕ → List ℕ → List ℕ → List ℕ → List ℕ → List ℕ → List ℕ → List ℕ → List ℕ → Passed Either
-nextIn r front figure numbers rows lead lent trunkFigure trunkNumbers trunkRows = record {
+nextIn r front figure numbers rows trunkFront extension trunkFigure trunkNumbers trunkRows = record {
   ended = r .ended;
   after = r .after;
-  answer = eitherIn (r .answer) front figure numbers rows lead lent trunkFigure trunkNumbers trunkRows;
+  answer = eitherIn (r .answer) front figure numbers rows trunkFront extension trunkFigure trunkNumbers trunkRows;
 }

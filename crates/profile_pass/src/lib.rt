@@ -1,5 +1,6 @@
 // The components of an element one after another, read by the element's own profile octet.
 use profile_read::Judged;
+use profile_read::family;
 ghost use mathlib.Core.Path.{_≡_};
 ghost use Rattle.trunk_types.specs.Stored.{Spare};
 ghost use Rattle.element_pass.specs.Pass.{passWith};
@@ -13,7 +14,7 @@ pub struct NextBy {
     pub answer: Judged,
 }
 
-// What stands at a place of an element: the next component, read by the element's own third octet, with the place after it; or the end.
+// What is at a place of an element: the next component, read by the element's own third octet, with the place after it; or the end.
 pub fn next_by(
     octets: &[u8],
     place: usize,
@@ -21,33 +22,45 @@ pub fn next_by(
     figure: &mut [u8; 48],
     numbers: &mut [u32; 32],
     rows: &mut [u8; 192],
-    lead: &mut [u8; 48],
-    lent: &mut [u8; 244],
+    trunk_front: &mut [u8; 48],
+    extension: &mut [u8; 244],
     trunk_figure: &mut [u8; 48],
     trunk_numbers: &mut [u32; 32],
     trunk_rows: &mut [u8; 192],
 ) -> NextBy
-    ensures { λ r. ⌜ nextIn r (now (front .exit)) (now (figure .exit)) (now (numbers .exit)) (now (rows .exit)) (now (lead .exit)) (now (lent .exit)) (now («trunk_figure» .exit)) (now («trunk_numbers» .exit)) (now («trunk_rows» .exit)) ≡ passWith families (now (octets .entry)) place ⌝ }
-    ensures spare { λ _. ⌜ Spare (now (lead .exit)) ⌝ }
+    ensures { λ r. ⌜ nextIn r (now (front .exit)) (now (figure .exit)) (now (numbers .exit)) (now (rows .exit)) (now («trunk_front» .exit)) (now (extension .exit)) (now («trunk_figure» .exit)) (now («trunk_numbers» .exit)) (now («trunk_rows» .exit)) ≡ passWith families (now (octets .entry)) place ⌝ }
+    ensures spare { λ _. ⌜ Spare (now («trunk_front» .exit)) ⌝ }
 {
     let n = element_pass::next_into(octets, place, front, figure, numbers, rows);
     let after = n.after;
     let ended = n.ended;
     if after == 0 {
-        profile_read::no_trunk(lead, lent, trunk_figure, trunk_numbers, trunk_rows);
+        profile_read::no_trunk(
+            trunk_front,
+            extension,
+            trunk_figure,
+            trunk_numbers,
+            trunk_rows,
+        );
         return NextBy {
             after: 0,
             ended,
             answer: Judged {
                 number: n.answer.number,
                 offset: 0,
-                family: 0,
+                family: family::NONE,
             },
         };
     }
     let profile = octets[2];
     if profile == 0x91 {
-        profile_read::no_trunk(lead, lent, trunk_figure, trunk_numbers, trunk_rows);
+        profile_read::no_trunk(
+            trunk_front,
+            extension,
+            trunk_figure,
+            trunk_numbers,
+            trunk_rows,
+        );
         let a: read::Refusal = n.answer;
         return NextBy {
             after,
@@ -55,15 +68,15 @@ pub fn next_by(
             answer: Judged {
                 number: a.number,
                 offset: a.offset,
-                family: 1,
+                family: family::LINE,
             },
         };
     }
     let answer = profile_read::trunk_by(
         profile,
         &octets[place..after],
-        lead,
-        lent,
+        trunk_front,
+        extension,
         trunk_figure,
         trunk_numbers,
         trunk_rows,

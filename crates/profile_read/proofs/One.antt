@@ -11,25 +11,25 @@ pub record Parts : Type 0 where
   pub figure : List ℕ
   pub numbers : List ℕ
   pub rows : List ℕ
-  pub lead : List ℕ
-  pub lent : List ℕ
+  pub trunkFront : List ℕ
+  pub extension : List ℕ
   pub trunkFigure : List ℕ
   pub trunkNumbers : List ℕ
   pub trunkRows : List ℕ
   pub front-filled : Filled 8 front
   pub figure-filled : Filled 48 figure
-  pub lead-filled : Filled 48 lead
-  pub lead-spare : Spare lead
-  pub lent-filled : Filled 244 lent
+  pub trunk-front-filled : Filled 48 trunkFront
+  pub trunk-front-spare : Spare trunkFront
+  pub extension-filled : Filled 244 extension
   pub trunk-filled : Filled 48 trunkFigure
 
 abbrev pub Equal : Parts → Parts → Type 0
 Equal p q =
     (p .front ≡ q .front) × (p .figure ≡ q .figure) × (p .numbers ≡ q .numbers) × (p .rows ≡ q .rows)
-    × (p .lead ≡ q .lead) × (p .lent ≡ q .lent) × (p .trunkFigure ≡ q .trunkFigure) × (p .trunkNumbers ≡ q .trunkNumbers) × (p .trunkRows ≡ q .trunkRows)
+    × (p .trunkFront ≡ q .trunkFront) × (p .extension ≡ q .extension) × (p .trunkFigure ≡ q .trunkFigure) × (p .trunkNumbers ≡ q .trunkNumbers) × (p .trunkRows ≡ q .trunkRows)
 
 abbrev readIn : Judged → Parts → Either
-readIn r p = eitherIn r (p .front) (p .figure) (p .numbers) (p .rows) (p .lead) (p .lent) (p .trunkFigure) (p .trunkNumbers) (p .trunkRows)
+readIn r p = eitherIn r (p .front) (p .figure) (p .numbers) (p .rows) (p .trunkFront) (p .extension) (p .trunkFigure) (p .trunkNumbers) (p .trunkRows)
 
 abbrev refusal : Judged → Refusal
 refusal r = record { number = r .number; offset = r .offset }
@@ -39,6 +39,6 @@ module _ (p q : Parts) where
   one-either r r′ e =
       let o = one-answer (refusal r) (refusal r′) (p .front-filled) (q .front-filled) (p .figure-filled) (q .figure-filled)
       (ap (λ (x : Either). record { number = x .number; offset = x .offset; value = x .line }) e) in
-      let t = one-trunk (refusal r) (refusal r′) (p .lead-filled) (q .lead-filled) (p .lead-spare) (q .lead-spare) (p .lent-filled) (q .lent-filled) (p .trunk-filled) (q .trunk-filled)
+      let t = one-trunk (refusal r) (refusal r′) (p .trunk-front-filled) (q .trunk-front-filled) (p .trunk-front-spare) (q .trunk-front-spare) (p .extension-filled) (q .extension-filled) (p .trunk-filled) (q .trunk-filled)
       (ap (λ (x : Either). record { number = x .number; offset = x .offset; value = x .trunk }) e) in
       (ap (λ (x : Either). record { number = x .number; offset = x .offset; family = x .family }) e, (o .1, o .2, o .3, o .4, t .1, t .2, t .3, t .4, t .5))

@@ -33,14 +33,14 @@ ofNone n = record { number = n; offset = 0; family = 0; line = noRecord; trunk =
 unfoldable pub readBy : ℕ → List ℕ → Either
 readBy profile s = cond (eqb profile 0x91) (ofLine (readOf s)) (cond (eqb profile 0x9f) (ofTrunk (readTrunk s)) (ofNone 17))
 
--- ---- as it lies in the parts that are lent
+-- ---- as it lies in the caller's parts
 
 -- what is answered by value, and the records in four parts and five
 abbrev pub eitherIn : Judged → List ℕ → List ℕ → List ℕ → List ℕ → List ℕ → List ℕ → List ℕ → List ℕ → List ℕ → Either
-eitherIn r front figure numbers rows lead lent trunkFigure trunkNumbers trunkRows = record {
+eitherIn r front figure numbers rows trunkFront extension trunkFigure trunkNumbers trunkRows = record {
   number = r .number;
   offset = r .offset;
   family = r .family;
   line = recordIn front figure numbers rows;
-  trunk = trunkIn lead lent (storedCharge trunkFigure trunkNumbers trunkRows);
+  trunk = trunkIn trunkFront extension (storedCharge trunkFigure trunkNumbers trunkRows);
 }

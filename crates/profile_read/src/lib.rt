@@ -1,4 +1,5 @@
 // Reads a component by the profile octet of its element: hex 91 is a public line, hex 9F a trunk, and any other octet is refused (17) before all else.
+use coding::refusal;
 ghost use mathlib.Core.Path.{_≡_};
 ghost use lib.ListN.{replicate};
 ghost use Rattle.types.specs.Frames.{noRecord};
@@ -7,6 +8,17 @@ ghost use Rattle.trunk_types.specs.Components.{noTrunk};
 ghost use Rattle.trunk_types.specs.Stored.{trunkIn};
 ghost use Rattle.trunk_types.specs.Stored.{Spare};
 ghost use Rattle.profile_read.specs.Profile.{readBy, eitherIn};
+
+const OTHER_PROFILE: u32 = refusal::OTHER_PROFILE as u32;
+
+// The families of components, each by its name in include/aoc.h.
+pub mod family {
+    pub const NONE: u32 = 0;
+
+    pub const LINE: u32 = 1;
+
+    pub const TRUNK: u32 = 2;
+}
 
 // number: 0, or a refusal's, with 40 to 45 an offset. family: that of the profile octet, 1 of public lines, 2 of trunks; 0 where it names none.
 #[repr(C)]
@@ -33,17 +45,17 @@ fn no_line(
 }
 
 pub fn no_trunk(
-    lead: &mut [u8; 48],
-    lent: &mut [u8; 244],
+    trunk_front: &mut [u8; 48],
+    extension: &mut [u8; 244],
     figure: &mut [u8; 48],
     numbers: &mut [u32; 32],
     rows: &mut [u8; 192],
 )
-    ensures { λ _. ⌜ trunkIn (now (lead .exit)) (now (lent .exit)) (storedCharge (now (figure .exit)) (now (numbers .exit)) (now (rows .exit))) ≡ noTrunk ⌝ }
-    ensures spare { λ _. ⌜ Spare (now (lead .exit)) ⌝ }
+    ensures { λ _. ⌜ trunkIn (now («trunk_front» .exit)) (now (extension .exit)) (storedCharge (now (figure .exit)) (now (numbers .exit)) (now (rows .exit))) ≡ noTrunk ⌝ }
+    ensures spare { λ _. ⌜ Spare (now («trunk_front» .exit)) ⌝ }
 {
-    *lead = [0; 48];
-    *lent = [0; 244];
+    *trunk_front = [0; 48];
+    *extension = [0; 244];
     *figure = [0; 48];
     *numbers = [0; 32];
     *rows = [0; 192];
@@ -55,29 +67,29 @@ pub fn no_trunk(
 pub fn trunk_by(
     profile: u8,
     octets: &[u8],
-    lead: &mut [u8; 48],
-    lent: &mut [u8; 244],
+    trunk_front: &mut [u8; 48],
+    extension: &mut [u8; 244],
     figure: &mut [u8; 48],
     numbers: &mut [u32; 32],
     rows: &mut [u8; 192],
 ) -> Judged
     requires { ⌜ (profile ≡ 0x91 → ⊥) ⌝ }
-    ensures { λ r. ⌜ eitherIn r (replicate 8 0) (replicate 48 0) (replicate 32 0) (replicate 192 0) (now (lead .exit)) (now (lent .exit)) (now (figure .exit)) (now (numbers .exit)) (now (rows .exit)) ≡ readBy profile (now (octets .entry)) ⌝ }
-    ensures spare { λ _. ⌜ Spare (now (lead .exit)) ⌝ }
+    ensures { λ r. ⌜ eitherIn r (replicate 8 0) (replicate 48 0) (replicate 32 0) (replicate 192 0) (now («trunk_front» .exit)) (now (extension .exit)) (now (figure .exit)) (now (numbers .exit)) (now (rows .exit)) ≡ readBy profile (now (octets .entry)) ⌝ }
+    ensures spare { λ _. ⌜ Spare (now («trunk_front» .exit)) ⌝ }
 {
     if profile == 0x9f {
-        let a = trunk_read::read_into(octets, lead, lent, figure, numbers, rows);
+        let a = trunk_read::read_into(octets, trunk_front, extension, figure, numbers, rows);
         return Judged {
             number: a.number,
             offset: a.offset,
-            family: 2,
+            family: family::TRUNK,
         };
     }
-    no_trunk(lead, lent, figure, numbers, rows);
+    no_trunk(trunk_front, extension, figure, numbers, rows);
     Judged {
-        number: 17,
+        number: OTHER_PROFILE,
         offset: 0,
-        family: 0,
+        family: family::NONE,
     }
 }
 
@@ -89,30 +101,36 @@ pub fn read_by(
     figure: &mut [u8; 48],
     numbers: &mut [u32; 32],
     rows: &mut [u8; 192],
-    lead: &mut [u8; 48],
-    lent: &mut [u8; 244],
+    trunk_front: &mut [u8; 48],
+    extension: &mut [u8; 244],
     trunk_figure: &mut [u8; 48],
     trunk_numbers: &mut [u32; 32],
     trunk_rows: &mut [u8; 192],
 ) -> Judged
-    ensures { λ r. ⌜ eitherIn r (now (front .exit)) (now (figure .exit)) (now (numbers .exit)) (now (rows .exit)) (now (lead .exit)) (now (lent .exit)) (now («trunk_figure» .exit)) (now («trunk_numbers» .exit)) (now («trunk_rows» .exit)) ≡ readBy profile (now (octets .entry)) ⌝ }
-    ensures spare { λ _. ⌜ Spare (now (lead .exit)) ⌝ }
+    ensures { λ r. ⌜ eitherIn r (now (front .exit)) (now (figure .exit)) (now (numbers .exit)) (now (rows .exit)) (now («trunk_front» .exit)) (now (extension .exit)) (now («trunk_figure» .exit)) (now («trunk_numbers» .exit)) (now («trunk_rows» .exit)) ≡ readBy profile (now (octets .entry)) ⌝ }
+    ensures spare { λ _. ⌜ Spare (now («trunk_front» .exit)) ⌝ }
 {
     if profile == 0x91 {
-        no_trunk(lead, lent, trunk_figure, trunk_numbers, trunk_rows);
+        no_trunk(
+            trunk_front,
+            extension,
+            trunk_figure,
+            trunk_numbers,
+            trunk_rows,
+        );
         let a = read::read_into(octets, front, figure, numbers, rows);
         return Judged {
             number: a.number,
             offset: a.offset,
-            family: 1,
+            family: family::LINE,
         };
     }
     no_line(front, figure, numbers, rows);
     trunk_by(
         profile,
         octets,
-        lead,
-        lent,
+        trunk_front,
+        extension,
         trunk_figure,
         trunk_numbers,
         trunk_rows,

@@ -1,14 +1,14 @@
 -- What is left to read after a head: an argument or result, and then the ends.
 use Rattle.prelude.proofs.Prelude.{ℕ, _+_, _%_, _<_, arith, _≡_, refl, ap, _∙_, Bool, true, false, _&&_, cond, List, length, eqb, lt-leb, eqb-true, eqb-false, eq-eqb, ne-eqb}
-use Rattle.coding.specs.{Reader.Ans, Reader.after, Reader.part, Reader.Ans.got, Reader.Ans.halt, Codec.Run, Codec.pickRun, Codec.canonical, Codec.over, Codec.marked, Shown.shown}
+use Rattle.coding.specs.{Reader.Ans, Reader.after, Reader.part, Reader.Ans.got, Reader.Ans.halt, Codec.Run, Codec.pickRun, Codec.canonical, Codec.over, Codec.marked, inner.Shown.shown}
 use Rattle.coding.proofs.Reading.{flat}
 use Rattle.types.specs.{declared.Record.Record, declared.Answer.Answer, Arguments.noCharge, Stored.Blank, Stored.figureIn, Stored.stored, Frames.noRecord}
 use Rattle.types.specs.Frames.{refusedAt, inArgument, sameRecord, request, carrying, argument, answered, readWhole, readOf}
 use Rattle.types.proofs.{Places.pick, Theorems.offset-small}
-use Rattle.read_heads.{specs.declared.Head.Head, specs.Heads.faultBy, specs.Heads.tailOf, specs.Heads.restOf, proofs.Answers.goes-in, proofs.Answers.refuses-in}
+use Rattle.read_heads.{specs.declared.Head.Head, specs.inner.Heads.faultBy, specs.inner.Heads.tailOf, specs.inner.Heads.restOf, proofs.Answers.goes-in, proofs.Answers.refuses-in}
 use Rattle.read_elements.specs.declared.Empty.{Empty}
-use Rattle.read_lists.specs.Answers.{whole}
-use Rattle.read.specs.{declared.Refusal.Refusal, Ways.isRequest, Ways.held, Ways.endsWell, Ways.endBy, Ways.endOf, Ways.Ended}
+use Rattle.read_lists.specs.inner.Answers.{whole}
+use Rattle.read.specs.{declared.Refusal.Refusal, inner.Ways.isRequest, inner.Ways.held, inner.Ways.endsWell, inner.Ways.endBy, inner.Ways.endOf, inner.Ways.Ended}
 
 -- ---- how an argument or result ends
 

@@ -1,4 +1,4 @@
--- An answer whose record lies in four parts that are lent.
+-- An answer whose record lies in the caller's four parts.
 use Prim.Native.Nat.{ℕ}
 use mathlib.Core.List.{List}
 use Rattle.types.specs.declared.Answer.{Answer}

@@ -1,19 +1,23 @@
 // Reads a whole component into a record.
 //
-// What is read is stored in a record's parts, which are lent: its front of 8 octets, its figure of 48 and its list's two arrays.
+// What is read is stored in the caller's parts of a record: its front of 8 octets, its figure of 48 and its list's two arrays.
+use coding::refusal;
+use types::frame;
+use types::in_front;
+use types::operation;
 ghost use mathlib.Core.Path.{_≡_};
 ghost use Prim.Native.Nat.{_%_};
 ghost use lib.ListN.{replicate};
 ghost use Rattle.coding.specs.Reader.Ans.{halt};
-ghost use Rattle.coding.specs.Shown.{shown};
+ghost use Rattle.coding.specs.inner.Shown.{shown};
 ghost use Rattle.types.specs.Arguments.{noCharge, chargeOf};
 ghost use Rattle.types.specs.Frames.{frontBy, request, carrying, refusedAt, offsetOf, answered, readOf};
 ghost use Rattle.types.specs.Stored.{Blank, frontIn};
-ghost use Rattle.read_heads.specs.Heads.{faultBy, tailOf};
-ghost use Rattle.read_lists.specs.Answers.{whole};
+ghost use Rattle.read_heads.specs.inner.Heads.{faultBy, tailOf};
+ghost use Rattle.read_lists.specs.inner.Answers.{whole};
 ghost use Rattle.read.specs.Whole.{wholeAnswer};
-ghost use Rattle.read.specs.Ways.{isRequest, held, plainAnswer, endsWell, Ended};
-ghost use Rattle.read_lengths.specs.Bounds.{Bounded};
+ghost use Rattle.read.specs.inner.Ways.{isRequest, held, plainAnswer, endsWell, Ended};
+ghost use Rattle.read_lengths.specs.inner.Bounds.{Bounded};
 
 // 0 where a component is accepted; or the refusal's number, with 40 to 45 the offset of the octet at which reading stopped.
 #[repr(C)]
@@ -31,7 +35,7 @@ const NONE: Refusal = Refusal {
 pub fn offset_of(number: u8, place: usize) -> u32
     ensures { λ r. ⌜ r ≡ offsetOf number place % 256 ⌝ }
 {
-    if number < 40 {
+    if number < refusal::MISSING {
         return 0;
     }
     (place % 256) as u32
@@ -58,11 +62,11 @@ fn keep_front(front: &mut [u8; 8], frame: u8, id: u16, operation: u8, detail: u8
     requires { ⌜ now front ≡ replicate 8 0 ⌝ }
     ensures { λ _. ⌜ frontIn (now (front .exit)) ≡ frontBy frame 0 id operation 0 0 detail ⌝ }
 {
-    front[0] = frame;
-    front[2] = (id % 256) as u8;
-    front[3] = (id / 256) as u8;
-    front[4] = operation;
-    front[7] = detail;
+    front[in_front::FRAME] = frame;
+    front[in_front::ID] = (id % 256) as u8;
+    front[in_front::ID_HIGH] = (id / 256) as u8;
+    front[in_front::OPERATION] = operation;
+    front[in_front::DETAIL] = detail;
 }
 
 // Of an error or a reject, which have neither argument nor result.
@@ -70,14 +74,14 @@ fn keep_head(front: &mut [u8; 8], h: read_heads::Head)
     requires { ⌜ now front ≡ replicate 8 0 ⌝ }
     ensures { λ _. ⌜ frontIn (now (front .exit)) ≡ h .front ⌝ }
 {
-    front[0] = h.front.frame;
-    front[1] = h.front.unnamed;
-    front[2] = (h.front.id % 256) as u8;
-    front[3] = (h.front.id / 256) as u8;
-    front[4] = h.front.operation;
-    front[5] = h.front.error;
-    front[6] = h.front.problem;
-    front[7] = h.front.detail;
+    front[in_front::FRAME] = h.front.frame;
+    front[in_front::UNNAMED] = h.front.unnamed;
+    front[in_front::ID] = (h.front.id % 256) as u8;
+    front[in_front::ID_HIGH] = (h.front.id / 256) as u8;
+    front[in_front::OPERATION] = h.front.operation;
+    front[in_front::ERROR] = h.front.error;
+    front[in_front::PROBLEM] = h.front.problem;
+    front[in_front::DETAIL] = h.front.detail;
 }
 
 // ---- arguments and results
@@ -86,10 +90,10 @@ fn keep_head(front: &mut [u8; 8], h: read_heads::Head)
 fn is_request(h: read_heads::Head) -> bool
     ensures { λ r. ⌜ r ≡ isRequest (h .front) ⌝ }
 {
-    if h.front.frame != 1 {
+    if h.front.frame != frame::INVOKE {
         return false;
     }
-    if h.front.operation != 30 {
+    if h.front.operation != operation::CHARGING_REQUEST {
         return false;
     }
     true
@@ -103,10 +107,10 @@ fn ended(h: read_heads::Head, fault: u8, place: usize, next: usize) -> Refusal
         return refused(read_heads::inner(fault), place);
     }
     if next != h.stop {
-        return refused(41, next);
+        return refused(refusal::UNEXPECTED, next);
     }
     if h.next != h.end {
-        return refused(41, h.next);
+        return refused(refusal::UNEXPECTED, h.next);
     }
     NONE
 }
@@ -130,7 +134,13 @@ fn asked(s: &[u8], h: read_heads::Head, front: &mut [u8; 8]) -> Refusal
     let n = read_elements::natural_at(s, h.at, h.stop, 0x0a, 0, 2);
     let r = ended(h, n.fault, n.place, n.next);
     if ends_well(n.fault, r.number) {
-        keep_front(front, 1, h.front.id, 30, n.value as u8);
+        keep_front(
+            front,
+            frame::INVOKE,
+            h.front.id,
+            operation::CHARGING_REQUEST,
+            n.value as u8,
+        );
     }
     r
 }
@@ -198,7 +208,7 @@ pub fn read_into(
     if h.front.frame == 0 {
         return refused(h.fault, h.at);
     }
-    if 3 <= h.front.frame {
+    if frame::ERROR <= h.front.frame {
         keep_head(front, h);
         return NONE;
     }

@@ -1,15 +1,15 @@
 -- Types read in the code's steps: the same answers; what the returns cite beside the laws of readers and of stores.
 use Rattle.prelude.proofs.Prelude.{ℕ, _≤_, arith, _≡_, refl, sym, Bool, true, false, _&&_, _||_, cond, List, leb, eqb, eqb-true, eqb-false, eq-eqb, ne-eqb, leb-true, le-ltb}
 use Rattle.coding.{specs.Reader.Ans, specs.Reader.after, specs.Reader.opened, specs.Reader.closed, specs.Reader.constructed, specs.Reader.choice, specs.Reader.tagged}
-use Rattle.coding.{specs.Reader.Ans.got, specs.Reader.Ans.halt, specs.Shown.shown, specs.Codec.Run, specs.Codec.cons, specs.Codec.nothing, specs.Codec.pair, specs.Codec.sort}
+use Rattle.coding.{specs.Reader.Ans.got, specs.Reader.Ans.halt, specs.inner.Shown.shown, specs.Codec.Run, specs.Codec.cons, specs.Codec.nothing, specs.Codec.pair, specs.Codec.sort}
 use Rattle.coding.{specs.Codec.canonical, specs.Codec.over, specs.Codec.pickRun, proofs.Basic.and-left, proofs.Basic.and-right}
 use Rattle.coding.{proofs.Reading.flat, proofs.Reading.step, proofs.Reading.stay, proofs.Reading.shut, proofs.Reading.remains}
 use Rattle.types.specs.{declared.Charge.Charge, Charges.flag, Charges.noAssociation, Charges.unassociated, Charges.association, Arguments.noCharge, Arguments.totalled}
 use Rattle.types.specs.{Arguments.during, Arguments.ending, Arguments.sign, Arguments.subtotals, Arguments.settled, Arguments.withAssociation, Arguments.finals, Arguments.associated}
 use Rattle.types.specs.{Arguments.inMoney, Arguments.inUnits, Arguments.arrangement, Arguments.rates, Arguments.available}
 use Rattle.read_figures.proofs.Steps.{after-same}
-use Rattle.read_unit.specs.Readers.{isTariff, typeBy, billingBy, framedBy}
-use Rattle.read_charges.specs.Readers.{amountBy, pricedBy, settledBy, figureBy, figureOf}
+use Rattle.read_unit.specs.inner.Readers.{isTariff, typeBy, billingBy, framedBy}
+use Rattle.read_charges.specs.inner.Readers.{amountBy, pricedBy, settledBy, figureBy, figureOf}
 
 -- ---- how answers go on
 

@@ -6,8 +6,8 @@ use Rattle.types.specs.Charges.{flag, noAssociation}
 use Rattle.types.specs.Arguments.{plain, moneyFigure, noCharge, totalled, associated}
 use Rattle.types.specs.Stored.{moneyIn, associationIn, figureIn, storedCharge, Blank, stored}
 use Rattle.types.proofs.Stored.{kind-stored, totalled-stored, money-long, money-figure, beside-figure}
-use Rattle.read_figures.{specs.Beside.Unassociated, specs.Beside.SameBeside, proofs.Answers.arrived, proofs.Kept.unassociated-none}
-use Rattle.read_lists.specs.Answers.{whole, Clear}
+use Rattle.read_figures.{specs.inner.Beside.Unassociated, specs.inner.Beside.SameBeside, proofs.Answers.arrived, proofs.Kept.unassociated-none}
+use Rattle.read_lists.specs.inner.Answers.{whole, Clear}
 
 module _ (s numbers octets : List ℕ) {r : Empty} {v : ℕ × ℕ × Charge × ℕ} where
   -- a charge without a list

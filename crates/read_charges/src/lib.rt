@@ -2,14 +2,17 @@
 //
 // The readers store what they read where it will lie: a list in two arrays and the rest in the figure's 48 octets, all zero before.
 // After a fault what is stored does not count.
+use coding::refusal;
+use types::charge_kind;
+use types::in_figure;
 ghost use mathlib.Core.Path.{_≡_};
-ghost use Rattle.coding.specs.Shown.{shown};
+ghost use Rattle.coding.specs.inner.Shown.{shown};
 ghost use Rattle.types.specs.Arguments.{noCharge, rates, available};
 ghost use Rattle.types.specs.Stored.{Blank};
-ghost use Rattle.read_figures.specs.Beside.{Unassociated};
-ghost use Rattle.read_lists.specs.Answers.{whole, Clear};
-ghost use Rattle.read_charges.specs.Readers.{amountBy, pricedOf, settledOf, figureOf};
-ghost use Rattle.read_lengths.specs.Bounds.{Bounded};
+ghost use Rattle.read_figures.specs.inner.Beside.{Unassociated};
+ghost use Rattle.read_lists.specs.inner.Answers.{whole, Clear};
+ghost use Rattle.read_charges.specs.inner.Readers.{amountBy, pricedOf, settledOf, figureOf};
+ghost use Rattle.read_lengths.specs.inner.Bounds.{Bounded};
 
 // The argument of operation 31, and what a trunk's 63 holds.
 pub fn rates_at(
@@ -34,7 +37,7 @@ pub fn rates_at(
         return read_figures::halted(r.fault, r.place);
     }
     if r.next != e.value.stop {
-        return read_figures::halted(41, r.next);
+        return read_figures::halted(refusal::UNEXPECTED, r.next);
     }
     read_figures::reached(e.next)
 }
@@ -63,7 +66,7 @@ fn price_in(
     if m.fault != 0 {
         return read_figures::halted(m.fault, m.place);
     }
-    figure[42] = 2;
+    figure[in_figure::KIND] = charge_kind::MONEY;
     read_figures::reached(m.next)
 }
 
@@ -103,7 +106,7 @@ fn priced_at(
         return read_figures::halted(p.fault, p.place);
     }
     if p.next != a.value.stop {
-        return read_figures::halted(41, p.next);
+        return read_figures::halted(refusal::UNEXPECTED, p.next);
     }
     let t = read_unit::type_at(s, a.next, e.value.stop, operation);
     if t.fault != 0 {
@@ -114,11 +117,11 @@ fn priced_at(
         return read_figures::halted(b.fault, b.place);
     }
     if b.next != e.value.stop {
-        return read_figures::halted(41, b.next);
+        return read_figures::halted(refusal::UNEXPECTED, b.next);
     }
-    figure[43] = t.value as u8;
-    figure[44] = read_figures::flag(b.value.given);
-    figure[45] = b.value.value as u8;
+    figure[in_figure::TOTAL] = t.value as u8;
+    figure[in_figure::BILLED] = read_figures::flag(b.value.given);
+    figure[in_figure::BILLING] = b.value.value as u8;
     read_figures::reached(e.next)
 }
 
@@ -138,7 +141,7 @@ fn settled_at(
     ensures clear { λ _. ⌜ Unassociated (now (figure .exit)) ⌝ }
 {
     if read_lengths::is_tag(s, at, end, 0x81) {
-        return read_figures::sign_at(s, at, end, 0x81, 1, figure);
+        return read_figures::sign_at(s, at, end, 0x81, charge_kind::FREE, figure);
     }
     priced_at(s, at, end, operation, figure, numbers, rows)
 }
@@ -184,14 +187,14 @@ fn figure_at(
         return read_figures::halted(a.fault, a.place);
     }
     if a.next != e.value.stop {
-        return read_figures::halted(41, a.next);
+        return read_figures::halted(refusal::UNEXPECTED, a.next);
     }
     read_figures::reached(e.next)
 }
 
 // ---- by the operation
 
-// The charge into the parts that are lent.
+// The charge into the caller's parts.
 pub fn charge_into(
     s: &[u8],
     at: usize,

@@ -2,7 +2,7 @@
 use Rattle.prelude.proofs.Prelude.{ℕ, _+_, _-_, _*_, _≤_, _<_, min, arith, _≡_, sym, ap, _∙_, Bool, true, false, not, true≢false, List, [], _∷_, length, getD, leb, ltb, not-true, not-false}
 use Rattle.prelude.proofs.Prelude.{le-leb, lt-leb, ne-eqb}
 use Rattle.coding.{specs.Reader.part, specs.Reader.Ruling, specs.Contents.natural, specs.Contents.numberFrom, specs.Contents.shortest, specs.Contents.negative, specs.Leaves.integer}
-use Rattle.coding.{specs.Shown.verdict, proofs.Laws.Octets, proofs.Combine.octets-part, proofs.Signed.both-octets, proofs.Signed.too-many, proofs.Parts.part-none, proofs.Parts.part-cons}
+use Rattle.coding.{specs.inner.Shown.verdict, proofs.Laws.Octets, proofs.Combine.octets-part, proofs.Signed.both-octets, proofs.Signed.too-many, proofs.Parts.part-none, proofs.Parts.part-cons}
 use Rattle.coding.{proofs.Parts.part-length}
 
 module _ (s : List ℕ) (i j : ℕ) (l : j ≤ length s) where

@@ -1,8 +1,8 @@
 -- What contents of one octet mean, and of none: the code that finds them answers as the long way would.
 use Rattle.prelude.proofs.Prelude.{ℕ, _+_, _*_, _≤_, _<_, _≡_, refl, sym, List, [], _∷_, arith, length, getD, leb, eqb, leb-true, eqb-true, le-leb, lt-leb, eq-eqb}
 use Rattle.coding.{specs.Reader.after, specs.Reader.ruled, specs.Reader.Ruling, specs.Reader.primitive, specs.Contents.natural, specs.Contents.shortest, specs.Contents.negative}
-use Rattle.coding.{specs.Contents.numberFrom, specs.Contents.null, specs.Codec.Leaf, specs.Codec.prim, specs.Leaves.number, specs.Leaves.nullLeaf, specs.Shown.shown, specs.Shortcut.Tiny}
-use Rattle.coding.{specs.Shortcut.Short, specs.Shortcut.tinyAt, proofs.Basic.unpicked, proofs.Parts.part-none, proofs.Parts.part-cons}
+use Rattle.coding.{specs.Contents.numberFrom, specs.Contents.null, specs.Codec.Leaf, specs.Codec.prim, specs.Leaves.number, specs.Leaves.nullLeaf, specs.inner.Shown.shown, specs.inner.Shortcut.Tiny}
+use Rattle.coding.{specs.inner.Shortcut.Short, specs.inner.Shortcut.tinyAt, proofs.Basic.unpicked, proofs.Parts.part-none, proofs.Parts.part-cons}
 use Rattle.read_lengths.proofs.Shortcut.{no-and, no-test, short-opens}
 
 module _ (s : List ℕ) (at end tag : ℕ) where

@@ -1,7 +1,7 @@
 -- What the returns of a reader cite that stores what it reads and answers where it ended.
 use Rattle.prelude.proofs.Prelude.{ℕ, _≡_, ap, sym, _∙_, false, eqb, eq-eqb, ne-eqb}
 use Rattle.read_elements.specs.declared.Empty.{Empty}
-use Rattle.coding.{specs.Reader.Ans, specs.Reader.Ruling, specs.Reader.after, specs.Reader.ruled, specs.Shown.shown, specs.Shown.verdict, proofs.Reading.step, proofs.Reading.passes}
+use Rattle.coding.{specs.Reader.Ans, specs.Reader.Ruling, specs.Reader.after, specs.Reader.ruled, specs.inner.Shown.shown, specs.inner.Shown.verdict, proofs.Reading.step, proofs.Reading.passes}
 use Rattle.types.specs.Stored.{stored}
 
 module _ {A : Type 0} (z w : A) where

@@ -2,10 +2,10 @@
 use Rattle.prelude.proofs.Prelude.{ℕ, _≡_, refl, sym, _∙_, Bool, true, false, not, cond, List, eqb, eq-eqb, ne-eqb}
 use Rattle.coding.{specs.Reader.Ans, specs.Reader.after, specs.Reader.opened, specs.Reader.closed, specs.Reader.constructed, specs.Reader.primitive, specs.Reader.ruled, specs.Reader.Ruling}
 use Rattle.coding.{specs.Reader.mapped, specs.Reader.narrowed, specs.Reader.Ans.got, specs.Reader.Ans.halt, specs.Reader.Fault.contents, specs.Reader.Ruling.good, specs.Reader.Ruling.bad}
-use Rattle.coding.{specs.Shown.shown, specs.Codec.Leaf, specs.Codec.prim, specs.Codec.cons, specs.Codec.pair, specs.Codec.over, specs.Codec.canonical, specs.Leaves.number, specs.Leaves.only}
+use Rattle.coding.{specs.inner.Shown.shown, specs.Codec.Leaf, specs.Codec.prim, specs.Codec.cons, specs.Codec.pair, specs.Codec.over, specs.Codec.canonical, specs.Leaves.number, specs.Leaves.only}
 use Rattle.coding.{proofs.Reading.flat, proofs.Reading.after-assoc}
 use Rattle.types.specs.{declared.Association.Association, Charges.digitsLeaf, Charges.isPlan, Charges.plainParty, Charges.planned}
-use Rattle.read_figures.specs.Numbers.{byDigits, numbered}
+use Rattle.read_figures.specs.inner.Numbers.{byDigits, numbered}
 
 -- ---- contents for another type; contents of which only some values pass
 

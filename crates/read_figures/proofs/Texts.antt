@@ -1,7 +1,7 @@
 -- A loop over a string's octets into a part of a figure: what is known after some of them, and what each way out says.
 use Rattle.prelude.proofs.Prelude.{ℕ, suc, _+_, _-_, _≤_, _<_, arith, sub-zero, _≡_, _∙_, Bool, true, false, List, [], _∷_, _++_, append-assoc, length, getD, set, replicate, length-append}
 use Rattle.prelude.proofs.Prelude.{length-replicate, set-at, le-ltb, lt-ltb, eq-eqb}
-use Rattle.coding.{specs.Reader.part, specs.Reader.mapped, specs.Contents.every, specs.Contents.text, specs.Codec.pad, specs.Shown.verdict, proofs.Parts.part-none, proofs.Parts.part-length}
+use Rattle.coding.{specs.Reader.part, specs.Reader.mapped, specs.Contents.every, specs.Contents.text, specs.Codec.pad, specs.inner.Shown.verdict, proofs.Parts.part-none, proofs.Parts.part-length}
 use Rattle.coding.{proofs.Parts.part-more, proofs.Parts.every-more, proofs.Parts.every-stop}
 
 -- one octet more, stored behind those that lie after the front

@@ -1,12 +1,12 @@
 -- The component's own element, and then its contents by its first octet.
 use Rattle.prelude.proofs.Prelude.{ℕ, _≤_, _<_, arith, _≡_, refl, ap, sym, _∙_, true, false, List, [], _∷_, length, getD, leb, eq-eqb, ne-eqb, lt-leb, ap₂}
 use Rattle.coding.{specs.Reader.Ans, specs.Reader.after, specs.Reader.closed, specs.Reader.lengthAt, specs.Reader.opened, specs.Reader.enteredAny, specs.Reader.oneOf, specs.Reader.Ans.got}
-use Rattle.coding.{specs.Reader.Ans.halt, specs.Reader.Fault.named, specs.Codec.Run, specs.Codec.frames, specs.Shown.shown, specs.declared.Extent.Extent, proofs.Header.opened-there}
+use Rattle.coding.{specs.Reader.Ans.halt, specs.Reader.Fault.named, specs.Codec.Run, specs.Codec.frames, specs.inner.Shown.shown, specs.declared.Extent.Extent, proofs.Header.opened-there}
 use Rattle.coding.{proofs.Header.opened-sound, proofs.Header.spans-range, proofs.Frames.any-got, proofs.Reading.got-of}
 use Rattle.read_lengths.specs.declared.Opened.{Opened}
 use Rattle.types.specs.{declared.Record.Record, Frames.outside, Frames.component, Frames.frame, Frames.readWhole}
 use Rattle.types.proofs.Theorems.{read-short}
-use Rattle.read_heads.specs.Heads.{faultBy, contentsOf}
+use Rattle.read_heads.specs.inner.Heads.{faultBy, contentsOf}
 use Rattle.read_heads.proofs.{Answers.goes, Answers.refuses, Codes.none-of, Codes.count, Codes.counted}
 
 abbrev pub tags : List ℕ

@@ -1,7 +1,7 @@
 -- An operation or error value of one octet.
 use Rattle.prelude.proofs.Prelude.{ℕ, _+_, _≤_, _<_, arith, _≡_, refl, ap, sym, _∙_, true, List, [], _∷_, length, getD, lt-leb, lt-ltb, ne-eqb}
 use Rattle.coding.{specs.Reader.tagged, specs.Reader.choice, specs.Reader.oneOf, specs.Contents.shortest, specs.Contents.negative, specs.Contents.numberFrom, specs.Codec.barring}
-use Rattle.coding.{specs.Leaves.listing, specs.Leaves.listed, specs.Shown.shown, specs.Shortcut.Tiny, proofs.Reading.passes}
+use Rattle.coding.{specs.Leaves.listing, specs.Leaves.listed, specs.inner.Shown.shown, specs.inner.Shortcut.Tiny, proofs.Reading.passes}
 use Rattle.read_elements.proofs.Shortcut.{tiny-read}
 use Rattle.types.specs.Frames.{value}
 use Rattle.read_heads.proofs.Codes.{list-known}

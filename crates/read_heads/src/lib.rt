@@ -1,6 +1,9 @@
-// Heads of components: all that stands before an argument or result. Of a return error or a reject, all.
+// Heads of components: all that comes before an argument or result. Of a return error or a reject, all.
 pub mod values;
 
+use coding::named;
+use coding::refusal;
+use types::frame;
 ghost use mathlib.Core.Path.{_≡_};
 ghost use mathlib.Core.List.{[], _∷_};
 ghost use mathlib.Core.Logic.{inr};
@@ -8,15 +11,15 @@ ghost use Prim.Native.Nat.{ℕ, _+_, _≤_, _<_};
 ghost use lib.ListN.{length};
 ghost use Rattle.coding.specs.Reader.{enteredAny};
 ghost use Rattle.coding.specs.Reader.Fault.{named};
-ghost use Rattle.coding.specs.Shown.{shown};
+ghost use Rattle.coding.specs.inner.Shown.{shown};
 ghost use Rattle.types.specs.Frames.{outside, numberOf, value, invoke, returnResult, returnError, reject, caller, rejects, readWhole};
-ghost use Rattle.read_heads.specs.Heads.{outsideCode, argumentCode, faultBy, contentsOf, noHead, restOf, callerBy, rejectedBy, problemIn, problemsIn};
-ghost use Rattle.read_lengths.specs.Bounds.{Bounded};
+ghost use Rattle.read_heads.specs.inner.Heads.{outsideCode, argumentCode, faultBy, contentsOf, noHead, restOf, callerBy, rejectedBy, problemIn, problemsIn};
+ghost use Rattle.read_lengths.specs.inner.Bounds.{Bounded};
 
-// What stands before an argument or result, which lies from at to stop, in an element that ends at next, in a component whose contents end at end; of a
+// What comes before an argument or result, which lies from at to stop, in an element that ends at next, in a component whose contents end at end; of a
 // return error or reject, all.
 // The front's frame is 0 where reading stopped, with the fault, whose place is at.
-// The front stands last, beside other zeros: apart from them its zeros are one word, in which it is then put together, 16 instructions for each component.
+// The front is the last field, beside other zeros. Elsewhere its zeros would be one word, in which it would then be put together: 16 more instructions for each component.
 pub struct Head {
     pub fault: u8,
     pub at: usize,
@@ -32,30 +35,30 @@ pub struct Head {
 pub fn outer(fault: u8) -> u8
     ensures { λ r. ⌜ r ≡ outsideCode fault ⌝ }
 {
-    if 100 <= fault {
+    if named::BASE <= fault {
         return fault;
     }
-    if fault == 40 {
-        return 101;
+    if fault == refusal::MISSING {
+        return named::CUT;
     }
-    if fault == 41 {
-        return 104;
+    if fault == refusal::UNEXPECTED {
+        return named::UNKNOWN_COMPONENT;
     }
-    if fault == 42 {
-        return 101;
+    if fault == refusal::LACKING {
+        return named::CUT;
     }
-    if fault == 2 {
-        return 102;
+    if fault == refusal::LENGTH_FORM {
+        return named::LENGTH_FORM;
     }
-    106
+    named::BAD_FRAME
 }
 
 // A fault in the argument or result.
 pub fn inner(fault: u8) -> u8
     ensures { λ r. ⌜ r ≡ argumentCode fault ⌝ }
 {
-    if fault < 100 {
-        return 100 + fault;
+    if fault < named::BASE {
+        return named::BASE + fault;
     }
     fault
 }
@@ -64,13 +67,13 @@ pub fn inner(fault: u8) -> u8
 pub fn number_of(fault: u8) -> u8
     ensures { λ r. ⌜ r ≡ numberOf (faultBy fault) ⌝ }
 {
-    if 100 <= fault {
-        return fault - 100;
+    if named::BASE <= fault {
+        return fault - named::BASE;
     }
-    if fault == 2 {
-        return 2;
+    if fault == refusal::LENGTH_FORM {
+        return refusal::LENGTH_FORM;
     }
-    6
+    refusal::BAD_FRAME
 }
 
 // ---- heads
@@ -107,7 +110,7 @@ fn invoke_head(s: &[u8], start: usize, n: usize) -> Head
     if i.fault != 0 {
         return no_head(i.fault, i.place);
     }
-    let o = values::value_at(s, i.next, n, 1);
+    let o = values::value_at(s, i.next, n, frame::INVOKE);
     if o.fault != 0 {
         return no_head(o.fault, o.place);
     }
@@ -120,7 +123,7 @@ fn invoke_head(s: &[u8], start: usize, n: usize) -> Head
         next: n,
         end: n,
         front: types::Front {
-            frame: 1,
+            frame: frame::INVOKE,
             unnamed: 0,
             id,
             operation,
@@ -145,7 +148,7 @@ fn result_head(s: &[u8], start: usize, n: usize) -> Head
     if e.fault != 0 {
         return no_head(e.fault, e.place);
     }
-    let o = values::value_long(s, e.value.start, e.value.stop, 2);
+    let o = values::value_long(s, e.value.start, e.value.stop, frame::RESULT);
     if o.fault != 0 {
         return no_head(o.fault, o.place);
     }
@@ -158,7 +161,7 @@ fn result_head(s: &[u8], start: usize, n: usize) -> Head
         next: e.next,
         end: n,
         front: types::Front {
-            frame: 2,
+            frame: frame::RESULT,
             unnamed: 0,
             id,
             operation,
@@ -179,12 +182,12 @@ fn error_head(s: &[u8], start: usize, n: usize) -> Head
     if i.fault != 0 {
         return no_head(i.fault, i.place);
     }
-    let o = values::value_at(s, i.next, n, 3);
+    let o = values::value_at(s, i.next, n, frame::ERROR);
     if o.fault != 0 {
         return no_head(o.fault, o.place);
     }
     if o.next != n {
-        return no_head(41, o.next);
+        return no_head(refusal::UNEXPECTED, o.next);
     }
     let id = i.value as u16;
     let error = o.value as u8;
@@ -195,7 +198,7 @@ fn error_head(s: &[u8], start: usize, n: usize) -> Head
         next: 0,
         end: 0,
         front: types::Front {
-            frame: 3,
+            frame: frame::ERROR,
             unnamed: 0,
             id,
             operation: 0,
@@ -325,7 +328,7 @@ fn reject_head(s: &[u8], start: usize, n: usize) -> Head
         return no_head(p.fault, p.place);
     }
     if p.next != n {
-        return no_head(41, p.next);
+        return no_head(refusal::UNEXPECTED, p.next);
     }
     Head {
         fault: 0,
@@ -334,7 +337,7 @@ fn reject_head(s: &[u8], start: usize, n: usize) -> Head
         next: 0,
         end: 0,
         front: types::Front {
-            frame: 4,
+            frame: frame::REJECT,
             unnamed: i.value.unnamed,
             id: i.value.id,
             operation: 0,
@@ -354,21 +357,21 @@ pub fn enter(s: &[u8]) -> read_lengths::Opened
 {
     let n = s.len();
     if n == 0 {
-        return shut_out(101, n);
+        return shut_out(named::CUT, n);
     }
     let tag = s[0];
     if tag < 0xa1 {
-        return shut_out(104, 0);
+        return shut_out(named::UNKNOWN_COMPONENT, 0);
     }
     if 0xa4 < tag {
-        return shut_out(104, 0);
+        return shut_out(named::UNKNOWN_COMPONENT, 0);
     }
     let e = read_lengths::open_at(s, 0, n, tag);
     if e.fault != 0 {
         return shut_out(outer(e.fault), e.place);
     }
     if e.next != n {
-        return shut_out(105, e.next);
+        return shut_out(named::TRAILING, e.next);
     }
     let value = e.value;
     read_lengths::Opened {
@@ -390,14 +393,14 @@ fn shut_out(fault: u8, place: usize) -> read_lengths::Opened
     }
 }
 
-// All that stands before an argument or result.
+// All that comes before an argument or result.
 pub fn head_of(s: &[u8]) -> Head
     ensures { λ r. ⌜ restOf r (now (s .entry)) ≡ readWhole (now (s .entry)) ⌝ }
     ensures inside { λ r. ⌜ Bounded (now (s .entry)) (r .stop) ⌝ }
 {
     let n = s.len();
     if 254 < n {
-        return no_head(103, 0);
+        return no_head(named::TOO_LONG, 0);
     }
     let e = enter(s);
     if e.fault != 0 {

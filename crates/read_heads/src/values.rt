@@ -1,4 +1,9 @@
 // Operation and error values: which are known in a frame, and how one is read.
+use coding::named;
+use coding::refusal;
+use types::error;
+use types::frame;
+use types::operation;
 ghost use mathlib.Core.Path.{_≡_};
 ghost use mathlib.Core.List.{[], _∷_};
 ghost use Prim.Native.Nat.{_+_, _≤_, _<_};
@@ -6,18 +11,23 @@ ghost use lib.ListN.{length};
 ghost use Rattle.coding.specs.Reader.{part};
 ghost use Rattle.coding.specs.Codec.{oneOf};
 ghost use Rattle.coding.specs.Leaves.{listing};
-ghost use Rattle.coding.specs.Shown.{shown, verdict};
+ghost use Rattle.coding.specs.inner.Shown.{shown, verdict};
 ghost use Rattle.types.specs.Frames.{operations, errors, value};
-ghost use Rattle.read_heads.specs.Heads.{knownIn, unknownIn};
-ghost use Rattle.read_lengths.specs.Bounds.{Bounded};
+ghost use Rattle.read_heads.specs.inner.Heads.{knownIn, unknownIn};
+ghost use Rattle.read_lengths.specs.inner.Bounds.{Bounded};
+
+// As wide as a value that is read.
+const CHARGING_REQUEST: u32 = operation::CHARGING_REQUEST as u32;
+
+const E_UNITS: u32 = operation::E_UNITS as u32;
 
 fn known_operation(n: u32) -> bool
     ensures { λ r. ⌜ r ≡ oneOf operations n ⌝ }
 {
-    if n < 30 {
+    if n < CHARGING_REQUEST {
         return false;
     }
-    if 36 < n {
+    if E_UNITS < n {
         return false;
     }
     true
@@ -26,19 +36,19 @@ fn known_operation(n: u32) -> bool
 pub fn known_error(n: u32) -> bool
     ensures { λ r. ⌜ r ≡ oneOf errors n ⌝ }
 {
-    if n == 0 {
+    if n == error::NOT_SUBSCRIBED {
         return true;
     }
-    if n == 3 {
+    if n == error::NOT_AVAILABLE {
         return true;
     }
-    if n == 4 {
+    if n == error::NOT_IMPLEMENTED {
         return true;
     }
-    if n == 7 {
+    if n == error::INVALID_CALL_STATE {
         return true;
     }
-    if n == 26 {
+    if n == error::NO_CHARGING_INFO {
         return true;
     }
     false
@@ -47,7 +57,7 @@ pub fn known_error(n: u32) -> bool
 fn is_charging_request(n: u32) -> bool
     ensures { λ r. ⌜ r ≡ oneOf (30 ∷ []) n ⌝ }
 {
-    if n == 30 {
+    if n == CHARGING_REQUEST {
         return true;
     }
     false
@@ -56,10 +66,10 @@ fn is_charging_request(n: u32) -> bool
 fn is_known(frame: u8, n: u32) -> bool
     ensures { λ r. ⌜ r ≡ oneOf (knownIn frame) n ⌝ }
 {
-    if frame == 1 {
+    if frame == frame::INVOKE {
         return known_operation(n);
     }
-    if frame == 2 {
+    if frame == frame::RESULT {
         return is_charging_request(n);
     }
     known_error(n)
@@ -69,10 +79,10 @@ fn is_known(frame: u8, n: u32) -> bool
 fn unknown(frame: u8) -> u8
     ensures { λ r. ⌜ r ≡ 100 + unknownIn frame ⌝ }
 {
-    if frame == 3 {
-        return 108;
+    if frame == frame::ERROR {
+        return named::UNKNOWN_ERROR;
     }
-    107
+    named::UNKNOWN_OPERATION
 }
 
 // The contents of an operation or error value.
@@ -83,13 +93,13 @@ fn value_in(s: &[u8], start: usize, stop: usize, frame: u8) -> read_elements::Ve
 {
     if !read_elements::is_shortest(s, start, stop) {
         return read_elements::Verdict {
-            fault: 43,
+            fault: refusal::NOT_SHORTEST,
             value: 0,
         };
     }
     if 4 < stop - start {
         return read_elements::Verdict {
-            fault: 44,
+            fault: refusal::BAD_CONTENTS,
             value: 0,
         };
     }

@@ -1,6 +1,6 @@
 -- What the returns of readers cite, beside the laws of readers: an answer by a test.
 use Rattle.prelude.proofs.Prelude.{ℕ, _≡_, ap, sym, _∙_, Bool, true, false, not, cond, not-true, not-false}
-use Rattle.coding.{specs.Reader.Ans, specs.Shown.shown, proofs.Reading.gives, proofs.Reading.when-yes}
+use Rattle.coding.{specs.Reader.Ans, specs.inner.Shown.shown, proofs.Reading.gives, proofs.Reading.when-yes}
 use Rattle.coding.{proofs.Reading.when-no}
 
 -- by a test that the code made too

@@ -1,8 +1,8 @@
 -- What a length of one octet means: the code that finds one answers as the long way would.
 use Rattle.prelude.proofs.Prelude.{ℕ, _+_, _≤_, _<_, _≡_, refl, sym, ap, _∙_, List, Bool, true, false, _&&_, arith, getD, ltb, leb, eqb, ltb-true, leb-true, eqb-true, eqb-false, lt-ltb}
 use Rattle.prelude.proofs.Prelude.{le-leb, eq-eqb}
-use Rattle.coding.{specs.declared.Extent.Extent, specs.Reader.got, specs.Reader.marker, specs.Reader.opened, specs.Codec.short, specs.Shown.shown, specs.Shortcut.Short}
-use Rattle.coding.{specs.Shortcut.shortAt, proofs.Basic.unpicked, proofs.Search.marker-is, proofs.Search.marker-yes, proofs.Header.opened-complete}
+use Rattle.coding.{specs.declared.Extent.Extent, specs.Reader.got, specs.Reader.marker, specs.Reader.opened, specs.Codec.short, specs.inner.Shown.shown, specs.inner.Shortcut.Short}
+use Rattle.coding.{specs.inner.Shortcut.shortAt, proofs.Basic.unpicked, proofs.Search.marker-is, proofs.Search.marker-yes, proofs.Header.opened-complete}
 
 -- a test that cannot pass
 pub no-test : (b : Bool) → (b ≡ true → ⊥) → b ≡ false

@@ -1,9 +1,9 @@
 -- What the code of the search and of tag and length octets cites: where it goes on, as the answer is shown.
 use Rattle.prelude.proofs.Prelude.{ℕ, _+_, _-_, _≤_, _<_, _≡_, refl, sym, ap, _∙_, List, Bool, true, false, cond, arith}
 use Rattle.coding.{specs.declared.Extent.Extent, specs.Reader.Ans, specs.Reader.got, specs.Reader.halt, specs.Reader.after, specs.Reader.code, specs.Reader.numberedAt, specs.Reader.findEnd, specs.Reader.spanned}
-use Rattle.coding.{specs.Shown.shown, proofs.Reading.got-of, proofs.Reading.halt-of, proofs.Search.Inside, proofs.Search.inside, proofs.Search.unfolds, proofs.Search.turn-out}
+use Rattle.coding.{specs.inner.Shown.shown, proofs.Reading.got-of, proofs.Reading.halt-of, proofs.Search.Inside, proofs.Search.inside, proofs.Search.unfolds, proofs.Search.turn-out}
 use Rattle.coding.{proofs.Search.over-moves}
-use Rattle.read_lengths.specs.Bounds.{sought}
+use Rattle.read_lengths.specs.inner.Bounds.{sought}
 
 module _ (s : List ℕ) (at end : ℕ) where
   pub find-none : end ≤ at → 1042 ≡ sought (findEnd s at end)

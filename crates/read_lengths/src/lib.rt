@@ -7,10 +7,11 @@ ghost use mathlib.Core.Path.{_≡_};
 ghost use mathlib.Core.List.{List};
 ghost use lib.ListN.{length, getD};
 ghost use Rattle.coding.specs.Reader.{tagged, neither, extent, numberedAt, endless, marker, findEnd, spanned, lengthAt, opened};
-ghost use Rattle.coding.specs.Shown.{shown};
-ghost use Rattle.coding.specs.Shortcut.{Short, shortAt};
-ghost use Rattle.read_lengths.specs.Bounds.{Bounded, sought};
+ghost use Rattle.coding.specs.inner.Shown.{shown};
+ghost use Rattle.coding.specs.inner.Shortcut.{Short, shortAt};
+ghost use Rattle.read_lengths.specs.inner.Bounds.{Bounded, sought};
 use coding::Extent;
+use coding::refusal;
 
 // An element that is opened.
 pub struct Opened {
@@ -60,7 +61,7 @@ fn within(tag: usize, start: usize, n: usize, end: usize) -> Opened
             next: start + n,
         }
     } else {
-        halted(42, tag)
+        halted(refusal::LACKING, tag)
     }
 }
 
@@ -71,7 +72,7 @@ fn one_more(s: &[u8], tag: usize, at: usize, end: usize) -> Opened
     ensures inside { λ r. ⌜ (r .value .start ≤ r .value .stop) × (r .value .stop ≤ end) ⌝ }
 {
     if end < at + 2 {
-        return halted(42, tag);
+        return halted(refusal::LACKING, tag);
     }
     let n = octets::wide(s[at + 1]);
     within(tag, at + 2, n, end)
@@ -84,7 +85,7 @@ fn two_more(s: &[u8], tag: usize, at: usize, end: usize) -> Opened
     ensures inside { λ r. ⌜ (r .value .start ≤ r .value .stop) × (r .value .stop ≤ end) ⌝ }
 {
     if end < at + 3 {
-        return halted(42, tag);
+        return halted(refusal::LACKING, tag);
     }
     let n = octets::wide(s[at + 1]) * 256 + octets::wide(s[at + 2]);
     within(tag, at + 3, n, end)
@@ -97,7 +98,7 @@ pub fn numbered_at(s: &[u8], tag: usize, at: usize, end: usize) -> Opened
     ensures inside { λ r. ⌜ (r .value .start ≤ r .value .stop) × (r .value .stop ≤ end) ⌝ }
 {
     if end <= at {
-        return halted(42, tag);
+        return halted(refusal::LACKING, tag);
     }
     let first = octets::wide(s[at]);
     if first < 0x80 {
@@ -109,7 +110,7 @@ pub fn numbered_at(s: &[u8], tag: usize, at: usize, end: usize) -> Opened
     if first == 0x82 {
         return two_more(s, tag, at, end);
     }
-    halted(2, tag)
+    halted(refusal::LENGTH_FORM, tag)
 }
 
 // Whether the length octet at a place is 80, of the constructed element whose tag is at tag.
@@ -126,7 +127,7 @@ fn is_endless(s: &[u8], tag: usize, at: usize, end: usize) -> bool
     s[tag] / 32 % 2 == 1
 }
 
-// Whether the end marker stands at a place.
+// Whether the end marker is at a place.
 fn is_marker(s: &[u8], at: usize, end: usize) -> bool
     requires { ⌜ end ≤ length (now s) ⌝ }
     ensures { λ r. ⌜ r ≡ marker (now (s .entry)) at end ⌝ }
@@ -137,6 +138,8 @@ fn is_marker(s: &[u8], at: usize, end: usize) -> bool
 // What the search answers where it fails: this and the fault's number. It is past every place.
 const NO_END: usize = 1000;
 
+const LACKING: usize = refusal::LACKING as usize;
+
 // The place of the end marker that belongs to contents which go on at a place, or why there is none.
 // It calls itself for each element on the way, and answers one number, so that a call takes little of the stack.
 fn find_end(s: &[u8], at: usize, end: usize) -> usize
@@ -145,7 +148,7 @@ fn find_end(s: &[u8], at: usize, end: usize) -> usize
     ensures small { λ r. ⌜ r < 1256 ⌝ }
 {
     if end <= at {
-        return NO_END + 42;
+        return NO_END + LACKING;
     }
     if is_marker(s, at, end) {
         return at;
@@ -220,15 +223,15 @@ pub fn short_length(s: &[u8], at: usize, end: usize, tag: u8) -> usize
     n
 }
 
-// Nothing that may stand at a place does.
+// Nothing that is allowed at a place is there.
 fn not_there(at: usize, end: usize) -> Opened
     ensures { λ r. ⌜ ((s : List ℕ) → (r .fault, r .place, r .value, r .next) ≡ shown (record { start = 0; stop = 0 }) (neither s at end)) ⌝ }
     ensures inside { λ r. ⌜ (r .value .start ≤ r .value .stop) × (r .value .stop ≤ end) ⌝ }
 {
     if end <= at {
-        return halted(40, end);
+        return halted(refusal::MISSING, end);
     }
-    halted(41, at)
+    halted(refusal::UNEXPECTED, at)
 }
 
 // An element's tag and length octets.

@@ -3,7 +3,7 @@ use Rattle.prelude.proofs.Prelude.{ℕ, _≡_, refl, _∙_, true, List, leb, le
 use Rattle.coding.specs.Reader.{part}
 use Rattle.types.specs.Stored.{Blank}
 use Rattle.types.proofs.Stored.{unassociated-stored, money-long, money-unassociated}
-use Rattle.read_lists.specs.Answers.{Clear}
+use Rattle.read_lists.specs.inner.Answers.{Clear}
 
 pub blank-clear : {figure numbers octets : List ℕ} → Blank figure numbers octets → Clear figure
 unfolding part

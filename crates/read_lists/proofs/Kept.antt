@@ -1,11 +1,11 @@
 -- A loop that reads entries into the two arrays, for any type of entry and any rows.
 use Rattle.prelude.proofs.Prelude.{ℕ, _+_, _*_, _≤_, _<_, arith, _≡_, refl, ap₂, _∙_, List, [], _∷_, _++_, length, getD, length-append, replicate, set, sets}
 use Rattle.coding.{specs.Reader.Ans, specs.Reader.Reader, specs.Reader.after, specs.Reader.listOf, specs.Reader.part, specs.Reader.Ans.got, specs.Codec.pad, specs.Rows.rows}
-use Rattle.coding.{specs.Shown.shown, proofs.Reading.gives, proofs.Rows.rows-more-at, proofs.Lists.Going, proofs.Lists.going-start, proofs.Lists.going-more, proofs.Lists.list-done}
+use Rattle.coding.{specs.inner.Shown.shown, proofs.Reading.gives, proofs.Rows.rows-more-at, proofs.Lists.Going, proofs.Lists.going-start, proofs.Lists.going-more, proofs.Lists.list-done}
 use Rattle.coding.{proofs.Lists.list-fault, proofs.Lists.list-limit, proofs.Lists.list-strange, proofs.Lists.list-none}
 use Rattle.types.specs.{declared.Charge.Charge, Arguments.noCharge, Arguments.listFigure, Stored.figureIn, Stored.Blank}
 use Rattle.read_elements.specs.declared.Empty.{Empty}
-use Rattle.read_lists.specs.Answers.{whole}
+use Rattle.read_lists.specs.inner.Answers.{whole}
 use Rattle.read_figures.proofs.Answers.{refused, arrived}
 
 -- the entries read so far are those that the arrays hold, as many as counted, and the next would be at i

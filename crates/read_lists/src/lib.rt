@@ -1,12 +1,15 @@
 // Reads lists of units and of rates into the two arrays of a record, all zero before, and their count into the figure's 48 octets.
 //
 // After a fault what is stored does not count.
+use coding::refusal;
+use types::charge_kind;
+use types::in_figure;
 ghost use mathlib.Core.Path.{_≡_};
-ghost use Rattle.coding.specs.Shown.{shown};
+ghost use Rattle.coding.specs.inner.Shown.{shown};
 ghost use Rattle.types.specs.Arguments.{noCharge, inUnits};
 ghost use Rattle.types.specs.Stored.{Blank};
-ghost use Rattle.read_lists.specs.Answers.{whole, Clear, inRates};
-ghost use Rattle.read_lengths.specs.Bounds.{Bounded};
+ghost use Rattle.read_lists.specs.inner.Answers.{whole, Clear, inRates};
+ghost use Rattle.read_lengths.specs.inner.Bounds.{Bounded};
 
 // 1 to 32 entries of units, up to the end of the enclosing element.
 pub fn units_in(
@@ -23,16 +26,16 @@ pub fn units_in(
     ensures clear { λ _. ⌜ Clear (now (figure .exit)) ⌝ }
 {
     if end <= at {
-        return read_figures::halted(40, end);
+        return read_figures::halted(refusal::MISSING, end);
     }
     let mut count: usize = 0;
     let mut i = at;
     while i < end {
         if 32 <= count {
             if s[i] == 0x30 {
-                return read_figures::halted(45, i);
+                return read_figures::halted(refusal::PAST_LIMIT, i);
             }
-            return read_figures::halted(41, i);
+            return read_figures::halted(refusal::UNEXPECTED, i);
         }
         let u = read_unit::unit_at(s, i, end);
         if u.fault != 0 {
@@ -43,8 +46,8 @@ pub fn units_in(
         count += 1;
         i = u.next;
     }
-    figure[42] = 3;
-    figure[47] = count as u8;
+    figure[in_figure::KIND] = charge_kind::UNITS;
+    figure[in_figure::COUNT] = count as u8;
     read_figures::reached(i)
 }
 
@@ -63,16 +66,16 @@ pub fn rates_in(
     ensures { λ r. ⌜ whole r (now (figure .exit)) (now (numbers .exit)) (now (rows .exit)) ≡ shown noCharge (inRates trunk (now (s .entry)) at end) ⌝ }
 {
     if end <= at {
-        return read_figures::halted(40, end);
+        return read_figures::halted(refusal::MISSING, end);
     }
     let mut count: usize = 0;
     let mut i = at;
     while i < end {
         if 10 <= count {
             if s[i] == 0x30 {
-                return read_figures::halted(45, i);
+                return read_figures::halted(refusal::PAST_LIMIT, i);
             }
-            return read_figures::halted(41, i);
+            return read_figures::halted(refusal::UNEXPECTED, i);
         }
         let r = read_rate::rate_at(s, i, end, trunk);
         if r.fault != 0 {
@@ -83,7 +86,7 @@ pub fn rates_in(
         count += 1;
         i = r.next;
     }
-    figure[42] = 4;
-    figure[47] = count as u8;
+    figure[in_figure::KIND] = charge_kind::RATES;
+    figure[in_figure::COUNT] = count as u8;
     read_figures::reached(i)
 }

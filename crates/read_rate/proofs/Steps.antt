@@ -3,7 +3,7 @@ use Rattle.prelude.proofs.Prelude.{ℕ, _≡_, List, Bool}
 use Rattle.coding.{specs.Reader.after, specs.Reader.opened, specs.Reader.closed, specs.Reader.optional, specs.Reader.constructed, specs.Codec.prim, specs.Codec.cons, specs.Codec.pair}
 use Rattle.coding.{specs.Codec.maybe, specs.Codec.canonical, specs.Codec.over, specs.Leaves.number, proofs.Reading.flat}
 use Rattle.types.specs.{Charges.scaled, Charges.money, Rates.duration}
-use Rattle.read_rate.specs.Readers.{stepTime, ratedAs}
+use Rattle.read_rate.specs.inner.Readers.{stepTime, ratedAs}
 
 pub duration-read : (trunk : Bool) (s : List ℕ) (at end : ℕ) →
     (duration trunk) .read s at end ≡

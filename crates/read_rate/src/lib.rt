@@ -1,14 +1,17 @@
 // Reading an entry of a list of rates, and keeping it in the list's two arrays.
+use coding::refusal;
+use types::in_rate;
+use types::rate_kind;
 ghost use mathlib.Core.Path.{_≡_};
 ghost use Prim.Native.Nat.{_+_, _*_, _≤_, _<_};
 ghost use lib.ListN.{take};
 ghost use lib.Seq.{sets};
 ghost use Rattle.coding.specs.Codec.{sort, pad};
-ghost use Rattle.coding.specs.Shown.{shown, refusal};
+ghost use Rattle.coding.specs.inner.Shown.{shown, refusal};
 ghost use Rattle.types.specs.Charges.{noMoney, money};
 ghost use Rattle.types.specs.Rates.{noRate, isRate, duration, flatRate, volume, coded, plainRate, price, rate, rateNumbers, rateOctets};
-ghost use Rattle.read_rate.specs.Readers.{accepted, noStep, stepTime, ratedAs};
-ghost use Rattle.read_lengths.specs.Bounds.{Bounded};
+ghost use Rattle.read_rate.specs.inner.Readers.{accepted, noStep, stepTime, ratedAs};
+ghost use Rattle.read_lengths.specs.inner.Bounds.{Bounded};
 
 // The time of a step, which may be absent.
 struct Step {
@@ -184,9 +187,16 @@ fn duration_at(s: &[u8], at: usize, end: usize, trunk: bool) -> RateRead
         return no_rate(g.fault, g.place);
     }
     if g.next != e.value.stop {
-        return no_rate(41, g.next);
+        return no_rate(refusal::UNEXPECTED, g.next);
     }
-    rate_read(1, m.value, d.value as u8, t.value, g.value, e.next)
+    rate_read(
+        rate_kind::DURATION,
+        m.value,
+        d.value as u8,
+        t.value,
+        g.value,
+        e.next,
+    )
 }
 
 // A2: currency, amount.
@@ -203,9 +213,16 @@ fn flat_at(s: &[u8], at: usize, end: usize, trunk: bool) -> RateRead
         return no_rate(m.fault, m.place);
     }
     if m.next != e.value.stop {
-        return no_rate(41, m.next);
+        return no_rate(refusal::UNEXPECTED, m.next);
     }
-    rate_read(2, m.value, 0, types::NO_SCALED, NO_STEP, e.next)
+    rate_read(
+        rate_kind::FLAT,
+        m.value,
+        0,
+        types::NO_SCALED,
+        NO_STEP,
+        e.next,
+    )
 }
 
 // A3: currency, amount, 83 unit.
@@ -226,9 +243,16 @@ fn volume_at(s: &[u8], at: usize, end: usize, trunk: bool) -> RateRead
         return no_rate(d.fault, d.place);
     }
     if d.next != e.value.stop {
-        return no_rate(41, d.next);
+        return no_rate(refusal::UNEXPECTED, d.next);
     }
-    rate_read(3, m.value, d.value as u8, types::NO_SCALED, NO_STEP, e.next)
+    rate_read(
+        rate_kind::VOLUME,
+        m.value,
+        d.value as u8,
+        types::NO_SCALED,
+        NO_STEP,
+        e.next,
+    )
 }
 
 // 02: a code.
@@ -241,7 +265,7 @@ fn coded_at(s: &[u8], at: usize, end: usize) -> RateRead
         return no_rate(n.fault, n.place);
     }
     rate_read(
-        4,
+        rate_kind::CODE,
         types::NO_MONEY,
         n.value as u8,
         types::NO_SCALED,
@@ -268,9 +292,9 @@ fn late_at(s: &[u8], at: usize, end: usize) -> RateRead
     ensures { λ r. ⌜ (r .fault, r .place, r .value, r .next) ≡ shown noRate ((sort 0x85 (isRate 6) (plainRate 0x85 6) (plainRate 0x86 7)) .read (now (s .entry)) at end) ⌝ }
 {
     if read_lengths::is_tag(s, at, end, 0x85) {
-        return plain_rate_at(s, at, end, 0x85, 6);
+        return plain_rate_at(s, at, end, 0x85, rate_kind::UNKNOWN);
     }
-    plain_rate_at(s, at, end, 0x86, 7)
+    plain_rate_at(s, at, end, 0x86, rate_kind::FREE_FROM_BEGINNING)
 }
 
 // What an entry says of its item, by the next tag.
@@ -291,12 +315,12 @@ fn price_at(s: &[u8], at: usize, end: usize, trunk: bool) -> RateRead
         return coded_at(s, at, end);
     }
     if read_lengths::is_tag(s, at, end, 0x84) {
-        return plain_rate_at(s, at, end, 0x84, 5);
+        return plain_rate_at(s, at, end, 0x84, rate_kind::FREE);
     }
     if trunk {
         return late_at(s, at, end);
     }
-    plain_rate_at(s, at, end, 0x85, 6)
+    plain_rate_at(s, at, end, 0x85, rate_kind::UNKNOWN)
 }
 
 // An entry: 0A item, and its price.
@@ -317,7 +341,7 @@ pub fn rate_at(s: &[u8], at: usize, end: usize, trunk: bool) -> RateRead
         return no_rate(p.fault, p.place);
     }
     if p.next != e.value.stop {
-        return no_rate(41, p.next);
+        return no_rate(refusal::UNEXPECTED, p.next);
     }
     let mut value = p.value;
     value.item = n.value as u8;
@@ -349,14 +373,14 @@ pub fn keep_rate(numbers: &mut [u32; 32], rows: &mut [u8; 192], i: usize, r: typ
     numbers[n + 2] = r.step;
     let at = 18 * i;
     rows[at] = r.item;
-    rows[at + 1] = r.kind;
-    rows[at + 2] = r.detail;
-    rows[at + 3] = r.stepped;
-    rows[at + 4] = r.scale;
-    rows[at + 5] = r.stepscale;
-    rows[at + 6] = r.multiplier;
+    rows[at + in_rate::KIND] = r.kind;
+    rows[at + in_rate::DETAIL] = r.detail;
+    rows[at + in_rate::STEPPED] = r.stepped;
+    rows[at + in_rate::SCALE] = r.scale;
+    rows[at + in_rate::STEP_SCALE] = r.stepscale;
+    rows[at + in_rate::MULTIPLIER] = r.multiplier;
     let currency = r.currency;
-    rows[at + 7] = currency.count;
+    rows[at + in_rate::CURRENCY_COUNT] = currency.count;
     let text = currency.octets;
-    keep_text(rows, at + 8, text);
+    keep_text(rows, at + in_rate::CURRENCY, text);
 }

@@ -3,7 +3,7 @@ use Rattle.prelude.proofs.Prelude.{ℕ, _≡_, List}
 use Rattle.coding.{specs.Reader.after, specs.Reader.opened, specs.Reader.closed, specs.Reader.optional, specs.Reader.constructed, specs.Codec.cons, specs.Codec.pair, specs.Codec.alt}
 use Rattle.coding.{specs.Codec.maybe, specs.Codec.canonical, specs.Codec.over, specs.Leaves.number, specs.Leaves.given, proofs.Reading.flat}
 use Rattle.types.specs.Entries.{unit}
-use Rattle.read_unit.specs.Readers.{unitNumber}
+use Rattle.read_unit.specs.inner.Readers.{unitNumber}
 
 pub unit-read : (s : List ℕ) (at end : ℕ) →
     unit .read s at end ≡

@@ -1,14 +1,18 @@
-// Reads one entry of a list of units and stores it, and says what an argument holds for each operation. All by value but the stored entry.
+// Reads and stores one entry of a list of units. Also says what the argument of each operation holds.
+//
+// All is by value but the stored entry.
+use coding::refusal;
+use types::operation;
 ghost use mathlib.Core.Path.{_≡_};
 ghost use mathlib.Core.Bool.{false, _&&_, _||_};
 ghost use Prim.Native.Nat.{_*_, _≤_, _<_};
 ghost use lib.Dec.{eqb};
 ghost use lib.Seq.{sets};
 ghost use Rattle.coding.specs.Reader.{tagged};
-ghost use Rattle.coding.specs.Shown.{shown, refusal};
+ghost use Rattle.coding.specs.inner.Shown.{shown, refusal};
 ghost use Rattle.types.specs.Entries.{noUnits, unit, unitNumbers, unitOctets};
-ghost use Rattle.read_unit.specs.Readers.{unitNumber, isTariff, isSubtotal, isMoney, typeBy, billingBy, framedBy};
-ghost use Rattle.read_lengths.specs.Bounds.{Bounded};
+ghost use Rattle.read_unit.specs.inner.Readers.{unitNumber, isTariff, isSubtotal, isMoney, typeBy, billingBy, framedBy};
+ghost use Rattle.read_lengths.specs.inner.Bounds.{Bounded};
 
 pub struct UnitsRead {
     pub fault: u8,
@@ -85,7 +89,7 @@ pub fn unit_at(s: &[u8], at: usize, end: usize) -> UnitsRead
         return no_units(k.fault, k.place);
     }
     if k.next != e.value.stop {
-        return no_units(41, k.next);
+        return no_units(refusal::UNEXPECTED, k.next);
     }
     UnitsRead {
         fault: 0,
@@ -116,10 +120,10 @@ pub fn keep_unit(numbers: &mut [u32; 32], rows: &mut [u8; 192], i: usize, u: typ
 pub fn is_tariff(operation: u8) -> bool
     ensures { λ r. ⌜ r ≡ isTariff operation ⌝ }
 {
-    if operation < 30 {
+    if operation < operation::CHARGING_REQUEST {
         return false;
     }
-    operation <= 32
+    operation <= operation::S_SPECIAL
 }
 
 // The argument of operation 32, and the special arrangement among the results of operation 30.
@@ -127,10 +131,10 @@ pub fn is_arranged(s: &[u8], at: usize, end: usize, operation: u8) -> bool
     requires { ⌜ Bounded (now s) end ⌝ }
     ensures { λ r. ⌜ r ≡ eqb operation 32 || eqb operation 30 && tagged (now (s .entry)) at end 0x02 ⌝ }
 {
-    if operation == 32 {
+    if operation == operation::S_SPECIAL {
         return true;
     }
-    if operation != 30 {
+    if operation != operation::CHARGING_REQUEST {
         return false;
     }
     read_lengths::is_tag(s, at, end, 0x02)
@@ -140,20 +144,20 @@ pub fn is_arranged(s: &[u8], at: usize, end: usize, operation: u8) -> bool
 pub fn is_subtotal(operation: u8) -> bool
     ensures { λ r. ⌜ r ≡ isSubtotal operation ⌝ }
 {
-    if operation == 33 {
+    if operation == operation::D_CURRENCY {
         return true;
     }
-    operation == 34
+    operation == operation::D_UNITS
 }
 
 // 35 and 33 hand over money; 36 and 34 units.
 pub fn is_money(operation: u8) -> bool
     ensures { λ r. ⌜ r ≡ isMoney operation ⌝ }
 {
-    if operation == 35 {
+    if operation == operation::E_CURRENCY {
         return true;
     }
-    operation == 33
+    operation == operation::D_CURRENCY
 }
 
 // 35 and 36 have a 30 around the charge and its association; 33 and 34 have none.

@@ -2,12 +2,12 @@
 use Rattle.prelude.proofs.Prelude.{ℕ, _+_, _≤_, _<_, arith, _≡_, refl, ap, _∙_, Bool, true, false, cond, _⊎_, inl, inr, List, [], _++_, length, length-append, ltb, leb, eqb, eq-eqb, ltb-true}
 use Rattle.prelude.proofs.Prelude.{le-leb}
 use Rattle.coding.{specs.Reader.Ans, specs.Reader.after, specs.Reader.enteredAny, specs.Reader.Ans.got, specs.Reader.Ans.halt, specs.Reader.Fault.named, specs.Codec.prim}
-use Rattle.coding.{specs.Leaves.identifier, specs.Written.lead, specs.Written.fullNumber, specs.declared.Extent.Extent, proofs.Basic.and-both, proofs.Laws.Octets, proofs.Combine.primLaws}
+use Rattle.coding.{specs.Leaves.identifier, specs.inner.Written.lead, specs.inner.Written.fullNumber, specs.declared.Extent.Extent, proofs.Basic.and-both, proofs.Laws.Octets, proofs.Combine.primLaws}
 use Rattle.coding.{proofs.Leaves.identifierLaws, proofs.Small.small-length, proofs.Small.id-range, proofs.Small.id-length, proofs.Small.null-length, proofs.Writing.lead-length-short}
 use Rattle.types.{specs.declared.Record.Record, specs.Arguments.noCharge, specs.Frames.component, specs.Frames.outside, specs.Frames.rejects, specs.Frames.readOf, specs.Frames.accepted}
 use Rattle.types.{proofs.ArgumentLaws.chargeEqual, proofs.Theorems.reads-back, proofs.Places.pick}
-use Rattle.write.{specs.declared.Written.Written, specs.Halves.frontOf, specs.Halves.bodyOf, proofs.Valid.valid-parts, proofs.Octets.write-parts, specs.Outcome.writeOf}
-use Rattle.write_heads.specs.Fronts.{frontFine, frontOctets, idOctets, problemFine}
+use Rattle.write.{specs.declared.Written.Written, specs.inner.Halves.frontOf, specs.inner.Halves.bodyOf, proofs.Valid.valid-parts, proofs.Octets.write-parts, specs.Outcome.writeOf}
+use Rattle.write_heads.specs.inner.Fronts.{frontFine, frontOctets, idOctets, problemFine}
 use Rattle.read_heads.proofs.Entered.{tags, entered-ends}
 use Rattle.reply_rules.specs.Rejects.{valueOr0, identifierOf, firstOf, isSilentTo, replyBy, rejectTo, replyTo}
 use Rattle.reply.specs.Reply.{replyGiven, replyOf}

@@ -7,7 +7,7 @@ use Rattle.reply_rules.specs.Rejects.{isSilentTo, rejectTo}
 use Rattle.write.specs.declared.Written.{Written}
 use Rattle.write.specs.Outcome.{done, writeOf, leftOf}
 
--- to octets whose refusal is known, of either family: the answer, and what is left in a lent buffer
+-- to octets whose refusal is known, of either family: the answer, and what is left in the caller's buffer
 unfoldable pub replyGiven : ℕ → List ℕ → ℕ → Written
 replyGiven n s room = cond (isSilentTo n s) (done 0) (writeOf (rejectTo n s) room)
 

@@ -3,7 +3,7 @@ ghost use mathlib.Core.Path.{_≡_};
 ghost use lib.ListN.{length};
 ghost use Rattle.reply.specs.Reply.{replyGiven, leftGiven, replyOf, replyLeft};
 
-// Writes the reject that a component's refusal calls for, by the refusal's number, into a lent buffer; where none is due, 0 octets.
+// Writes the reject that a component's refusal calls for, by the refusal's number, into the caller's buffer; where none is due, 0 octets.
 pub fn reply_to(number: u32, octets: &[u8], buf: &mut [u8]) -> write::Written
     ensures { λ r. ⌜ r ≡ replyGiven number (now (octets .entry)) (length (now (buf .entry))) ⌝ }
     ensures left { λ r. ⌜ now (buf .exit) ≡ leftGiven number (now (octets .entry)) (now (buf .entry)) ⌝ }

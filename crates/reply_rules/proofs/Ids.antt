@@ -1,10 +1,10 @@
 -- An identifier from how it was read.
 use Rattle.prelude.proofs.Prelude.{ℕ, _≤_, _<_, arith, _≡_, refl, ap, _∙_, true, false, List, [], _∷_, length, getD, lt-ltb, le-ltb}
 use Rattle.coding.{specs.Reader.Ans, specs.Reader.choice, specs.Reader.lengthAt, specs.Reader.opened, specs.Reader.oneOf, specs.Reader.Ans.got, specs.Reader.Ans.halt}
-use Rattle.coding.{specs.Reader.Fault.named, specs.Codec.prim, specs.Leaves.identifier, specs.Shown.shown, specs.declared.Extent.Extent, proofs.Basic.picked, proofs.Header.tagged-yes}
+use Rattle.coding.{specs.Reader.Fault.named, specs.Codec.prim, specs.Leaves.identifier, specs.inner.Shown.shown, specs.declared.Extent.Extent, proofs.Basic.picked, proofs.Header.tagged-yes}
 use Rattle.coding.{proofs.Frames.any-lacks, proofs.Frames.any-strange, proofs.Frames.any-told, proofs.Frames.any-over, proofs.Frames.any-enters}
 use Rattle.types.specs.Frames.{outside}
-use Rattle.read_heads.{specs.Heads.outsideCode, proofs.Codes.outside-code, proofs.Entered.tags}
+use Rattle.read_heads.{specs.inner.Heads.outsideCode, proofs.Codes.outside-code, proofs.Entered.tags}
 use Rattle.reply_rules.specs.Rejects.{identifierRead, valueOr0, identifierOf}
 
 pub no-first : (s : List ℕ) → length s ≡ 0 → 0 ≡ getD s 0 0

@@ -17,7 +17,7 @@ use Rattle.types.specs.Frames.{outside, rejects, readOf}
 abbrev pub firstOf : List ℕ → ℕ
 firstOf s = getD s 0 0
 
--- the component's identifier, which stands first in its contents
+-- the component's identifier, which is first in its contents
 abbrev pub identifierRead : List ℕ → Ans ℕ
 identifierRead s =
     after (enteredAny (0xa1 ∷ 0xa2 ∷ 0xa3 ∷ 0xa4 ∷ []) outside (named 5) s 0 (length s)) (λ x next. (prim 0x02 identifier) .read s (x .start) (x .stop))

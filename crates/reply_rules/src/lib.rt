@@ -1,8 +1,54 @@
 // Makes the reject that must be sent for a refused component, as a record.
+use coding::refusal;
+use types::frame;
 ghost use mathlib.Core.Path.{_≡_};
 ghost use mathlib.Core.Logic.{inl, inr};
 ghost use Rattle.types.specs.Frames.{rejects};
 ghost use Rattle.reply_rules.specs.Rejects.{firstOf, identifierOf, replyBy};
+
+// As wide as a refusal is handed over; the refusals of an argument or result begin with MISSING.
+const UNKNOWN_COMPONENT: u32 = refusal::UNKNOWN_COMPONENT as u32;
+
+const BAD_FRAME: u32 = refusal::BAD_FRAME as u32;
+
+const UNKNOWN_OPERATION: u32 = refusal::UNKNOWN_OPERATION as u32;
+
+const UNKNOWN_ERROR: u32 = refusal::UNKNOWN_ERROR as u32;
+
+const MISSING: u32 = refusal::MISSING as u32;
+
+// A reject's problem, and the details under each that are sent, by their names in include/aoc.h.
+pub mod problem {
+    pub const GENERAL: u8 = 0x80;
+
+    pub const INVOKE: u8 = 0x81;
+
+    pub const RESULT: u8 = 0x82;
+
+    pub const ERROR: u8 = 0x83;
+}
+
+pub mod general_problem {
+    pub const UNRECOGNIZED_COMPONENT: u8 = 0;
+
+    pub const MISTYPED_COMPONENT: u8 = 1;
+
+    pub const BADLY_STRUCTURED: u8 = 2;
+}
+
+pub mod invoke_problem {
+    pub const UNRECOGNIZED_OPERATION: u8 = 1;
+
+    pub const MISTYPED_ARGUMENT: u8 = 2;
+}
+
+pub mod result_problem {
+    pub const MISTYPED: u8 = 2;
+}
+
+pub mod error_problem {
+    pub const UNRECOGNIZED_ERROR: u8 = 2;
+}
 
 pub fn first_of(octets: &[u8]) -> u8
     ensures { λ r. ⌜ r ≡ firstOf (now (octets .entry)) ⌝ }
@@ -48,7 +94,7 @@ fn unnamed(problem: u8, detail: u8) -> types::Record
 {
     types::Record {
         front: types::Front {
-            frame: 4,
+            frame: frame::REJECT,
             unnamed: 1,
             id: 0,
             operation: 0,
@@ -65,7 +111,7 @@ fn named(id: u16, problem: u8, detail: u8) -> types::Record
 {
     types::Record {
         front: types::Front {
-            frame: 4,
+            frame: frame::REJECT,
             unnamed: 0,
             id,
             operation: 0,
@@ -81,26 +127,26 @@ fn named(id: u16, problem: u8, detail: u8) -> types::Record
 pub fn reject_for(number: u32, first: u8, id: u16) -> types::Record
     ensures { λ r. ⌜ r ≡ replyBy number first id ⌝ }
 {
-    if number == 4 {
-        return unnamed(0x80, 0);
+    if number == UNKNOWN_COMPONENT {
+        return unnamed(problem::GENERAL, general_problem::UNRECOGNIZED_COMPONENT);
     }
-    if number == 6 {
-        return unnamed(0x80, 1);
+    if number == BAD_FRAME {
+        return unnamed(problem::GENERAL, general_problem::MISTYPED_COMPONENT);
     }
-    if number == 8 {
-        return named(id, 0x83, 2);
+    if number == UNKNOWN_ERROR {
+        return named(id, problem::ERROR, error_problem::UNRECOGNIZED_ERROR);
     }
-    if number == 7 {
+    if number == UNKNOWN_OPERATION {
         if first == 0xa2 {
-            return named(id, 0x82, 2);
+            return named(id, problem::RESULT, result_problem::MISTYPED);
         }
-        return named(id, 0x81, 1);
+        return named(id, problem::INVOKE, invoke_problem::UNRECOGNIZED_OPERATION);
     }
-    if 40 <= number {
+    if MISSING <= number {
         if first == 0xa2 {
-            return named(id, 0x82, 2);
+            return named(id, problem::RESULT, result_problem::MISTYPED);
         }
-        return named(id, 0x81, 2);
+        return named(id, problem::INVOKE, invoke_problem::MISTYPED_ARGUMENT);
     }
-    unnamed(0x80, 2)
+    unnamed(problem::GENERAL, general_problem::BADLY_STRUCTURED)
 }

@@ -37,8 +37,27 @@ pub fn three_identifiers(last: u16) -> Three
     Three { s, d, e }
 }
 
+// The services' numbers, each by its name in include/aoc.h; another number is no service.
+pub mod service {
+    pub const NONE: u8 = 0;
+
+    pub const S: u8 = 1;
+
+    pub const D: u8 = 2;
+
+    pub const E: u8 = 3;
+}
+
+// The service of a closing figure.
+pub mod closing_service {
+    pub const NONE: u32 = super::service::NONE as u32;
+
+    pub const D: u32 = super::service::D as u32;
+
+    pub const E: u32 = super::service::E as u32;
+}
+
 // A set of services, a mark for each: 0 is out of the set, any other mark is in it.
-// Services are numbered 1 S, 2 D, 3 E; another number is no service.
 #[repr(C)]
 pub struct Services {
     pub s: u8,
@@ -82,13 +101,13 @@ impl Services {
         ensures set { λ r. ⌜ r ≡ with self service ⌝ }
         ensures members { λ r. ⌜ ((u : ℕ) → has r u ≡ isService u && eqb service u || has self u) ⌝ }
     {
-        if service == 1 {
+        if service == service::S {
             return self.with_s();
         }
-        if service == 2 {
+        if service == service::D {
             return self.with_d();
         }
-        if service == 3 {
+        if service == service::E {
             return self.with_e();
         }
         self
@@ -116,13 +135,13 @@ impl Services {
     pub fn has(self, service: u8) -> bool
         ensures { λ r. ⌜ r ≡ has self service ⌝ }
     {
-        if service == 1 {
+        if service == service::S {
             return self.has_s();
         }
-        if service == 2 {
+        if service == service::D {
             return self.has_d();
         }
-        if service == 3 {
+        if service == service::E {
             return self.has_e();
         }
         false

@@ -1,6 +1,7 @@
 // When two finals of a call are the same. Every value of the structs has its answer: a count past its array counts as the array's length.
 use types::Charge;
 use types::Entries;
+use types::charge_kind;
 ghost use mathlib.Core.Path.{_≡_};
 ghost use Prim.Native.Nat.{_≤_, _<_};
 ghost use Rattle.same_final.specs.Same.{upTo, equalUnits, sameOf};
@@ -44,15 +45,15 @@ pub fn same(a: Charge, b: Charge) -> bool
     if f.kind != g.kind {
         return false;
     }
-    if f.kind == 1 {
+    if f.kind == charge_kind::FREE {
         return true;
     }
-    if f.kind == 2 {
+    if f.kind == charge_kind::MONEY {
         let m = f.money;
         let n = g.money;
         return amounts::same_money(m, n);
     }
-    if f.kind == 3 {
+    if f.kind == charge_kind::UNITS {
         if f.count != g.count {
             return false;
         }

@@ -1,6 +1,7 @@
 // Takes one event of a call and stores what it changes in the account, in place or in a returned copy.
 use account::Account;
 use account::Stepped;
+use outcomes::place;
 use phases::Event;
 use phases::Outcome;
 ghost use mathlib.Core.Path.{_≡_};
@@ -8,27 +9,27 @@ ghost use mathlib.Core.List.{List};
 ghost use Rattle.phases.specs.Phases.{Given, event};
 ghost use Rattle.account.specs.History.{judged, accountBy, stepped, steppedBy};
 ghost use Rattle.account.specs.Step.{steppedOf};
-ghost use Rattle.makers.specs.Events.{Took};
+ghost use Rattle.account.specs.Events.{Took};
 
-// The host lends the account, and the step updates it there.
+// The account is the host's, and the step updates it there.
 pub fn step_in(a: &mut Account, e: Event, octets: &[u8]) -> Outcome
     ensures { λ r. ⌜ Took (now (a .entry)) e (now (octets .entry)) (stepped r (now (a .exit))) ⌝ }
 {
     let w = step_rules::step(*a, e, octets);
     a.status = w.status;
-    if w.place == 1 {
+    if w.place == place::RATE {
         a.rate = w.charge;
         return w.outcome;
     }
-    if w.place == 2 {
+    if w.place == place::RUNNING {
         a.running = w.charge;
         return w.outcome;
     }
-    if w.place == 3 {
+    if w.place == place::D_FINAL {
         a.dfinal = w.charge;
         return w.outcome;
     }
-    if w.place == 4 {
+    if w.place == place::E_FINAL {
         a.efinal = w.charge;
         return w.outcome;
     }

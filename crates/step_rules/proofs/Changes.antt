@@ -3,14 +3,14 @@ use Rattle.prelude.proofs.Prelude.{ℕ, _≡_, refl, sym, _∙_, ap, List, Bool
 use Rattle.phases.{proofs.Choice.if-same, specs.declared.Event.Event, specs.declared.Outcome.Outcome, specs.declared.Status.Status, specs.Phases.Idle}
 use Rattle.prelude.proofs.Ways.{by-cases}
 use Rattle.phases.{specs.Phases.Setup, specs.Phases.Component, specs.Phases.noService, specs.Phases.clashes, specs.Phases.allowed, specs.Phases.Given, specs.Phases.event}
-use Rattle.phases.{specs.ByNumber.nextPhase, specs.ByNumber.movingOf, proofs.Transitions.next-none, proofs.Transitions.next-some}
+use Rattle.phases.{specs.inner.ByNumber.nextPhase, specs.inner.ByNumber.movingOf, proofs.Transitions.next-none, proofs.Transitions.next-some}
 use Rattle.types.specs.{declared.Record.Record, declared.Answer.Answer, Arguments.noCharge, Frames.readOf}
 use Rattle.account.{specs.declared.Account.Account, specs.declared.Change.Change, specs.History.judged, specs.History.accountBy, specs.History.steppedBy}
 use Rattle.account.{specs.Step.knownOf, specs.Step.changeBy, specs.Step.changeOf, specs.Step.changed, specs.Step.steppedOf, proofs.Demand.step-stands, proofs.Demand.notes-nothing}
 use Rattle.account.{proofs.Demand.keeps-nothing}
 use Rattle.outcomes.{specs.Outcome.isRefusal, specs.Outcome.fits, specs.Outcome.judgeRecord, specs.Outcome.judgeAnswer, specs.Outcome.judge, specs.Status.requestsOf, specs.Status.noted}
-use Rattle.outcomes.{specs.Status.placeOf, specs.ByNumber.claimRecord, proofs.Refusals.decoding-refusal, proofs.Claims.resolves}
-use Rattle.step_rules.specs.Inner.{resolved, taken}
+use Rattle.outcomes.{specs.Status.placeOf, specs.inner.ByNumber.claimRecord, proofs.Refusals.decoding-refusal, proofs.Claims.resolves}
+use Rattle.step_rules.specs.inner.Inner.{resolved, taken}
 
 abbrev claim : Account → Record → Outcome
 claim a x = claimRecord (a .status .phase) (requestsOf (a .status)) (x .front) (x .charge .figure .kind) (x .charge .figure .total)

@@ -2,15 +2,18 @@
 use account::Account;
 use account::Change;
 use account::no_charge;
+use coding::refusal;
 use outcomes::claimed;
 use outcomes::final_outcome;
 use outcomes::noted;
+use outcomes::place;
 use outcomes::place_of;
 use phases::Event;
 use phases::Outcome;
 use phases::Status;
 use phases::next_phase;
 use phases::phase_step;
+use requests::service;
 use types::Charge;
 ghost use mathlib.Core.Path.{_≡_};
 ghost use mathlib.Core.List.{List};
@@ -20,7 +23,7 @@ ghost use Rattle.phases.specs.Phases.{noService, Given, event};
 ghost use Rattle.types.specs.Stored.{withList};
 ghost use Rattle.account.specs.History.{judged, accountBy, steppedBy};
 ghost use Rattle.account.specs.Step.{changeOf, changed};
-ghost use Rattle.step_rules.specs.Inner.{resolved, taken};
+ghost use Rattle.step_rules.specs.inner.Inner.{resolved, taken};
 
 // ---- what a component does
 
@@ -33,10 +36,10 @@ fn resolved(
 ) -> Outcome
     ensures { λ r. ⌜ r ≡ resolved a o (withList figure (now (numbers .entry)) (now (rows .entry))) ⌝ }
 {
-    if o.number != 22 {
+    if o.number != outcomes::FINAL {
         return o;
     }
-    if o.service == 2 {
+    if o.service == service::D {
         let first = a.dfinal;
         return final_outcome(first, figure, numbers, rows, o.service);
     }
@@ -51,7 +54,7 @@ fn still(outcome: Outcome, status: Status) -> Change
     let charge = no_charge();
     Change {
         outcome,
-        place: 0,
+        place: place::NONE,
         status,
         charge,
     }
@@ -60,7 +63,10 @@ fn still(outcome: Outcome, status: Status) -> Change
 fn plain(number: u8, status: Status) -> Change
     ensures { λ r. ⌜ r ≡ record { outcome = noService number; place = 0; status = status; charge = noCharge } ⌝ }
 {
-    let outcome = Outcome { number, service: 0 };
+    let outcome = Outcome {
+        number,
+        service: service::NONE,
+    };
     still(outcome, status)
 }
 
@@ -82,7 +88,7 @@ fn taken(a: Account, octets: &[u8]) -> Change
     let outcome = resolved(a, claim, figure, &numbers, &rows);
     let status = noted(t, outcome);
     let place = place_of(outcome);
-    if place == 0 {
+    if place == place::NONE {
         return still(outcome, status);
     }
     let entries = types::Entries {
@@ -106,14 +112,14 @@ pub fn step(a: Account, e: Event, octets: &[u8]) -> Change
     ensures rules { λ r. ⌜ ((h : List Given) → a ≡ accountBy (judged h) → changed a r ≡ steppedBy (event e (now (octets .entry))) h) ⌝ }
 {
     let t = a.status;
-    if e.kind != 5 {
+    if e.kind != phases::COMPONENT {
         let m = phase_step(t, e);
         let status = m.status;
         return still(m.outcome, status);
     }
     let phase = next_phase(e.kind, t.phase);
-    if phase == 0 {
-        return plain(14, t);
+    if phase == phases::IDLE {
+        return plain(refusal::WRONG_PHASE, t);
     }
     taken(a, octets)
 }

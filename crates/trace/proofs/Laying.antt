@@ -1,15 +1,10 @@
 -- Events laid into slices, one run after another.
-use Rattle.prelude.proofs.Prelude.{_≡_, refl, sym, ap, _∙_, ℕ, _+_, arith, List, [], _∷_, _++_, append-assoc, append-nil, length, length-append, length-set, take, take-length}
-use Rattle.prelude.proofs.Prelude.{towards-suc, set}
-use Rattle.coding.{specs.Written.Wrote, specs.Written.Room, proofs.Writing.wrote-both, proofs.Writing.wrote-as, proofs.Writing.wrote-none, proofs.Writing.wrote-next}
+use Rattle.prelude.proofs.Prelude.{_≡_, refl, sym, ap, _∙_, ℕ, _+_, arith, List, [], _∷_, _++_, append-assoc, append-nil, length, length-append, take, take-length}
+use Rattle.coding.{specs.inner.Written.Wrote, specs.inner.Written.Room, proofs.Writing.wrote-both, proofs.Writing.wrote-as, proofs.Writing.wrote-none, proofs.Writing.wrote-next}
 use Rattle.phases.specs.{declared.Event.Event, Phases.Given, Phases.event}
 use Rattle.trace.specs.declared.Put.{Put}
 use Rattle.events.{specs.Laid.laidRow, specs.Laid.rowsOf, specs.Laid.octetsOf, proofs.Laid.rows-append, proofs.Laid.octets-append}
-use Rattle.trace.specs.Putting.{Puts, Rooms, Progress, RowsFor}
-
-pub wrote-6 : (l : List ℕ) (a u v w x y z : ℕ)
-    → Wrote l (set (set (set (set (set (set l a u) (a + 1) v) (a + 2) w) (a + 3) x) (a + 4) y) (a + 5) z) a (u ∷ v ∷ w ∷ x ∷ y ∷ z ∷ []) (a + 6)
-wrote-6 l a u v w x y z = record { kept = simp length-set; place = refl; stored = simp towards-suc }
+use Rattle.trace.specs.inner.Putting.{Puts, Rooms, Progress, RowsFor}
 
 pub puts-none : (rows out : List ℕ) (p : Put) → Puts rows rows out out p [] p
 unfolding rowsOf octetsOf

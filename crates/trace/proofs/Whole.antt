@@ -2,15 +2,15 @@
 use Rattle.prelude.proofs.Prelude.{_≡_, refl, sym, ap, _∙_, ℕ, suc, _+_, _-_, _*_, _/_, _≤_, _<_, arith, zero-add, Bool, true, false, cond, List, _++_, length, getD, take}
 use Rattle.prelude.proofs.Prelude.{drop, sets-eq, eqb, eq-eqb, ne-eqb, le-leb, lt-leb}
 use Rattle.phases.specs.Phases.{Given}
-use Rattle.coding.{specs.Written.Wrote, proofs.Basic.and-left}
+use Rattle.coding.{specs.inner.Written.Wrote, proofs.Basic.and-left}
 use Rattle.events.{specs.Laid.rowsOf, specs.Laid.octetsOf, proofs.Laid.rows-count}
-use Rattle.trace_framing.specs.{declared.Verdict.Verdict, Framing.framed, Framing.lengthsAddUp, Framing.messagesFrom, Framing.messagesOf, Framing.verdictOf}
-use Rattle.trace_framing.proofs.Laws.{passing-starts, inside}
+use Rattle.trace_framing.specs.{declared.TraceVerdict.TraceVerdict, Framing.framed, Framing.lengthsAddUp, Framing.messagesFrom, Framing.messagesOf, Framing.verdictOf}
+use Rattle.trace_framing.proofs.Laws.{passing-starts, ends-inside}
 use Rattle.trace_messages.specs.Trace.{reference, allFramed, traceFrom, traceEvents}
 use Rattle.trace_messages.proofs.Theorems.{total-is, few-events}
 use Rattle.trace.proofs.Bounds.{few-octets}
-use Rattle.trace.specs.{declared.Put.Put, declared.Laid.Laid, Into.eventsIn, Into.fitsIn, Into.laid, Into.laidOf, Into.rowsLeft, Into.octetsLeft, Putting.Puts}
-use Rattle.trace.specs.{Putting.Rooms, Putting.Lays}
+use Rattle.trace.specs.{declared.Put.Put, declared.Laid.Laid, Into.eventsIn, Into.fitsIn, Into.laid, Into.laidOf, Into.rowsLeft, Into.octetsLeft, inner.Putting.Puts}
+use Rattle.trace.specs.{inner.Putting.Rooms, inner.Putting.Lays}
 
 -- ---- the call's reference
 
@@ -19,7 +19,8 @@ pub no-call : (pairs octets : List ℕ) (r : ℕ) → length pairs / 2 ≡ 0 →
 unfolding messagesOf messagesFrom traceFrom traceEvents
 no-call pairs octets r z = rw z refl
 
-module _ (pairs octets : List ℕ) (adds : lengthsAddUp pairs (length octets) ≡ true) (all : allFramed (messagesOf pairs octets) ≡ true) (some : 2 ≤ length pairs) (c : ℕ) (is : c ≡ getD pairs 0 0) where
+module _ (pairs octets : List ℕ) (adds : lengthsAddUp pairs (length octets) ≡ true) (all : allFramed (messagesOf pairs octets) ≡ true)
+    (some : 2 ≤ length pairs) {c : ℕ} (is : c ≡ getD pairs 0 0) where
   one-more : length pairs / 2 ≡ suc (length pairs / 2 - 1)
   one-more = omega (arith, some)
 
@@ -27,15 +28,15 @@ module _ (pairs octets : List ℕ) (adds : lengthsAddUp pairs (length octets) �
   size-is = omega (arith, is)
 
   pub first-inside : c ≤ length octets
-  first-inside = omega (arith, is, inside pairs octets 0 0 (passing-starts pairs octets adds) (omega (arith, some)))
+  first-inside = omega (arith, ends-inside (passing-starts pairs octets adds) (omega (arith, some)) is)
 
   pub first-framed : framed (take (c - 0) (drop 0 octets)) ≡ true
   unfolding messagesOf messagesFrom
   first-framed = rw size-is (and-left (framed (take (getD pairs 0 0) (drop 0 octets))) _ (rw one-more at all))
 
-  pub first-call : (r : ℕ) → r ≡ reference (take (c - 0) (drop 0 octets)) → traceFrom r false (messagesOf pairs octets) ≡ eventsIn pairs octets
+  pub first-call : {r : ℕ} → r ≡ reference (take (c - 0) (drop 0 octets)) → traceFrom r false (messagesOf pairs octets) ≡ eventsIn pairs octets
   unfolding messagesOf messagesFrom traceEvents
-  first-call r e = rw (one-more, e, size-is) refl
+  first-call e = rw (one-more, e, size-is) refl
 
 -- ---- room
 
@@ -81,34 +82,26 @@ module _ (rows out : List ℕ) (l : List Given) (n : ℕ) where
 
 -- ---- the answer
 
-pub record Answers (pairs octets rows rows′ out out′ : List ℕ) (r : Laid) : Type 0 where
-  pub result : r ≡ laidOf pairs octets (length rows) (length out)
-  pub in-rows : rows′ ≡ rowsLeft pairs octets rows out
-  pub in-out : out′ ≡ octetsLeft pairs octets rows out
+-- what is answered, and what the slices then hold
+abbrev Answers : (pairs octets rows rows′ out out′ : List ℕ) → Laid → Type 0
+Answers pairs octets rows rows′ out out′ r =
+    (r ≡ laidOf pairs octets (length rows) (length out)) × ((rows′ ≡ rowsLeft pairs octets rows out) × (out′ ≡ octetsLeft pairs octets rows out))
 
-module _ (pairs octets rows rows′ out out′ : List ℕ) (v : Verdict) (is : v ≡ verdictOf pairs octets) where
-  number-is : verdictOf pairs octets .number ≡ v .number
-  number-is = ap (λ (x : Verdict). x .number) (sym is)
-
-  pub refused : (v .number ≡ 0 → ⊥) → rows′ ≡ rows → out′ ≡ out → Answers pairs octets rows rows′ out out′ (laid (v .number) (v .message) 0 0)
+module _ (pairs octets rows out : List ℕ) {v : TraceVerdict} (is : v ≡ verdictOf pairs octets) where
+  pub refused : (v .number ≡ 0 → ⊥) → Answers pairs octets rows rows out out (laid (v .number) (v .message) 0 0)
   unfolding laidOf rowsLeft octetsLeft
-  refused n a b =
-      let z = ne-eqb (verdictOf pairs octets .number) 0 (λ e. n (sym number-is ∙ e)) in record {
-        result = sym (rw (z, ← is) refl);
-        in-rows = a ∙ sym (rw (z, z) refl);
-        in-out = b ∙ sym (rw (z, z) refl);
-      }
+  refused n =
+      let z = ne-eqb (verdictOf pairs octets .number) 0 (λ e. n (ap (λ (x : TraceVerdict). x .number) is ∙ e)) in
+      (sym (rw (z, ← is) refl), (sym (rw (z, z) refl), sym (rw (z, z) refl)))
 
   room-zero : (b : Bool) (l : List Given) → eqb ((cond b (laid 0 0 (length l) (length (octetsOf l))) (laid 12 0 0 0)) .number) 0 ≡ b
   room-zero true l = refl
   room-zero false l = refl
 
-  pub accepted : v .number ≡ 0 → (r : Laid) → Lays (eventsIn pairs octets) (length octets) rows rows′ out out′ r → Answers pairs octets rows rows′ out out′ r
+  pub accepted : v .number ≡ 0 → {rows′ out′ : List ℕ} {r : Laid} → Lays (eventsIn pairs octets) (length octets) rows rows′ out out′ r
+      → Answers pairs octets rows rows′ out out′ r
   unfolding laidOf rowsLeft octetsLeft
-  accepted n r w =
-      let z = eq-eqb (verdictOf pairs octets .number) 0 (number-is ∙ n) in
-      let b = room-zero (fitsIn (length octets) (length rows) (length out)) (eventsIn pairs octets) in record {
-        result = w .answer ∙ sym (rw z refl);
-        in-rows = w .in-rows ∙ sym (rw (z, b) refl);
-        in-out = w .in-out ∙ sym (rw (z, b) refl);
-      }
+  accepted n w =
+      let z = eq-eqb (verdictOf pairs octets .number) 0 (sym (ap (λ (x : TraceVerdict). x .number) is) ∙ n) in
+      let b = room-zero (fitsIn (length octets) (length rows) (length out)) (eventsIn pairs octets) in
+      (w .answer ∙ sym (rw z refl), (w .in-rows ∙ sym (rw (z, b) refl), w .in-out ∙ sym (rw (z, b) refl)))

@@ -1,4 +1,4 @@
--- The event list of a trace, laid into two lent slices.
+-- The event list of a trace, stored in the caller's two slices.
 use Prim.Native.Nat.{ℕ, _*_}
 use mathlib.Core.List.{List, _++_}
 use mathlib.Core.Bool.{Bool, _&&_, cond}

@@ -1,2 +1,2 @@
 pub mod Into
-pub mod Putting
+pub mod inner

@@ -1,60 +1,29 @@
 // Writes the events of a trace as an event list into two buffers of the caller.
+use coding::refusal;
 use phases::Event;
 use requests::Services;
 use trace_messages::Gives;
 ghost use mathlib.Core.Path.{_≡_};
-ghost use mathlib.Core.Bool.{true, false, cond};
+ghost use mathlib.Core.Bool.{true, false};
 ghost use mathlib.Core.List.{List, [], _∷_};
-ghost use Prim.Native.Nat.{ℕ, suc, _-_, _≤_, _<_};
+ghost use Prim.Native.Nat.{ℕ, _-_, _≤_, _<_};
 ghost use lib.ListN.{length};
-ghost use lib.Dec.{eqb};
-ghost use Rattle.coding.specs.Written.{Wrote, Room};
+ghost use Rattle.coding.specs.inner.Written.{Room};
 ghost use Rattle.phases.specs.Phases.{event};
-ghost use Rattle.trace_framing.specs.Framing.{message, elementEnd, elementsFit, framed, lengthsAddUp, messagesOf};
-ghost use Rattle.trace_messages.specs.Trace.{componentsIn, componentsAt, componentsFrom, componentEvent, componentEvents, phaseEvent, setupBy, when, laidOut, messageEvents, ofCall, allFramed, traceFrom};
-ghost use Rattle.events.specs.Laid.{bitsOf, laidRow};
+ghost use Rattle.trace_framing.specs.Framing.{message, elementEnd, Elements, framed, lengthsAddUp, messagesOf};
+ghost use Rattle.trace_messages.specs.Trace.{componentsIn, componentsAt, componentsAfter, componentEvent, componentEvents, phaseEvent, setupBy, when, laidOut, messageEvents, ofCall, allFramed, traceFrom};
+ghost use Rattle.events.specs.Laid.{laidRow};
 ghost use Rattle.trace.specs.Into.{eventsIn, laidOf, rowsLeft, octetsLeft};
-ghost use Rattle.trace.specs.Putting.{Puts, Rooms, RowsFor, Lays};
+ghost use Rattle.trace.specs.inner.Putting.{Puts, Rooms, RowsFor, Lays};
 
-// ---- an event laid into lent slices
+const NO_ROOM: u64 = refusal::NO_ROOM as u64;
+
+// ---- an event stored in the caller's slices
 
 // Where the next event goes: its row's first number, and its first octet.
 struct Put {
     pub rows: usize,
     pub octets: usize,
-}
-
-fn bit(mark: u8, value: u16) -> u16
-    ensures { λ r. ⌜ r ≡ cond (eqb mark 0) 0 value ⌝ }
-{
-    if mark == 0 {
-        return 0;
-    }
-    value
-}
-
-fn bits_of(t: Services) -> u16
-    ensures { λ r. ⌜ r ≡ bitsOf t ⌝ }
-{
-    let s = bit(t.s, 1);
-    let d = bit(t.d, 2);
-    let e = bit(t.e, 4);
-    s + d + e
-}
-
-fn put_row(rows: &mut [u16], at: usize, e: Event, count: u16) -> usize
-    requires { ⌜ Room (now rows) at (laidRow e count) ⌝ }
-    ensures { λ r. ⌜ Wrote (now (rows .entry)) (now (rows .exit)) at (laidRow e count) r ⌝ }
-{
-    let asked = e.asked;
-    let bits = bits_of(asked);
-    rows[at] = e.kind as u16;
-    rows[at + 1] = bits;
-    rows[at + 2] = e.s;
-    rows[at + 3] = e.d;
-    rows[at + 4] = e.e;
-    rows[at + 5] = count;
-    at + 6
 }
 
 fn put_event(rows: &mut [u16], out: &mut [u8], p: Put, e: Event, octets: &[u8]) -> Put
@@ -64,7 +33,7 @@ fn put_event(rows: &mut [u16], out: &mut [u8], p: Put, e: Event, octets: &[u8]) 
     let n = octets.len();
     let r = p.rows;
     let o = p.octets;
-    let row = put_row(rows, r, e, n as u16);
+    let row = events::put_row(rows, r, e, n as u16);
     let end = octets::put_octets(out, o, octets, n);
     Put {
         rows: row,
@@ -78,7 +47,7 @@ fn put_bare(rows: &mut [u16], p: Put, e: Event) -> Put
     ensures { λ r. ⌜ ((out : List ℕ) → Puts (now (rows .entry)) (now (rows .exit)) out out p (event e [] ∷ []) r) ⌝ }
 {
     let at = p.rows;
-    let row = put_row(rows, at, e, 0);
+    let row = events::put_row(rows, at, e, 0);
     Put {
         rows: row,
         octets: p.octets,
@@ -91,7 +60,7 @@ fn put_component(rows: &mut [u16], out: &mut [u8], p: Put, octets: &[u8]) -> Put
 {
     let none = Services::empty();
     let e = Event {
-        kind: 5,
+        kind: phases::COMPONENT,
         asked: none,
         s: 0,
         d: 0,
@@ -111,7 +80,7 @@ fn put_tiles(rows: &mut [u16], out: &mut [u8], p: Put, s: &[u8]) -> Put
         return p;
     }
     let mut q = p;
-    let mut place: usize = 3;
+    let mut place: usize = element::FIRST_PLACE;
     let mut found = element_pass::first(s);
     while found.after != 0 {
         let after = found.after;
@@ -147,8 +116,8 @@ fn put_at(
 
 // The components of a message's elements, from a place to the end.
 fn put_elements(rows: &mut [u16], out: &mut [u8], p: Put, s: &[u8], start: usize) -> Put
-    requires { ⌜ (start ≤ length (now s)) × (elementsFit (suc (length (now s))) (now s) start ≡ true) × Rooms (now rows) (now out) p (componentEvents (componentsFrom (suc (length (now s))) (now s) start 0)) ⌝ }
-    ensures { λ r. ⌜ Puts (now (rows .entry)) (now (rows .exit)) (now (out .entry)) (now (out .exit)) p (componentEvents (componentsFrom (suc (length (now (s .entry)))) (now (s .entry)) start 0)) r ⌝ }
+    requires { ⌜ Elements (now s) start × Rooms (now rows) (now out) p (componentEvents (componentsAfter (now s) start)) ⌝ }
+    ensures { λ r. ⌜ Puts (now (rows .entry)) (now (rows .exit)) (now (out .entry)) (now (out .exit)) p (componentEvents (componentsAfter (now (s .entry)) start)) r ⌝ }
 {
     let end = s.len();
     let mut q = p;
@@ -188,8 +157,8 @@ fn put_when(rows: &mut [u16], p: Put, given: bool, kind: u8) -> Put
 
 // A SETUP's event, where it is given.
 fn put_setup(rows: &mut [u16], p: Put, s: &[u8], start: usize, given: bool) -> Put
-    requires { ⌜ (start ≤ length (now s)) × (elementsFit (suc (length (now s))) (now s) start ≡ true) × RowsFor (now rows) p (when given (setupBy (componentsFrom (suc (length (now s))) (now s) start 0) ∷ [])) ⌝ }
-    ensures { λ r. ⌜ ((out : List ℕ) → Puts (now (rows .entry)) (now (rows .exit)) out out p (when given (setupBy (componentsFrom (suc (length (now (s .entry)))) (now (s .entry)) start 0) ∷ [])) r) ⌝ }
+    requires { ⌜ Elements (now s) start × RowsFor (now rows) p (when given (setupBy (componentsAfter (now s) start) ∷ [])) ⌝ }
+    ensures { λ r. ⌜ ((out : List ℕ) → Puts (now (rows .entry)) (now (rows .exit)) out out p (when given (setupBy (componentsAfter (now (s .entry)) start) ∷ [])) r) ⌝ }
 {
     if !given {
         return p;
@@ -200,8 +169,8 @@ fn put_setup(rows: &mut [u16], p: Put, s: &[u8], start: usize, given: bool) -> P
 
 // A message's components, where they are given.
 fn put_given(rows: &mut [u16], out: &mut [u8], p: Put, s: &[u8], start: usize, given: bool) -> Put
-    requires { ⌜ (start ≤ length (now s)) × (elementsFit (suc (length (now s))) (now s) start ≡ true) × Rooms (now rows) (now out) p (when given (componentEvents (componentsFrom (suc (length (now s))) (now s) start 0))) ⌝ }
-    ensures { λ r. ⌜ Puts (now (rows .entry)) (now (rows .exit)) (now (out .entry)) (now (out .exit)) p (when given (componentEvents (componentsFrom (suc (length (now (s .entry)))) (now (s .entry)) start 0))) r ⌝ }
+    requires { ⌜ Elements (now s) start × Rooms (now rows) (now out) p (when given (componentEvents (componentsAfter (now s) start))) ⌝ }
+    ensures { λ r. ⌜ Puts (now (rows .entry)) (now (rows .exit)) (now (out .entry)) (now (out .exit)) p (when given (componentEvents (componentsAfter (now (s .entry)) start))) r ⌝ }
 {
     if !given {
         return p;
@@ -211,14 +180,14 @@ fn put_given(rows: &mut [u16], out: &mut [u8], p: Put, s: &[u8], start: usize, g
 
 // Setup; Clear; the components; Connect; Released: those that are given.
 fn put_all(rows: &mut [u16], out: &mut [u8], p: Put, s: &[u8], start: usize, g: Gives) -> Put
-    requires { ⌜ (start ≤ length (now s)) × (elementsFit (suc (length (now s))) (now s) start ≡ true) × Rooms (now rows) (now out) p (laidOut g (componentsFrom (suc (length (now s))) (now s) start 0)) ⌝ }
-    ensures { λ r. ⌜ Puts (now (rows .entry)) (now (rows .exit)) (now (out .entry)) (now (out .exit)) p (laidOut g (componentsFrom (suc (length (now (s .entry)))) (now (s .entry)) start 0)) r ⌝ }
+    requires { ⌜ Elements (now s) start × Rooms (now rows) (now out) p (laidOut g (componentsAfter (now s) start)) ⌝ }
+    ensures { λ r. ⌜ Puts (now (rows .entry)) (now (rows .exit)) (now (out .entry)) (now (out .exit)) p (laidOut g (componentsAfter (now (s .entry)) start)) r ⌝ }
 {
     let a = put_setup(rows, p, s, start, g.setup);
-    let b = put_when(rows, a, g.clear, 3);
+    let b = put_when(rows, a, g.clear, phases::CLEAR);
     let d = put_given(rows, out, b, s, start, g.components);
-    let e = put_when(rows, d, g.connect, 2);
-    put_when(rows, e, g.released, 4)
+    let e = put_when(rows, d, g.connect, phases::CONNECT);
+    put_when(rows, e, g.released, phases::RELEASED)
 }
 
 // The events of a message.
@@ -259,7 +228,7 @@ fn put_next(
     put_message(rows, out, p, s, network, cleared)
 }
 
-// The events of the messages of one call, laid into lent slices.
+// The events of the messages of one call, stored in the caller's slices.
 fn put_trace(
     rows: &mut [u16],
     out: &mut [u8],
@@ -321,7 +290,7 @@ fn lay(pairs: &[u32], octets: &[u8], rows: &mut [u16], out: &mut [u8]) -> Laid
     let n = octets.len();
     if rows.len() / 6 < n {
         return Laid {
-            number: 12,
+            number: NO_ROOM,
             message: 0,
             events: 0,
             octets: 0,
@@ -329,7 +298,7 @@ fn lay(pairs: &[u32], octets: &[u8], rows: &mut [u16], out: &mut [u8]) -> Laid
     }
     if out.len() < n {
         return Laid {
-            number: 12,
+            number: NO_ROOM,
             message: 0,
             events: 0,
             octets: 0,

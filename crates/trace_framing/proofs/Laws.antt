@@ -1,10 +1,10 @@
 -- One element more, one message more.
-use Rattle.prelude.proofs.Prelude.{_≡_, refl, sym, ap, _∙_, ℕ, zero, suc, _+_, _-_, _/_, _%_, _≤_, _<_, sub-zero, arith, true, false, not, _&&_, List, [], _∷_, length}
+use Rattle.prelude.proofs.Prelude.{_≡_, refl, sym, ap, _∙_, ℕ, zero, suc, _+_, _-_, _/_, _%_, _≤_, _<_, sub-zero, arith, true, false, _&&_, List, [], _∷_, length}
 use Rattle.prelude.proofs.Prelude.{take, drop, getD, leb, eqb}
 use Rattle.prelude.proofs.Prelude.{le-leb, lt-leb, leb-true, eq-eqb, ne-eqb, List·getD-eq-default}
 use Rattle.coding.proofs.Basic.{and-left, and-right}
 use Rattle.prelude.proofs.Ways.{by-cases}
-use Rattle.trace_framing.specs.Framing.{elementEnd, elementsFit, headed, framed, messageLength, byNetwork, lengthsFit, lengthsAddUp, messagesFrom, messagesOf, firstUnframed, Passing}
+use Rattle.trace_framing.specs.Framing.{elementEnd, elementsFit, fitFrom, Elements, headed, framed, message, messageLength, byNetwork, lengthsFit, lengthsAddUp, messagesFrom, messagesOf, messagesLeft, firstUnframed, Passing}
 
 -- ---- elements
 
@@ -23,22 +23,30 @@ turns-alike (suc t) (suc u) s at h k l =
     (λ f. rw (e, f) (turns-alike t u s (elementEnd s at) (omega (arith, p)) (omega (arith, p)) (leb-true _ _ f)))
     (λ f. rw (e, f)))
 
-module _ (s : List ℕ) (at : ℕ) (more : at < length s) (next : ℕ) (is : next ≡ elementEnd s at) where
-  here : eqb at (length s) ≡ false
-  here = ne-eqb at (length s) (λ e. omega arith)
+module _ (s : List ℕ) (at : ℕ) (more : at < length s) {next : ℕ} (is : next ≡ elementEnd s at) where
+  apart : eqb at (length s) ≡ false
+  apart = ne-eqb at (length s) (λ e. omega arith)
 
-  pub fit-more : next ≤ length s → elementsFit (suc (length s)) s at ≡ elementsFit (suc (length s)) s next
+  pub fit-more : next ≤ length s → fitFrom s at ≡ fitFrom s next
   unfolding elementsFit
   fit-more h =
       let p = end-past s at in
-      let one : elementsFit (suc (length s)) s at ≡ elementsFit (length s) s next = rw (here, ← is, le-leb next (length s) h) refl in
+      let one : fitFrom s at ≡ elementsFit (length s) s next = rw (apart, ← is, le-leb next (length s) h) refl in
       one ∙ turns-alike (length s) (suc (length s)) s next (omega (arith, p, is)) (omega arith) h
 
-  pub fit-short : length s < next → elementsFit (suc (length s)) s at ≡ false
+  pub fit-short : length s < next → fitFrom s at ≡ false
   unfolding elementsFit
-  fit-short h = rw (here, ← is, lt-leb next (length s) h) refl
+  fit-short h = rw (apart, ← is, lt-leb next (length s) h) refl
 
-pub fit-end : (s : List ℕ) (at : ℕ) → at ≤ length s → length s ≤ at → elementsFit (suc (length s)) s at ≡ true
+-- the element at a place ends inside, and elements stand after it
+pub elements-on : {s : List ℕ} {at next : ℕ} → Elements s at → at < length s → next ≡ elementEnd s at → Elements s next
+unfolding elementsFit
+elements-on {s} {at} {next} here more is =
+    let more-here : eqb at (length s) ≡ false = ne-eqb at (length s) (λ e. omega arith) in
+    let inside = leb-true (elementEnd s at) (length s) (and-left (leb (elementEnd s at) (length s)) _ (rw more-here at (here .fit))) in
+    record { place = omega (arith, is, inside); fit = sym (fit-more s at more is (omega (arith, is, inside))) ∙ here .fit }
+
+pub fit-end : (s : List ℕ) (at : ℕ) → at ≤ length s → length s ≤ at → fitFrom s at ≡ true
 unfolding elementsFit
 fit-end s at h l = let e : at ≡ length s = omega arith in rw (eq-eqb at (length s) e) refl
 
@@ -87,52 +95,46 @@ module _ (pairs octets : List ℕ) where
     rest = ap (λ (m : ℕ). lengthsFit pairs 0 (length pairs / 2 - 0) m) (sub-zero (length octets)) ∙ lengths-start pairs (length pairs / 2) (length octets) ∙ and-right (eqb (length pairs % 2) 0) _ e;
   }
 
-  pub from-start : messagesFrom pairs octets 0 (length pairs / 2 - 0) 0 ≡ messagesOf pairs octets
+  pub from-start : messagesLeft pairs octets 0 0 ≡ messagesOf pairs octets
   unfolding messagesOf
   from-start = ap (λ (k : ℕ). messagesFrom pairs octets 0 k 0) (sub-zero (length pairs / 2))
 
-  module _ (i at : ℕ) where
-    pub nothing-left : length pairs / 2 ≤ i → messagesFrom pairs octets i (length pairs / 2 - i) at ≡ []
+  pub nothing-left : (i at : ℕ) → length pairs / 2 ≤ i → messagesLeft pairs octets i at ≡ []
+  unfolding messagesFrom
+  nothing-left i at h = rw (left-none i (length pairs / 2) h) refl
+
+module _ {pairs octets : List ℕ} {i at : ℕ} (going : Passing pairs octets i at) (more : i < length pairs / 2) where
+  inside : messageLength pairs i ≤ length octets - at
+  inside = lengths-one pairs i (length pairs / 2) (length octets - at) more (going .rest)
+
+  module _ {c : ℕ} (is : c ≡ messageLength pairs i) where
+    pub ends-inside : at + c ≤ length octets
+    ends-inside = omega (arith, going .place, inside)
+
+    pub passes-on : Passing pairs octets (i + 1) (at + c)
+    passes-on =
+        let k = inside in
+        let m : length octets - (at + c) ≡ length octets - at - messageLength pairs i = omega arith in record {
+          row = omega arith;
+          place = ends-inside;
+          rest = ap (λ (j : ℕ). lengthsFit pairs (i + 1) (length pairs / 2 - (i + 1)) j) m
+              ∙ sym (lengths-more pairs i (length pairs / 2) (length octets - at) _ refl more k) ∙ going .rest;
+        }
+
+    pub next-message : messagesLeft pairs octets i at
+        ≡ message (take (at + c - at) (drop at octets)) (byNetwork pairs i) ∷ messagesLeft pairs octets (i + 1) (at + c)
     unfolding messagesFrom
-    nothing-left h = rw (left-none i (length pairs / 2) h) refl
+    next-message =
+        let e : at + c - at ≡ messageLength pairs i = omega arith in
+        rw (left-more i (length pairs / 2) more, e, is) refl
 
-    module _ (going : Passing pairs octets i at) (more : i < length pairs / 2) where
-      pub inside : at + messageLength pairs i ≤ length octets
-      inside =
-          let k : messageLength pairs i ≤ length octets - at = lengths-one pairs i (length pairs / 2) (length octets - at) more (going .rest) in
-          omega arith
+    -- the first that is not framed
+    pub unframed-here : framed (take (at + c - at) (drop at octets)) ≡ false → i + 1 ≡ firstUnframed (i + 1) (messagesLeft pairs octets i at)
+    unframed-here q = sym (ap (firstUnframed (i + 1)) next-message ∙ rw q refl)
 
-      pub passes-on : (c : ℕ) → c ≡ messageLength pairs i → Passing pairs octets (i + 1) (at + c)
-      passes-on c p =
-          let k : messageLength pairs i ≤ length octets - at = lengths-one pairs i (length pairs / 2) (length octets - at) more (going .rest) in
-          let m : length octets - (at + c) ≡ length octets - at - messageLength pairs i = omega arith in
-          record {
-            row = omega arith;
-            place = omega arith;
-            rest = ap (λ (j : ℕ). lengthsFit pairs (i + 1) (length pairs / 2 - (i + 1)) j) m ∙ sym (lengths-more pairs i (length pairs / 2) (length octets - at) _ refl more k) ∙ going .rest;
-          }
-
-      pub next-message : (c : ℕ) → c ≡ messageLength pairs i → messagesFrom pairs octets i (length pairs / 2 - i) at
-          ≡ record { octets = take (at + c - at) (drop at octets); network = byNetwork pairs i } ∷ messagesFrom pairs octets (i + 1) (length pairs / 2 - (i + 1)) (at + c)
-      unfolding messagesFrom
-      next-message c p =
-          let e : at + c - at ≡ messageLength pairs i = omega arith in
-          rw (left-more i (length pairs / 2) more, e, p) refl
-
-      -- the first that is not framed
-      module _ (c : ℕ) (p : c ≡ messageLength pairs i) where
-        pub unframed-here : framed (take (at + c - at) (drop at octets)) ≡ false → i + 1 ≡ firstUnframed (i + 1) (messagesFrom pairs octets i (length pairs / 2 - i) at)
-        unframed-here q = sym (ap (firstUnframed (i + 1)) (next-message c p) ∙ rw q refl)
-
-        pub framed-on : framed (take (at + c - at) (drop at octets)) ≡ true
-            → firstUnframed (i + 1 + 1) (messagesFrom pairs octets (i + 1) (length pairs / 2 - (i + 1)) (at + c)) ≡ firstUnframed (i + 1) (messagesFrom pairs octets i (length pairs / 2 - i) at)
-        framed-on q = sym (ap (firstUnframed (i + 1)) (next-message c p) ∙ rw q refl)
-
-    pub all-framed : length pairs / 2 ≤ i → 0 ≡ firstUnframed (i + 1) (messagesFrom pairs octets i (length pairs / 2 - i) at)
-    all-framed h = sym (ap (firstUnframed (i + 1)) (nothing-left h))
-
-  pub unframed-start : firstUnframed (0 + 1) (messagesFrom pairs octets 0 (length pairs / 2 - 0) 0) ≡ firstUnframed 1 (messagesOf pairs octets)
-  unframed-start = ap (firstUnframed 1) from-start
+    pub framed-on : framed (take (at + c - at) (drop at octets)) ≡ true
+        → firstUnframed (i + 1 + 1) (messagesLeft pairs octets (i + 1) (at + c)) ≡ firstUnframed (i + 1) (messagesLeft pairs octets i at)
+    framed-on q = sym (ap (firstUnframed (i + 1)) next-message ∙ rw q refl)
 
 pub headed-long : (s : List ℕ) → headed s ≡ true → (3 ≤ length s) × (2 + getD s 1 0 + 1 ≤ length s)
 headed-long s e =

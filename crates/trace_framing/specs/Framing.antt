@@ -5,7 +5,7 @@ use mathlib.Core.List.{List, [], _∷_}
 use mathlib.Core.Bool.{Bool, true, false, not, _&&_, cond}
 use lib.ListN.{length, getD, take, drop}
 use lib.Dec.{eqb, leb}
-use Rattle.trace_framing.specs.declared.Verdict.{Verdict}
+use Rattle.trace_framing.specs.declared.TraceVerdict.{TraceVerdict}
 
 -- ---- one message
 
@@ -18,7 +18,10 @@ unfoldable pub elementsFit : ℕ → List ℕ → ℕ → Bool
 elementsFit zero s at = false
 elementsFit (suc turns) s at = cond (eqb at (length s)) true (leb (elementEnd s at) (length s) && elementsFit turns s (elementEnd s at))
 
--- where the type octet stands: after the reference, whose count of octets is the second octet
+abbrev pub fitFrom : List ℕ → ℕ → Bool
+fitFrom s at = elementsFit (suc (length s)) s at
+
+-- where the type octet is: after the reference, whose count of octets is the second octet
 abbrev pub typePlace : List ℕ → ℕ
 typePlace s = 2 + getD s 1 0
 
@@ -29,7 +32,7 @@ abbrev pub headed : List ℕ → Bool
 headed s = leb 3 (length s) && (eqb (getD s 0 0) 0x08 && (leb (getD s 1 0) 2 && leb (typePlace s + 1) (length s)))
 
 unfoldable pub framed : List ℕ → Bool
-framed s = headed s && elementsFit (suc (length s)) s (typePlace s + 1)
+framed s = headed s && fitFrom s (typePlace s + 1)
 
 -- ---- a trace: the messages' octets end to end, and for each a pair of length and direction
 
@@ -70,18 +73,27 @@ abbrev pub firstUnframed : ℕ → List Message → ℕ
 firstUnframed n [] = 0
 firstUnframed n (m ∷ l) = cond (framed (m .octets)) (firstUnframed (n + 1) l) n
 
-abbrev pub judgedSo : ℕ → ℕ → Verdict
+abbrev pub judgedSo : ℕ → ℕ → TraceVerdict
 judgedSo number message = record { number = number; message = message }
 
-abbrev pub framedVerdict : ℕ → Verdict
+abbrev pub framedVerdict : ℕ → TraceVerdict
 framedVerdict n = cond (eqb n 0) (judgedSo 0 0) (judgedSo 49 n)
 
 -- lengths that do not add up 48, then a message not framed 49 with the first such message
-unfoldable pub verdictOf : List ℕ → List ℕ → Verdict
+unfoldable pub verdictOf : List ℕ → List ℕ → TraceVerdict
 verdictOf pairs octets = cond (lengthsAddUp pairs (length octets)) (framedVerdict (firstUnframed 1 (messagesOf pairs octets))) (judgedSo 48 0)
+
+-- a place in a message from which elements stand to the exact end
+pub record Elements (s : List ℕ) (at : ℕ) : Type 0 where
+  pub place : at ≤ length s
+  pub fit : fitFrom s at ≡ true
 
 -- what a loop over the messages knows before message i, whose octets begin at a place
 pub record Passing (pairs octets : List ℕ) (i at : ℕ) : Type 0 where
   pub row : i ≤ length pairs / 2
   pub place : at ≤ length octets
   pub rest : lengthsFit pairs i (length pairs / 2 - i) (length octets - at) ≡ true
+
+-- and the messages that are left to it
+abbrev pub messagesLeft : List ℕ → List ℕ → ℕ → ℕ → List Message
+messagesLeft pairs octets i at = messagesFrom pairs octets i (length pairs / 2 - i) at

@@ -1,15 +1,21 @@
 // The framing of layer 3 messages, and of a trace of them.
 //
 // A trace is two slices: the octets of all messages end to end, and for each message a pair of length and direction (0 the user, any other the network).
+use coding::refusal;
 ghost use mathlib.Core.Path.{_≡_};
 ghost use mathlib.Core.Bool.{true};
-ghost use Prim.Native.Nat.{suc, _≤_, _<_, _/_};
+ghost use Prim.Native.Nat.{_≤_, _<_, _/_};
 ghost use lib.ListN.{length};
-ghost use Rattle.trace_framing.specs.Framing.{elementEnd, elementsFit, headed, framed, lengthsFit, lengthsAddUp, messagesOf, firstUnframed, verdictOf};
+ghost use Rattle.trace_framing.specs.Framing.{elementEnd, fitFrom, headed, framed, lengthsFit, lengthsAddUp, messagesOf, firstUnframed, verdictOf};
+
+// As wide as the answers have them.
+const LENGTHS: u64 = refusal::LENGTHS as u64;
+
+const FRAMING: u64 = refusal::FRAMING as u64;
 
 // number: 0, 48 or 49. message: with 49 the number of the first message that is not framed, from 1.
 #[repr(C)]
-pub struct Verdict {
+pub struct TraceVerdict {
     pub number: u64,
     pub message: u64,
 }
@@ -31,10 +37,10 @@ pub fn element_end(s: &[u8], at: usize) -> usize
     at + 2
 }
 
-// Whether elements stand from a place to the exact end.
+// Whether elements fill the octets from a place to the exact end.
 fn elements_fit(s: &[u8], start: usize) -> bool
     requires { ⌜ start ≤ length (now s) ⌝ }
-    ensures { λ r. ⌜ r ≡ elementsFit (suc (length (now (s .entry)))) (now (s .entry)) start ⌝ }
+    ensures { λ r. ⌜ r ≡ fitFrom (now (s .entry)) start ⌝ }
 {
     let end = s.len();
     let mut at = start;
@@ -126,24 +132,24 @@ fn first_unframed(pairs: &[u32], octets: &[u8]) -> usize
     0
 }
 
-pub fn judge(pairs: &[u32], octets: &[u8]) -> Verdict
+pub fn judge(pairs: &[u32], octets: &[u8]) -> TraceVerdict
     ensures { λ r. ⌜ r ≡ verdictOf (now (pairs .entry)) (now (octets .entry)) ⌝ }
 {
     if !adds_up(pairs, octets.len()) {
-        return Verdict {
-            number: 48,
+        return TraceVerdict {
+            number: LENGTHS,
             message: 0,
         };
     }
     let n = first_unframed(pairs, octets);
     if n == 0 {
-        return Verdict {
+        return TraceVerdict {
             number: 0,
             message: 0,
         };
     }
-    Verdict {
-        number: 49,
+    TraceVerdict {
+        number: FRAMING,
         message: n as u64,
     }
 }

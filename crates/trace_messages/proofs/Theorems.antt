@@ -54,27 +54,29 @@ components-in e =
     rw z (omega (arith, parts-count e (startsOf (tilesOf e)), rises-count (length e) (startsOf (tilesOf e)) (rw (← tiles-are e (eqb-true (tilesOf e .number) 0 z) .0) at t .0))))
     (λ z. rw z (omega arith))
 
-components-at : (s : List ℕ) (at under : ℕ) → at ≤ elementEnd s at → elementEnd s at ≤ length s → length (componentsAt s at under) + at ≤ elementEnd s at
-components-at s at under h k =
-    by-cases (eqb under 0 && eqb (getD s at 0) 0x1c)
-    (λ t. rw t (omega (arith, components-in (part s at (elementEnd s at)), part-length s at (elementEnd s at) k)))
-    (λ t. rw t (omega arith))
+-- what adds up over lists of components, and of which no element has more than octets: a message has no more of it either
+module _ (f : List (List ℕ) → ℕ) (none : f [] ≡ 0) (adds : (l m : List (List ℕ)) → f (l ++ m) ≡ f l + f m)
+    (few : (e : List ℕ) → f (componentsIn e) ≤ length e) where
+  at-few : (s : List ℕ) (at under : ℕ) → at ≤ elementEnd s at → elementEnd s at ≤ length s → f (componentsAt s at under) + at ≤ elementEnd s at
+  at-few s at under h k =
+      by-cases (eqb under 0 && eqb (getD s at 0) 0x1c)
+      (λ t. rw t (omega (arith, few (part s at (elementEnd s at)), part-length s at (elementEnd s at) k)))
+      (λ t. rw (t, none) (omega arith))
 
-pub components-from : (turns : ℕ) (s : List ℕ) (at under : ℕ) → at ≤ length s → elementsFit turns s at ≡ true → length (componentsFrom turns s at under) + at ≤ length s
-unfolding elementsFit componentsFrom
-components-from zero s at under h f = never f
-components-from (suc turns) s at under h f =
-    by-cases (eqb at (length s)) (λ e. rw e (omega arith))
-    (λ e. let both = rw e at f in
-    let inside = leb-true (elementEnd s at) (length s) (and-left (leb (elementEnd s at) (length s)) _ both) in
-    let rest = components-from turns s (elementEnd s at) (underAfter under (getD s at 0)) inside (and-right (leb (elementEnd s at) (length s)) _ both) in
-    rw e (omega (
-      arith,
-      end-past s at,
-      rest,
-      components-at s at under (omega (arith, end-past s at)) inside,
-      length-append (componentsAt s at under) (componentsFrom turns s (elementEnd s at) (underAfter under (getD s at 0))),
-    )))
+  from-few : (turns : ℕ) (s : List ℕ) (at under : ℕ) → at ≤ length s → elementsFit turns s at ≡ true → f (componentsFrom turns s at under) + at ≤ length s
+  unfolding elementsFit componentsFrom
+  from-few zero s at under h e = never e
+  from-few (suc turns) s at under h e =
+      by-cases (eqb at (length s)) (λ z. rw (z, none) (omega arith))
+      (λ z. let both = rw z at e in
+      let inside = leb-true (elementEnd s at) (length s) (and-left (leb (elementEnd s at) (length s)) _ both) in
+      let u = underAfter under (getD s at 0) in
+      let rest = from-few turns s (elementEnd s at) u inside (and-right (leb (elementEnd s at) (length s)) _ both) in
+      rw (z, adds) (omega (arith, rest, at-few s at under (omega (arith, end-past s at)) inside)))
+
+  pub of-few : (s : List ℕ) → framed s ≡ true → f (componentsOf s) + 3 ≤ length s
+  unfolding framed componentsOf
+  of-few s e = omega (arith, from-few (suc (length s)) s (typePlace s + 1) 0 (headed-long s (and-left (headed s) _ e) .1) (and-right (headed s) _ e))
 
 pub events-count : (l : List (List ℕ)) → length (componentEvents l) ≡ length l
 events-count [] = refl
@@ -92,53 +94,39 @@ around t network cleared g =
     (λ n. by-number t 0x07 (λ e. rw (e, and-false (not network)) (omega (arith, when-some (network && true) (phaseEvent Connect ∷ []))))
     (λ m. rw (n, m, and-false network, and-false (not network)) (omega (arith, when-some (isClearing t && not cleared) (phaseEvent Clear ∷ []), when-some (eqb t 0x5a) (phaseEvent Released ∷ [])))))
 
-pub message-count : (cleared : Bool) (m : Message) → framed (m .octets) ≡ true → length (messageEvents cleared m) ≤ length (m .octets)
-unfolding messageEvents framed componentsOf
-message-count cleared m f =
+message-count : (cleared : Bool) (m : Message) → framed (m .octets) ≡ true → length (messageEvents cleared m) ≤ length (m .octets)
+unfolding messageEvents
+message-count cleared m e =
     let s = m .octets in
-    let head = headed-long s (and-left (headed s) _ f) in
-    let fit = and-right (headed s) _ f in
-    let few = components-from (suc (length s)) s (typePlace s + 1) 0 (head .1) fit in
-    let c = componentsFrom (suc (length s)) s (typePlace s + 1) 0 in
-    let a = when (not (m .network) && eqb (typeOf s) 0x05) (setupBy c ∷ []) in
-    let b = when (isClearing (typeOf s) && not cleared) (phaseEvent Clear ∷ []) in
-    let d = when (m .network) (componentEvents c) in
-    let e = when (m .network && eqb (typeOf s) 0x07) (phaseEvent Connect ∷ []) in
-    let g = when (eqb (typeOf s) 0x5a) (phaseEvent Released ∷ []) in
-    omega (
-      arith,
-      length-append a (b ++ (d ++ (e ++ g))),
-      length-append b (d ++ (e ++ g)),
-      length-append d (e ++ g),
-      length-append e g,
-      around (typeOf s) (m .network) cleared (setupBy c),
-      when-some (m .network) (componentEvents c),
-      events-count c,
-      few,
-    )
+    let c = componentsOf s in
+    let few = of-few length refl length-append components-in s e in
+    simp length-append (omega (arith, few, around (typeOf s) (m .network) cleared (setupBy c), when-some (m .network) (componentEvents c), events-count c))
 
 abbrev pub total : List Message → ℕ
 total [] = 0
 total (m ∷ l) = length (m .octets) + total l
 
-call-count : (call : ℕ) (cleared : Bool) (m : Message) → framed (m .octets) ≡ true → length (ofCall call cleared m) ≤ length (m .octets)
-call-count call cleared m f = omega (arith, when-some (eqb (reference (m .octets)) call) (messageEvents cleared m), message-count cleared m f)
+-- what adds up over lists of events, and of which no message gives more than octets: a trace gives no more of it either
+module _ (f : List Given → ℕ) (none : f [] ≡ 0) (adds : (l m : List Given) → f (l ++ m) ≡ f l + f m)
+    (few : (cleared : Bool) (m : Message) → framed (m .octets) ≡ true → f (messageEvents cleared m) ≤ length (m .octets)) where
+  call-few : (call : ℕ) (cleared : Bool) (m : Message) → framed (m .octets) ≡ true → f (ofCall call cleared m) ≤ length (m .octets)
+  call-few call cleared m e = by-cases (eqb (reference (m .octets)) call) (λ t. rw t (few cleared m e)) (λ t. rw (t, none) (omega arith))
 
-pub from-count : (call : ℕ) (cleared : Bool) (l : List Message) → allFramed l ≡ true → length (traceFrom call cleared l) ≤ total l
-unfolding traceFrom
-from-count call cleared [] f = omega arith
-from-count call cleared (m ∷ l) f =
-    omega (
-      arith,
-      call-count call cleared m (and-left (framed (m .octets)) (allFramed l) f),
-      from-count call (clearedBy call cleared (m .octets)) l (and-right (framed (m .octets)) (allFramed l) f),
-      length-append (ofCall call cleared m) (traceFrom call (clearedBy call cleared (m .octets)) l),
-    )
+  calls-few : (call : ℕ) (cleared : Bool) (l : List Message) → allFramed l ≡ true → f (traceFrom call cleared l) ≤ total l
+  unfolding traceFrom
+  calls-few call cleared [] e = omega (arith, none)
+  calls-few call cleared (m ∷ l) e =
+      let here = call-few call cleared m (and-left (framed (m .octets)) (allFramed l) e) in
+      let rest = calls-few call (clearedBy call cleared (m .octets)) l (and-right (framed (m .octets)) (allFramed l) e) in
+      rw adds (omega (arith, here, rest))
+
+  pub trace-few : (l : List Message) → allFramed l ≡ true → f (traceEvents l) ≤ total l
+  unfolding traceEvents
+  trace-few [] e = omega (arith, none)
+  trace-few (m ∷ l) e = calls-few (reference (m .octets)) false (m ∷ l) e
 
 pub few-events : (l : List Message) → allFramed l ≡ true → length (traceEvents l) ≤ total l
-unfolding traceEvents
-few-events [] f = omega arith
-few-events (m ∷ l) f = from-count (reference (m .octets)) false (m ∷ l) f
+few-events = trace-few length refl length-append message-count
 
 -- ---- a component of a trace is never refused 1, 3 or 5
 

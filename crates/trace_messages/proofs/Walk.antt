@@ -1,15 +1,15 @@
 -- The walk over a message's elements, and over the components of one of them.
-use Rattle.prelude.proofs.Prelude.{_≡_, refl, ap, _∙_, ℕ, zero, suc, _+_, _≤_, _<_, arith, Bool, true, false, _&&_, List, [], _∷_, _++_, length, getD, leb, eqb, leb-true, ne-eqb, eq-eqb}
+use Rattle.prelude.proofs.Prelude.{_≡_, refl, sym, ap, _∙_, ℕ, zero, suc, _+_, _≤_, _<_, arith, Bool, true, false, List, [], _∷_, _++_, length, getD, leb, eqb, leb-true, ne-eqb, eq-eqb}
 use Rattle.coding.{specs.Reader.part, proofs.Basic.and-left, proofs.Basic.and-right}
 use Rattle.phases.{specs.Phases.Given, proofs.Choice.by-number, proofs.Choice.never}
 use Rattle.prelude.proofs.Ways.{by-cases}
 use Rattle.element.specs.{Element.elementOf, Cut.startsOf, Cut.partsOf}
 use Rattle.element_pass.proofs.Going.{startless}
-use Rattle.trace_framing.specs.Framing.{Message, message, elementEnd, elementsFit, typePlace, typeOf, headed, framed}
-use Rattle.trace_messages.specs.Trace.{underAfter, tilesOf, componentsIn, componentsAt, componentsFrom, componentsOf, componentEvent, componentEvents, givesBy, laidOut, messageEvents, ofCall}
+use Rattle.trace_framing.specs.Framing.{Message, message, elementEnd, elementsFit, Elements, typePlace, typeOf, headed, framed}
+use Rattle.trace_messages.specs.Trace.{underAfter, tilesOf, componentsIn, componentsAt, componentsFrom, componentsLeft, componentsAfter, componentsOf, componentEvent, componentEvents, givesBy, laidOut, messageEvents, ofCall}
 use Rattle.trace_messages.specs.Trace.{clearedBy, traceFrom, allFramed}
 use Rattle.trace_messages.specs.declared.Gives.{Gives}
-use Rattle.trace_framing.proofs.Laws.{end-past, headed-long}
+use Rattle.trace_framing.proofs.Laws.{end-past, elements-on, headed-long}
 
 pub events-append : (l m : List (List ℕ)) → componentEvents (l ++ m) ≡ componentEvents l ++ componentEvents m
 events-append [] m = refl
@@ -27,46 +27,25 @@ turns-alike (suc t) (suc u) s at under h k f =
     by-cases (eqb at (length s)) (λ e. rw e)
     (λ e. rw (e, turns-alike t u s (elementEnd s at) (underAfter under (getD s at 0)) (omega (arith, p)) (omega (arith, p)) (and-right (leb (elementEnd s at) (length s)) _ (rw e at f))))
 
-module _ (s : List ℕ) (at : ℕ) (more : at < length s) (fits : elementsFit (suc (length s)) s at ≡ true) (next : ℕ) (is : next ≡ elementEnd s at) where
-  apart : eqb at (length s) ≡ false
-  apart = ne-eqb at (length s) (λ e. omega arith)
-
-  both : (leb (elementEnd s at) (length s) && elementsFit (length s) s (elementEnd s at)) ≡ true
-  unfolding elementsFit
-  both = rw apart at fits
-
-  pub next-inside : next ≤ length s
-  next-inside = rw is (leb-true (elementEnd s at) (length s) (and-left (leb (elementEnd s at) (length s)) _ both))
-
-  rest-fits : elementsFit (length s) s next ≡ true
-  rest-fits = rw is (and-right (leb (elementEnd s at) (length s)) _ both)
-
-  pub components-more : (under : ℕ) → componentsFrom (suc (length s)) s at under ≡ componentsAt s at under ++ componentsFrom (suc (length s)) s next (underAfter under (getD s at 0))
+module _ {s : List ℕ} {at next : ℕ} (here : Elements s at) (more : at < length s) (is : next ≡ elementEnd s at) where
+  pub components-more : (under : ℕ) → componentsLeft s at under ≡ componentsAt s at under ++ componentsLeft s next (underAfter under (getD s at 0))
   unfolding componentsFrom
   components-more under =
-      let one : componentsFrom (suc (length s)) s at under ≡ componentsAt s at under ++ componentsFrom (length s) s next (underAfter under (getD s at 0)) = rw (apart, ← is) refl in
+      let apart : eqb at (length s) ≡ false = ne-eqb at (length s) (λ e. omega arith) in
+      let u = underAfter under (getD s at 0) in
+      let one : componentsLeft s at under ≡ componentsAt s at under ++ componentsFrom (length s) s next u = rw (apart, ← is) refl in
       one ∙ ap (λ (l : List (List ℕ)). componentsAt s at under ++ l)
-      (turns-alike (length s) (suc (length s)) s next (underAfter under (getD s at 0)) (omega (arith, end-past s at, is)) (omega arith) rest-fits)
+      (sym (turns-alike (suc (length s)) (length s) s next u (omega arith) (omega (arith, end-past s at, is)) (elements-on here more is .fit)))
 
-  pub events-more : (under v : ℕ) → v ≡ underAfter under (getD s at 0) → componentEvents (componentsFrom (suc (length s)) s at under)
-      ≡ componentEvents (componentsAt s at under) ++ componentEvents (componentsFrom (suc (length s)) s next v)
-  events-more under v e = ap componentEvents (components-more under) ∙ events-append (componentsAt s at under) _ ∙ rw (← e) refl
+  pub events-more : (under : ℕ) {v : ℕ} → v ≡ underAfter under (getD s at 0)
+      → componentEvents (componentsLeft s at under) ≡ componentEvents (componentsAt s at under) ++ componentEvents (componentsLeft s next v)
+  events-more under e = ap componentEvents (components-more under) ∙ events-append (componentsAt s at under) _ ∙ rw (← e) refl
 
-pub events-over : (s : List ℕ) (at under : ℕ) → at ≤ length s → length s ≤ at → componentEvents (componentsFrom (suc (length s)) s at under) ≡ []
+pub from-over : (s : List ℕ) (at under : ℕ) → at ≤ length s → length s ≤ at → componentsLeft s at under ≡ []
 unfolding componentsFrom
-events-over s at under h l = let e : at ≡ length s = omega arith in rw (eq-eqb at (length s) e) refl
+from-over s at under h l = let e : at ≡ length s = omega arith in rw (eq-eqb at (length s) e) refl
 
 -- ---- an element that is no Facility element, or is under a shift, gives none
-
-pub none-under : (s : List ℕ) (at under : ℕ) → (under ≡ 0 → ⊥) → componentEvents (componentsAt s at under) ≡ []
-none-under s at under n = rw (ne-eqb under 0 n) refl
-
-pub none-other : (s : List ℕ) (at : ℕ) (under : ℕ) → under ≡ 0 → (getD s at 0 ≡ 0x1c → ⊥) → componentEvents (componentsAt s at under) ≡ []
-none-other s at under z n = rw (z, ne-eqb (getD s at 0) 0x1c n) refl
-
-pub one-facility : (s : List ℕ) (at under next : ℕ) → under ≡ 0 → getD s at 0 ≡ 0x1c → next ≡ elementEnd s at
-    → componentEvents (componentsAt s at under) ≡ componentEvents (componentsIn (part s at next))
-one-facility s at under next z f e = rw (e, z, eq-eqb (getD s at 0) 0x1c f) refl
 
 pub at-under : (s : List ℕ) (at under : ℕ) → (under ≡ 0 → ⊥) → componentsAt s at under ≡ []
 at-under s at under n = rw (ne-eqb under 0 n) refl
@@ -76,10 +55,6 @@ at-other s at under z n = rw (z, ne-eqb (getD s at 0) 0x1c n) refl
 
 pub at-facility : (s : List ℕ) (at under next : ℕ) → under ≡ 0 → getD s at 0 ≡ 0x1c → next ≡ elementEnd s at → componentsAt s at under ≡ componentsIn (part s at next)
 at-facility s at under next z f e = rw (e, z, eq-eqb (getD s at 0) 0x1c f) refl
-
-pub from-over : (s : List ℕ) (at under : ℕ) → at ≤ length s → length s ≤ at → componentsFrom (suc (length s)) s at under ≡ []
-unfolding componentsFrom
-from-over s at under h l = let e : at ≡ length s = omega arith in rw (eq-eqb at (length s) e) refl
 
 -- ---- the components of an element
 
@@ -103,21 +78,21 @@ in-parts s e = rw e (by-cases (eqb (elementOf s .number) 0) (λ t. rw t refl) (�
 
 -- ---- a message
 
-pub message-is : (s : List ℕ) (network cleared : Bool) (t : ℕ) → t ≡ typeOf s → (g : Gives) → g ≡ givesBy t network cleared → (start : ℕ) → start ≡ typePlace s + 1
-    → laidOut g (componentsFrom (suc (length s)) s start 0) ≡ messageEvents cleared (message s network)
+pub message-is : (s : List ℕ) (network cleared : Bool) {t start : ℕ} {g : Gives} → t ≡ typeOf s → g ≡ givesBy t network cleared → start ≡ typePlace s + 1
+    → laidOut g (componentsAfter s start) ≡ messageEvents cleared (message s network)
 unfolding messageEvents componentsOf
-message-is s network cleared t a g d start e = rw (e, d, a) refl
+message-is s network cleared a d e = rw (e, d, a) refl
 
-pub message-fits : (s : List ℕ) → framed s ≡ true → (start : ℕ) → start ≡ typePlace s + 1 → (start ≤ length s) × (elementsFit (suc (length s)) s start ≡ true)
+pub message-fits : (s : List ℕ) → framed s ≡ true → {start : ℕ} → start ≡ typePlace s + 1 → Elements s start
 unfolding framed
-message-fits s f start e = (omega (arith, headed-long s (and-left (headed s) _ f) .1), rw e (and-right (headed s) _ f))
+message-fits s f e = record { place = omega (arith, headed-long s (and-left (headed s) _ f) .1); fit = rw e (and-right (headed s) _ f) }
 
 -- ---- a trace
 
-pub trace-more : (call : ℕ) (cleared : Bool) {m : Message} {l all : List Message} → all ≡ m ∷ l → (r : Bool) → r ≡ clearedBy call cleared (m .octets)
+pub trace-more : (call : ℕ) (cleared : Bool) {m : Message} {l all : List Message} → all ≡ m ∷ l → {r : Bool} → r ≡ clearedBy call cleared (m .octets)
     → traceFrom call cleared all ≡ ofCall call cleared m ++ traceFrom call r l
 unfolding traceFrom
-trace-more call cleared e r q = rw (e, q) refl
+trace-more call cleared e q = rw (e, q) refl
 
 pub framed-more : {m : Message} {l all : List Message} → all ≡ m ∷ l → allFramed all ≡ true → (framed (m .octets) ≡ true) × (allFramed l ≡ true)
 framed-more {m} {l} e f = let g = rw e at f in (and-left (framed (m .octets)) (allFramed l) g, and-right (framed (m .octets)) (allFramed l) g)

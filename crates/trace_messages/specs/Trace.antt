@@ -51,8 +51,15 @@ componentsFrom zero s at under = []
 componentsFrom (suc turns) s at under =
     cond (eqb at (length s)) [] (componentsAt s at under ++ componentsFrom turns s (elementEnd s at) (underAfter under (getD s at 0)))
 
+-- those of the elements that are left at a place, and of all elements from a place on
+abbrev pub componentsLeft : List ℕ → ℕ → ℕ → List (List ℕ)
+componentsLeft s at under = componentsFrom (suc (length s)) s at under
+
+abbrev pub componentsAfter : List ℕ → ℕ → List (List ℕ)
+componentsAfter s start = componentsLeft s start 0
+
 unfoldable pub componentsOf : List ℕ → List (List ℕ)
-componentsOf s = componentsFrom (suc (length s)) s (typePlace s + 1) 0
+componentsOf s = componentsAfter s (typePlace s + 1)
 
 -- ---- a SETUP's requests
 

@@ -1,4 +1,4 @@
-// Says which events a layer 3 message gives: its type and reference, what is under a shift, and whether an element's components count.
+// Says which events a layer 3 message gives, by its type and reference. Also says which elements follow a Shift, and which Facility elements are used.
 ghost use mathlib.Core.Path.{_≡_};
 ghost use mathlib.Core.Bool.{true, _&&_};
 ghost use lib.ListN.{getD};

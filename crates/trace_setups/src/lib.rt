@@ -1,14 +1,16 @@
 // The requests of a SETUP: the first ChargingRequest for each service among its components.
 use phases::Event;
 use requests::Services;
+use types::charging_case;
+use types::frame;
+use types::operation;
 ghost use mathlib.Core.Path.{_≡_};
-ghost use mathlib.Core.Bool.{true};
-ghost use Prim.Native.Nat.{suc, _≤_, _<_};
+ghost use Prim.Native.Nat.{_≤_, _<_};
 ghost use lib.ListN.{length};
 ghost use Rattle.types.specs.Frames.{readOf};
-ghost use Rattle.trace_framing.specs.Framing.{elementEnd, elementsFit};
-ghost use Rattle.trace_messages.specs.Trace.{componentsIn, componentsAt, componentsFrom, firstRequest, setupBy};
-ghost use Rattle.trace_setups.specs.Asked.{askedOf, askedBy};
+ghost use Rattle.trace_framing.specs.Framing.{elementEnd, Elements};
+ghost use Rattle.trace_messages.specs.Trace.{componentsIn, componentsAt, componentsAfter, firstRequest, setupBy};
+ghost use Rattle.trace_setups.specs.inner.Asked.{askedOf, askedBy};
 
 // Whether a component is an accepted ChargingRequest for a case: 0 S, 1 D, 2 E. Its identifier, with a mark.
 pub struct Asked {
@@ -24,10 +26,10 @@ fn asked_by(octets: &[u8], case: u8) -> Asked
     if a.number != 0 {
         return Asked { mark: 0, id: 0 };
     }
-    if front.frame != 1 {
+    if front.frame != frame::INVOKE {
         return Asked { mark: 0, id: 0 };
     }
-    if front.operation != 30 {
+    if front.operation != operation::CHARGING_REQUEST {
         return Asked { mark: 0, id: 0 };
     }
     if front.detail != case {
@@ -46,7 +48,7 @@ fn asked_in(s: &[u8], case: u8) -> Asked
     if !trace_messages::is_profiled(s) {
         return Asked { mark: 0, id: 0 };
     }
-    let mut place: usize = 3;
+    let mut place: usize = element::FIRST_PLACE;
     let mut found = element_pass::first(s);
     while found.after != 0 {
         let after = found.after;
@@ -76,8 +78,8 @@ fn asked_at(s: &[u8], at: usize, next: usize, under: u8, case: u8) -> Asked
 
 // Of a message's elements, from a place to the end.
 fn asked_from(s: &[u8], start: usize, case: u8) -> Asked
-    requires { ⌜ (start ≤ length (now s)) × (elementsFit (suc (length (now s))) (now s) start ≡ true) ⌝ }
-    ensures { λ r. ⌜ r ≡ askedOf (firstRequest case (componentsFrom (suc (length (now (s .entry)))) (now (s .entry)) start 0)) ⌝ }
+    requires { ⌜ Elements (now s) start ⌝ }
+    ensures { λ r. ⌜ r ≡ askedOf (firstRequest case (componentsAfter (now (s .entry)) start)) ⌝ }
 {
     let end = s.len();
     let mut under: u8 = 0;
@@ -96,19 +98,19 @@ fn asked_from(s: &[u8], start: usize, case: u8) -> Asked
 }
 
 pub fn setup_of(s: &[u8], start: usize) -> Event
-    requires { ⌜ (start ≤ length (now s)) × (elementsFit (suc (length (now s))) (now s) start ≡ true) ⌝ }
-    ensures { λ r. ⌜ r ≡ setupBy (componentsFrom (suc (length (now (s .entry)))) (now (s .entry)) start 0) .event ⌝ }
+    requires { ⌜ Elements (now s) start ⌝ }
+    ensures { λ r. ⌜ r ≡ setupBy (componentsAfter (now (s .entry)) start) .event ⌝ }
 {
-    let s0 = asked_from(s, start, 0);
-    let d0 = asked_from(s, start, 1);
-    let e0 = asked_from(s, start, 2);
+    let s0 = asked_from(s, start, charging_case::S);
+    let d0 = asked_from(s, start, charging_case::D);
+    let e0 = asked_from(s, start, charging_case::E);
     let asked = Services {
         s: s0.mark,
         d: d0.mark,
         e: e0.mark,
     };
     Event {
-        kind: 1,
+        kind: phases::SETUP,
         asked,
         s: s0.id,
         d: d0.id,

@@ -22,9 +22,9 @@ frontOut t last =
 apart : (x y : ℕ) → x < 256 → ((x + 256 * y) % 256 ≡ x) × ((x + 256 * y) / 256 ≡ y)
 apart x y h = (omega arith, omega arith)
 
-front-back : (lent : List ℕ) (c : Charge) (s : List ℕ) → length s ≡ 48 → Octets s → frontOut (trunkIn s lent c) (drop 44 s) ≡ s
+front-back : (extension : List ℕ) (c : Charge) (s : List ℕ) → length s ≡ 48 → Octets s → frontOut (trunkIn s extension c) (drop 44 s) ≡ s
 unfolding trunkIn bodyIn part
-front-back lent c = by-octets 48 (λ s. Octets s → frontOut (trunkIn s lent c) (drop 44 s) ≡ s) (λ f o.
+front-back extension c = by-octets 48 (λ s. Octets s → frontOut (trunkIn s extension c) (drop 44 s) ≡ s) (λ f o.
     let id = apart (f 2) (f 3) (o 2) in
     let error = apart (f 4) (f 5) (o 4) in
     let user = apart (f 16) (f 17) (o 16) in
@@ -48,20 +48,20 @@ zeros (suc n) = octets-cons 0 (replicate n 0) (omega arith) (zeros n)
 empty : Filled 8 (replicate 8 0)
 empty = record { count = refl; octets = zeros 8 }
 
-pub one-trunk : (r r′ : Refusal) {front front′ lent lent′ figure figure′ numbers numbers′ rows rows′ : List ℕ}
-    → Filled 48 front → Filled 48 front′ → Spare front → Spare front′ → Filled 244 lent → Filled 244 lent′ → Filled 48 figure → Filled 48 figure′
-    → wholeTrunk r front lent figure numbers rows ≡ wholeTrunk r′ front′ lent′ figure′ numbers′ rows′
-    → (r ≡ r′) × (front ≡ front′) × (lent ≡ lent′) × (figure ≡ figure′) × (numbers ≡ numbers′) × (rows ≡ rows′)
+pub one-trunk : (r r′ : Refusal) {front front′ extension extension′ figure figure′ numbers numbers′ rows rows′ : List ℕ}
+    → Filled 48 front → Filled 48 front′ → Spare front → Spare front′ → Filled 244 extension → Filled 244 extension′ → Filled 48 figure → Filled 48 figure′
+    → wholeTrunk r front extension figure numbers rows ≡ wholeTrunk r′ front′ extension′ figure′ numbers′ rows′
+    → (r ≡ r′) × (front ≡ front′) × (extension ≡ extension′) × (figure ≡ figure′) × (numbers ≡ numbers′) × (rows ≡ rows′)
 unfolding trunkIn bodyIn
-one-trunk r r′ {front} {front′} {lent} {lent′} {figure} {figure′} {numbers} {numbers′} {rows} {rows′} a a′ z z′ b b′ c c′ e =
+one-trunk r r′ {front} {front′} {extension} {extension′} {figure} {figure′} {numbers} {numbers′} {rows} {rows′} a a′ z z′ b b′ c c′ e =
     let v = ap (λ (x : TrunkAnswer). x .value) e in
     let o = one-answer r r′ empty empty c c′
     (ap (λ (x : TrunkAnswer). record { number = x .number; offset = x .offset; value = record { front = frontIn (replicate 8 0); charge = x .value .body .charge } }) e) in (
       o .0,
-      sym (front-back lent (storedCharge figure numbers rows) front (a .count) (a .octets)) ∙ ap (λ (x : Trunk). frontOut x (drop 44 front)) v
-          ∙ ap (λ (last : List ℕ). frontOut (trunkIn front′ lent′ (storedCharge figure′ numbers′ rows′)) last) (z ∙ sym z′)
-          ∙ front-back lent′ (storedCharge figure′ numbers′ rows′) front′ (a′ .count) (a′ .octets),
-      sym (extension-back lent (b .count)) ∙ ap (λ (x : Trunk). extensionOut (x .body .extension)) v ∙ extension-back lent′ (b′ .count),
+      sym (front-back extension (storedCharge figure numbers rows) front (a .count) (a .octets)) ∙ ap (λ (x : Trunk). frontOut x (drop 44 front)) v
+          ∙ ap (λ (last : List ℕ). frontOut (trunkIn front′ extension′ (storedCharge figure′ numbers′ rows′)) last) (z ∙ sym z′)
+          ∙ front-back extension′ (storedCharge figure′ numbers′ rows′) front′ (a′ .count) (a′ .octets),
+      sym (extension-back extension (b .count)) ∙ ap (λ (x : Trunk). extensionOut (x .body .extension)) v ∙ extension-back extension′ (b′ .count),
       o .2,
       o .3,
       o .4,

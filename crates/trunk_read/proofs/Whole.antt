@@ -1,10 +1,10 @@
 -- A component's answer from how it is shown.
 use Rattle.prelude.proofs.Prelude.{ℕ, _%_, _≤_, _<_, arith, leb, _≡_, ap, _∙_, List, length, lt-ltb, le-ltb}
 use Rattle.prelude.proofs.Ways.{by-cases}
-use Rattle.coding.{specs.Shown.shown, proofs.Reading.got-of, proofs.Reading.halt-of}
+use Rattle.coding.{specs.inner.Shown.shown, proofs.Reading.got-of, proofs.Reading.halt-of}
 use Rattle.types.specs.Frames.{numberOf, offsetOf}
 use Rattle.types.proofs.Faults.{Told}
-use Rattle.read_heads.{specs.Heads.faultBy, proofs.Codes.told}
+use Rattle.read_heads.{specs.inner.Heads.faultBy, proofs.Codes.told}
 use Rattle.trunk_types.specs.{declared.Trunk.Trunk, Components.noTrunk, Components.trunkAccepted, Components.trunkRefused, Components.trunkComponent, Components.readWholeTrunk, Components.readTrunk}
 use Rattle.trunk_types.proofs.Faults.{whole-told}
 use Rattle.coding.{specs.Reader.Ans, specs.Reader.Fault, specs.Reader.Ans.got, specs.Reader.Ans.halt}

@@ -1,4 +1,4 @@
--- An answer whose component lies in five parts that are lent.
+-- An answer whose component lies in the caller's five parts.
 use Prim.Native.Nat.{ℕ}
 use mathlib.Core.List.{List}
 use Rattle.types.specs.Stored.{storedCharge}

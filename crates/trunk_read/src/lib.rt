@@ -1,17 +1,21 @@
 // Components of a trunk: read whole.
 //
-// What is read is stored in the parts that are lent: a front of 48 octets, an extension of 244, a figure of 48 and a list's two arrays.
+// What is read is stored in the caller's parts: a front of 48 octets, an extension of 244, a figure of 48 and a list's two arrays.
+use coding::refusal;
+use types::frame;
 ghost use mathlib.Core.Path.{_≡_};
 ghost use Prim.Native.Nat.{_≤_};
 ghost use lib.ListN.{length};
-ghost use Rattle.coding.specs.Shown.{shown};
+ghost use Rattle.coding.specs.inner.Shown.{shown};
 ghost use Rattle.types.specs.Stored.{storedCharge};
 ghost use Rattle.trunk_types.specs.Components.{noTrunk, trunkInvoke, trunkResult, trunkFrame, trunkComponent, readTrunk};
 ghost use Rattle.trunk_types.specs.Stored.{Spare};
-ghost use Rattle.trunk_read_bodies.specs.Bodied.{Bare};
-ghost use Rattle.trunk_read_frames.specs.Framed.{framed};
+ghost use Rattle.trunk_read_bodies.specs.inner.Bodied.{Bare};
+ghost use Rattle.trunk_read_frames.specs.inner.Framed.{framed};
 ghost use Rattle.trunk_read.specs.Whole.{wholeTrunk};
-ghost use Rattle.read_lengths.specs.Bounds.{Bounded};
+ghost use Rattle.read_lengths.specs.inner.Bounds.{Bounded};
+
+const TOO_LONG: u32 = refusal::TOO_LONG as u32;
 
 // ---- frames
 
@@ -21,14 +25,14 @@ fn invoke_at(
     at: usize,
     end: usize,
     front: &mut [u8; 48],
-    lent: &mut [u8; 244],
+    extension: &mut [u8; 244],
     figure: &mut [u8; 48],
     numbers: &mut [u32; 32],
     rows: &mut [u8; 192],
 ) -> read_elements::Empty
     requires { ⌜ Bounded (now s) end ⌝ }
-    requires { ⌜ Bare (now front) (now lent) (now figure) (now numbers) (now rows) ⌝ }
-    ensures { λ r. ⌜ framed r (now (front .exit)) (now (lent .exit)) (storedCharge (now (figure .exit)) (now (numbers .exit)) (now (rows .exit))) ≡ shown noTrunk (trunkInvoke .read (now (s .entry)) at end) ⌝ }
+    requires { ⌜ Bare (now front) (now extension) (now figure) (now numbers) (now rows) ⌝ }
+    ensures { λ r. ⌜ framed r (now (front .exit)) (now (extension .exit)) (storedCharge (now (figure .exit)) (now (numbers .exit)) (now (rows .exit))) ≡ shown noTrunk (trunkInvoke .read (now (s .entry)) at end) ⌝ }
     ensures spare { λ _. ⌜ Spare (now (front .exit)) ⌝ }
 {
     let i = read_elements::identifier_at(s, at, end, 0x02);
@@ -46,7 +50,7 @@ fn invoke_at(
         end,
         operation,
         front,
-        lent,
+        extension,
         figure,
         numbers,
         rows,
@@ -55,7 +59,7 @@ fn invoke_at(
         return read_figures::halted(read_heads::inner(b.fault), b.place);
     }
     let id = i.value as u16;
-    trunk_read_frames::keep_lead(front, 1, 0, id, 0, operation, 0);
+    trunk_read_frames::keep_lead(front, frame::INVOKE, 0, id, 0, operation, 0);
     read_figures::reached(b.next)
 }
 
@@ -65,14 +69,14 @@ fn answer_at(
     at: usize,
     end: usize,
     front: &mut [u8; 48],
-    lent: &mut [u8; 244],
+    extension: &mut [u8; 244],
     figure: &mut [u8; 48],
     numbers: &mut [u32; 32],
     rows: &mut [u8; 192],
 ) -> read_elements::Empty
     requires { ⌜ Bounded (now s) end ⌝ }
-    requires { ⌜ Bare (now front) (now lent) (now figure) (now numbers) (now rows) ⌝ }
-    ensures { λ r. ⌜ framed r (now (front .exit)) (now (lent .exit)) (storedCharge (now (figure .exit)) (now (numbers .exit)) (now (rows .exit))) ≡ shown noTrunk (trunkResult .read (now (s .entry)) at end) ⌝ }
+    requires { ⌜ Bare (now front) (now extension) (now figure) (now numbers) (now rows) ⌝ }
+    ensures { λ r. ⌜ framed r (now (front .exit)) (now (extension .exit)) (storedCharge (now (figure .exit)) (now (numbers .exit)) (now (rows .exit))) ≡ shown noTrunk (trunkResult .read (now (s .entry)) at end) ⌝ }
     ensures spare { λ _. ⌜ Spare (now (front .exit)) ⌝ }
 {
     let i = read_elements::identifier_at(s, at, end, 0x02);
@@ -85,7 +89,7 @@ fn answer_at(
     }
     let start = e.value.start;
     let stop = e.value.stop;
-    let o = trunk_read_heads::value_at(s, start, stop, 2);
+    let o = trunk_read_heads::value_at(s, start, stop, frame::RESULT);
     if o.fault != 0 {
         return read_figures::halted(o.fault, o.place);
     }
@@ -96,7 +100,7 @@ fn answer_at(
         stop,
         operation,
         front,
-        lent,
+        extension,
         figure,
         numbers,
         rows,
@@ -105,10 +109,10 @@ fn answer_at(
         return read_figures::halted(read_heads::inner(b.fault), b.place);
     }
     if b.next != stop {
-        return read_figures::halted(41, b.next);
+        return read_figures::halted(refusal::UNEXPECTED, b.next);
     }
     let id = i.value as u16;
-    trunk_read_frames::keep_lead(front, 2, 0, id, 0, operation, 0);
+    trunk_read_frames::keep_lead(front, frame::RESULT, 0, id, 0, operation, 0);
     read_figures::reached(e.next)
 }
 
@@ -119,24 +123,24 @@ fn frame_at(
     end: usize,
     tag: u8,
     front: &mut [u8; 48],
-    lent: &mut [u8; 244],
+    extension: &mut [u8; 244],
     figure: &mut [u8; 48],
     numbers: &mut [u32; 32],
     rows: &mut [u8; 192],
 ) -> read_elements::Empty
     requires { ⌜ Bounded (now s) end ⌝ }
-    requires { ⌜ Bare (now front) (now lent) (now figure) (now numbers) (now rows) ⌝ }
-    ensures { λ r. ⌜ framed r (now (front .exit)) (now (lent .exit)) (storedCharge (now (figure .exit)) (now (numbers .exit)) (now (rows .exit))) ≡ shown noTrunk ((trunkFrame tag) .read (now (s .entry)) at end) ⌝ }
+    requires { ⌜ Bare (now front) (now extension) (now figure) (now numbers) (now rows) ⌝ }
+    ensures { λ r. ⌜ framed r (now (front .exit)) (now (extension .exit)) (storedCharge (now (figure .exit)) (now (numbers .exit)) (now (rows .exit))) ≡ shown noTrunk ((trunkFrame tag) .read (now (s .entry)) at end) ⌝ }
     ensures spare { λ _. ⌜ Spare (now (front .exit)) ⌝ }
 {
     if tag == 0xa1 {
-        return invoke_at(s, at, end, front, lent, figure, numbers, rows);
+        return invoke_at(s, at, end, front, extension, figure, numbers, rows);
     }
     if tag == 0xa2 {
-        return answer_at(s, at, end, front, lent, figure, numbers, rows);
+        return answer_at(s, at, end, front, extension, figure, numbers, rows);
     }
     if tag == 0xa3 {
-        return trunk_read_frames::error_at(s, at, end, front, lent);
+        return trunk_read_frames::error_at(s, at, end, front, extension);
     }
     if tag == 0xa4 {
         return trunk_read_frames::reject_at(s, at, end, front);
@@ -150,14 +154,14 @@ fn frame_at(
 fn component_at(
     s: &[u8],
     front: &mut [u8; 48],
-    lent: &mut [u8; 244],
+    extension: &mut [u8; 244],
     figure: &mut [u8; 48],
     numbers: &mut [u32; 32],
     rows: &mut [u8; 192],
 ) -> read_elements::Empty
     requires { ⌜ length (now s) ≤ 257 ⌝ }
-    requires { ⌜ Bare (now front) (now lent) (now figure) (now numbers) (now rows) ⌝ }
-    ensures { λ r. ⌜ framed r (now (front .exit)) (now (lent .exit)) (storedCharge (now (figure .exit)) (now (numbers .exit)) (now (rows .exit))) ≡ shown noTrunk (trunkComponent .read (now (s .entry)) 0 (length (now (s .entry)))) ⌝ }
+    requires { ⌜ Bare (now front) (now extension) (now figure) (now numbers) (now rows) ⌝ }
+    ensures { λ r. ⌜ framed r (now (front .exit)) (now (extension .exit)) (storedCharge (now (figure .exit)) (now (numbers .exit)) (now (rows .exit))) ≡ shown noTrunk (trunkComponent .read (now (s .entry)) 0 (length (now (s .entry)))) ⌝ }
     ensures spare { λ _. ⌜ Spare (now (front .exit)) ⌝ }
 {
     let e = trunk_read_heads::enter(s);
@@ -171,7 +175,7 @@ fn component_at(
         e.value.stop,
         tag,
         front,
-        lent,
+        extension,
         figure,
         numbers,
         rows,
@@ -180,7 +184,7 @@ fn component_at(
         return read_figures::halted(f.fault, f.place);
     }
     if f.next != e.value.stop {
-        return read_figures::halted(41, f.next);
+        return read_figures::halted(refusal::UNEXPECTED, f.next);
     }
     read_figures::reached(e.next)
 }
@@ -189,26 +193,26 @@ fn component_at(
 pub fn read_into(
     octets: &[u8],
     front: &mut [u8; 48],
-    lent: &mut [u8; 244],
+    extension: &mut [u8; 244],
     figure: &mut [u8; 48],
     numbers: &mut [u32; 32],
     rows: &mut [u8; 192],
 ) -> read::Refusal
-    ensures { λ r. ⌜ wholeTrunk r (now (front .exit)) (now (lent .exit)) (now (figure .exit)) (now (numbers .exit)) (now (rows .exit)) ≡ readTrunk (now (octets .entry)) ⌝ }
+    ensures { λ r. ⌜ wholeTrunk r (now (front .exit)) (now (extension .exit)) (now (figure .exit)) (now (numbers .exit)) (now (rows .exit)) ≡ readTrunk (now (octets .entry)) ⌝ }
     ensures spare { λ _. ⌜ Spare (now (front .exit)) ⌝ }
 {
     *front = [0; 48];
-    *lent = [0; 244];
+    *extension = [0; 244];
     *figure = [0; 48];
     *numbers = [0; 32];
     *rows = [0; 192];
     if 254 < octets.len() {
         return read::Refusal {
-            number: 3,
+            number: TOO_LONG,
             offset: 0,
         };
     }
-    let r = component_at(octets, front, lent, figure, numbers, rows);
+    let r = component_at(octets, front, extension, figure, numbers, rows);
     if r.fault == 0 {
         return read::Refusal {
             number: 0,
@@ -216,7 +220,7 @@ pub fn read_into(
         };
     }
     *front = [0; 48];
-    *lent = [0; 244];
+    *extension = [0; 244];
     *figure = [0; 48];
     *numbers = [0; 32];
     *rows = [0; 192];

@@ -1,6 +1,6 @@
 -- The numbers of an object identifier, octet by octet.
 use Rattle.prelude.proofs.Prelude.{ℕ, _+_, _≤_, _<_, _≡_, sym, _∙_, List, Bool, true, false, arith, length, getD, ltb, eqb, ne-eqb, _&&_}
-use Rattle.coding.{specs.Reader.Ruling, specs.Reader.Fault, specs.Reader.part, proofs.Parts.part-cons, proofs.Parts.part-none, proofs.Parts.part-length, specs.Shown.verdict}
+use Rattle.coding.{specs.Reader.Ruling, specs.Reader.Fault, specs.Reader.part, proofs.Parts.part-cons, proofs.Parts.part-none, proofs.Parts.part-length, specs.inner.Shown.verdict}
 use Rattle.trunk_types.specs.Extensions.{arcs, objectIdentifier}
 
 module _ (s : List ℕ) (fresh : Bool) (i stop : ℕ) (h : i < stop) (l : stop ≤ length s) where

@@ -4,7 +4,7 @@ use Rattle.coding.{specs.Reader.got, specs.Reader.after, specs.Contents.every, 
 use Rattle.coding.specs.Normal.{isOctet, asJudged, octetString, Any, ofOctets, ofElements, Several, none, more, writeAny, writeSeveral, MeansAny, MeansSeveral, anyElement, severalAt}
 use Rattle.coding.{proofs.Laws.Octets, proofs.Laws.RunLaws, proofs.Basic.picked, proofs.Basic.unpicked, proofs.Basic.followed, proofs.Basic.and-left, proofs.Basic.and-both, proofs.Basic.or-no}
 use Rattle.coding.{proofs.Value.valued, proofs.Value.starts, proofs.Normal.anyElementLaws, proofs.Normal.several-unfolds, proofs.Normal.any-unfolds}
-use Rattle.any_elements.specs.Forms.{sized, isRead, formsOf}
+use Rattle.any_elements.specs.inner.Forms.{sized, isRead, formsOf}
 use Rattle.trunk_types.specs.Extensions.{objectIdentifier, oneExtension, manyExtensions}
 use Rattle.trunk_types.proofs.ExtensionLaws.{oneLaws, listLaws}
 

@@ -1,8 +1,8 @@
 -- Entries of a list of extensions: the loop over them.
 use Rattle.prelude.proofs.Prelude.{ℕ, _+_, _≤_, _<_, arith, _≡_, refl, _∙_, List, [], _∷_, _++_, length, getD, length-append, le-leb, lt-leb, le-ltb, lt-ltb, eq-eqb, ne-eqb}
-use Rattle.coding.{specs.Reader.Ans.got, specs.Reader.after, specs.Reader.entries, specs.Reader.listOf, specs.Shown.shown, proofs.Lists.Going, proofs.Lists.going-start, proofs.Lists.going-more}
+use Rattle.coding.{specs.Reader.Ans.got, specs.Reader.after, specs.Reader.entries, specs.Reader.listOf, specs.inner.Shown.shown, proofs.Lists.Going, proofs.Lists.going-start, proofs.Lists.going-more}
 use Rattle.coding.proofs.Lists.{list-done, list-fault, list-limit, list-strange}
-use Rattle.trunk_read_extensions.specs.Judges.{entryTold, listTold}
+use Rattle.trunk_read_extensions.specs.inner.Judges.{entryTold, listTold}
 use Rattle.trunk_read_extensions.proofs.Told.{list-is}
 
 -- as many entries as counted are read, and the next would be at i

@@ -1,18 +1,16 @@
 -- An extension read in the code's steps, and its shortest form in its place.
-use Rattle.prelude.proofs.Prelude.{ℕ, zero, suc, _+_, _-_, _≤_, _<_, _≡_, refl, sym, ap, _∙_, List, [], _∷_, _++_, Bool, true, false, cond, arith, length, length-replicate, take, drop, getD, set, replicate, sets, sets-eq, leb, eqb, lt-leb, le-leb, eq-eqb, ne-eqb}
-use Rattle.prelude.proofs.Ways.{by-cases}
-use Rattle.coding.{specs.Reader.Ans, specs.Reader.Fault, specs.Reader.got, specs.Reader.halt, specs.Reader.after, specs.Reader.opened, specs.Reader.closed, specs.Reader.constructed, specs.Codec.Run, specs.Codec.cons}
-use Rattle.coding.{specs.Codec.canonical, specs.Codec.over, specs.Codec.pad, specs.Shown.shown, specs.Normal.limited, specs.Normal.normalForm, specs.Normal.severalAt, specs.Written.Wrote, specs.Written.Room, proofs.Laws.Octets, proofs.Laws.RunLaws}
-use Rattle.coding.{proofs.Reading.after-assoc}
-use Rattle.any_elements.specs.Forms.{sized, isRead, formsOf, told}
+use Rattle.prelude.proofs.Prelude.{ℕ, zero, suc, _+_, _-_, _≤_, _<_, _≡_, sym, ap, _∙_, List, _∷_, _++_, true, arith, length, length-replicate, drop, set, replicate, sets, sets-eq, leb, lt-leb, le-leb, eq-eqb, ne-eqb}
+use Rattle.coding.{specs.Reader.Ans, specs.Reader.got, specs.Reader.after, specs.Reader.opened, specs.Reader.closed, specs.Reader.constructed, specs.Codec.Run, specs.Codec.cons}
+use Rattle.coding.{specs.Codec.canonical, specs.Codec.over, specs.Codec.pad, specs.inner.Shown.shown, specs.Normal.limited, specs.Normal.normalForm, specs.Normal.severalAt, specs.inner.Written.Wrote, specs.inner.Written.Room, proofs.Laws.Octets}
+use Rattle.coding.{specs.declared.Extent.Extent, proofs.Reading.after-assoc, proofs.Reading.step}
+use Rattle.any_elements.specs.inner.Forms.{sized, isRead, formsOf, told}
 use Rattle.trunk_types.specs.declared.Extension.{Extension}
 use Rattle.trunk_types.specs.Stored.{extensionIn}
-use Rattle.trunk_types.specs.Extensions.{extensionBy, extensionAt, inOne, inList, oneExtension, manyExtensions}
-use Rattle.trunk_types.proofs.ExtensionLaws.{oneLaws, listLaws}
-use Rattle.trunk_read_extensions.specs.Judges.{oneTold, listTold, judgeOf, insideOf}
-use Rattle.trunk_read_extensions.proofs.{Bridge.Trees, Bridge.oneTrees, Bridge.listTrees, Bridge.counted, Bridge.put, Forms.told-got, Forms.told-halt}
+use Rattle.trunk_types.specs.Extensions.{noExtension, extensionBy, extensionAt}
+use Rattle.trunk_read_extensions.specs.inner.Judges.{judgeOf, insideOf}
+use Rattle.trunk_read_extensions.proofs.{Bridge.counted, Bridge.put, Forms.told-got, Forms.told-halt, Forms.held}
 
-abbrev pub ending : Run (List ℕ) → List ℕ → ℕ → ℕ → ℕ → ℕ → Ans Extension
+abbrev ending : Run (List ℕ) → List ℕ → ℕ → ℕ → ℕ → ℕ → Ans Extension
 ending I s start stop next kind = after (after (I .read s start stop) (λ xs last. closed xs last stop next)) (λ xs n. got (extensionBy kind xs) n)
 
 pub extension-read : (tag kind : ℕ) (I : Run (List ℕ)) (s : List ℕ) (at end : ℕ)
@@ -20,69 +18,59 @@ pub extension-read : (tag kind : ℕ) (I : Run (List ℕ)) (s : List ℕ) (at en
 unfolding extensionAt canonical over cons constructed
 extension-read tag kind I s at end = after-assoc (opened tag s at end) _ _
 
-module _ {A : Type 0} (f : Run A) (F : RunLaws f) (T : Trees f) (s : List ℕ) (os : Octets s) (start stop next kind : ℕ) (h : start ≤ stop) (l : stop ≤ length s) (y : Extension)
-    {k p n : ℕ} (q : (k, p, tt, n) ≡ shown tt (told (f .read s start stop))) where
-  fault : (k ≡ 0 → ⊥) → (k, p, y, 0) ≡ shown y (ending (normalForm 242 f) s start stop next kind)
+-- how an extension ends whose contents end at n and are v octets long in their shortest form
+pub record Ends (answer : ℕ × ℕ × Extension × ℕ) (s : List ℕ) (x : Extent) (kind next n v : ℕ) : Type 0 where
+  pub long : 242 < v → (44, x .start, noExtension, 0) ≡ answer
+  pub over : v ≤ 242 → (n ≡ x .stop → ⊥) → (41, n, noExtension, 0) ≡ answer
+  pub room : n ≡ x .stop → (isRead (severalAt s (x .start) (x .stop)) ≡ true) × (length (formsOf (severalAt s (x .start) (x .stop))) ≡ v)
+  pub done : v ≤ 242 → n ≡ x .stop → (w : Extension) → w ≡ extensionBy kind (formsOf (severalAt s (x .start) (x .stop))) → (0, 0, w, next) ≡ answer
+
+-- an extension that is opened, and what is in it judged
+module _ (tag kind : ℕ) (s : List ℕ) (at end : ℕ) {k₀ p₀ next : ℕ} {x : Extent}
+    (o : (k₀, p₀, x, next) ≡ shown (record { start = 0; stop = 0 }) (opened tag s at end)) (z₀ : k₀ ≡ 0)
+    (os : Octets s) (h : x .start ≤ x .stop) (l : x .stop ≤ length s) {k p n : ℕ} (q : (k, p, tt, n) ≡ shown tt (judgeOf kind s (x .start) (x .stop))) where
+  abbrev f : Run (held kind .A)
+  f = held kind .run
+
+  abbrev answer : ℕ × ℕ × Extension × ℕ
+  answer = shown noExtension ((extensionAt tag kind (insideOf kind)) .read s at end)
+
+  read : (k, p, tt, n) ≡ shown tt (told (f .read s (x .start) (x .stop)))
+  read = rw (held kind .judged) at q
+
+  goes-on : {t : ℕ × ℕ × Extension × ℕ} → t ≡ shown noExtension (ending (normalForm 242 f) s (x .start) (x .stop) next kind) → t ≡ answer
+  goes-on r = rw extension-read (step _ _ _ _ o z₀ (rw (held kind .kept) r))
+
+  pub in-fault : (k ≡ 0 → ⊥) → (k, p, noExtension, 0) ≡ answer
   unfolding normalForm told after shown
-  fault k0 = let r = told-halt (f .read s start stop) q k0 in rw (r .1) (ap (λ (t : ℕ × ℕ × Unit {0} × ℕ). (t .0, p, y, 0)) (rw (r .1) at q))
-
-  inside : k ≡ 0 → n ≤ stop
-  inside k0 = let r = told-got (f .read s start stop) q k0 in F .sound s start stop n (r .0) os h l (r .1) .0
-
-  module _ (k0 : k ≡ 0) {v : ℕ} (z : v ≡ sized (severalAt s start n)) where
-    size : v ≡ length (f .write (told-got (f .read s start stop) q k0 .0))
-    size = let r = told-got (f .read s start stop) q k0 in z ∙ counted f F T s os start stop n (r .0) h l (r .1)
-
-    long : 242 < v → (44, start, y, 0) ≡ shown y (ending (normalForm 242 f) s start stop next kind)
-    unfolding normalForm limited after shown
-    long b = let r = told-got (f .read s start stop) q k0 in rw (r .1, lt-leb (length (f .write (r .0))) 242 (omega (arith, size)))
-
-    over-left : v ≤ 242 → (n ≡ stop → ⊥) → (41, n, y, 0) ≡ shown y (ending (normalForm 242 f) s start stop next kind)
-    unfolding normalForm limited closed after shown
-    over-left b e = let r = told-got (f .read s start stop) q k0 in rw (r .1, le-leb (length (f .write (r .0))) 242 (omega (arith, size)), ne-eqb n stop e)
-
-    room : n ≡ stop → (isRead (severalAt s start stop) ≡ true) × (length (formsOf (severalAt s start stop)) ≡ v)
-    room e =
-        let r = told-got (f .read s start stop) q k0 in
-        let w = put f F T s os start stop n (r .0) h l (r .1) in
-        (ap (λ (i : ℕ). isRead (severalAt s start i)) (sym e) ∙ w .0, ap (λ (i : ℕ). length (formsOf (severalAt s start i))) (sym e) ∙ ap length (w .1) ∙ sym size)
-
-    done : v ≤ 242 → n ≡ stop → (x : Extension) → x ≡ extensionBy kind (formsOf (severalAt s start stop)) → (0, 0, x, next) ≡ shown y (ending (normalForm 242 f) s start stop next kind)
-    unfolding normalForm limited closed after shown
-    done b e x c =
-        let r = told-got (f .read s start stop) q k0 in
-        let w = put f F T s os start stop n (r .0) h l (r .1) in
-        let d : x ≡ extensionBy kind (f .write (r .0)) = c ∙ ap (extensionBy kind) (ap (λ (i : ℕ). formsOf (severalAt s start i)) (sym e) ∙ w .1) in
-        rw (r .1, le-leb (length (f .write (r .0))) 242 (omega (arith, size)), eq-eqb n stop e, d)
-
--- by the kind
-module _ (s : List ℕ) (os : Octets s) (start stop next kind : ℕ) (h : start ≤ stop) (l : stop ≤ length s) (y : Extension)
-    {k p n : ℕ} (q : (k, p, tt, n) ≡ shown tt (judgeOf kind s start stop)) where
-  pub in-fault : (k ≡ 0 → ⊥) → (k, p, y, 0) ≡ shown y (ending (insideOf kind) s start stop next kind)
-  unfolding inOne inList oneTold listTold
   in-fault k0 =
-      by-cases (eqb kind 2) (λ b. rw b (fault manyExtensions listLaws listTrees s os start stop next kind h l y (rw b at q) k0)) (λ b. rw b (fault oneExtension oneLaws oneTrees s os start stop next kind h l y (rw b at q) k0))
+      let r = told-halt (f .read s (x .start) (x .stop)) read k0 in
+      goes-on (rw (r .1) (ap (λ (t : ℕ × ℕ × Unit {0} × ℕ). (t .0, p, noExtension, 0)) (rw (r .1) at read)))
 
-  pub in-next : k ≡ 0 → n ≤ stop
-  unfolding oneTold listTold
-  in-next k0 = by-cases (eqb kind 2) (λ t. inside manyExtensions listLaws listTrees s os start stop next kind h l y (rw t at q) k0) (λ t. inside oneExtension oneLaws oneTrees s os start stop next kind h l y (rw t at q) k0)
+  module _ (k0 : k ≡ 0) where
+    found : (v : held kind .A) × (f .read s (x .start) (x .stop) ≡ got v n)
+    found = told-got (f .read s (x .start) (x .stop)) read k0
 
-  module _ (k0 : k ≡ 0) {v : ℕ} (z : v ≡ sized (severalAt s start n)) where
-    pub in-long : 242 < v → (44, start, y, 0) ≡ shown y (ending (insideOf kind) s start stop next kind)
-    unfolding inOne inList oneTold listTold
-    in-long b = by-cases (eqb kind 2) (λ t. rw t (long manyExtensions listLaws listTrees s os start stop next kind h l y (rw t at q) k0 z b)) (λ t. rw t (long oneExtension oneLaws oneTrees s os start stop next kind h l y (rw t at q) k0 z b))
+    pub in-next : n ≤ x .stop
+    in-next = held kind .laws .sound s (x .start) (x .stop) n (found .0) os h l (found .1) .0
 
-    pub in-over : v ≤ 242 → (n ≡ stop → ⊥) → (41, n, y, 0) ≡ shown y (ending (insideOf kind) s start stop next kind)
-    unfolding inOne inList oneTold listTold
-    in-over b e = by-cases (eqb kind 2) (λ t. rw t (over-left manyExtensions listLaws listTrees s os start stop next kind h l y (rw t at q) k0 z b e)) (λ t. rw t (over-left oneExtension oneLaws oneTrees s os start stop next kind h l y (rw t at q) k0 z b e))
+    forms : n ≡ x .stop → (isRead (severalAt s (x .start) (x .stop)) ≡ true) × (formsOf (severalAt s (x .start) (x .stop)) ≡ f .write (found .0))
+    forms e =
+        let w = put f (held kind .laws) (held kind .trees) s os (x .start) (x .stop) n (found .0) h l (found .1) in
+        (ap (λ (i : ℕ). isRead (severalAt s (x .start) i)) (sym e) ∙ w .0, ap (λ (i : ℕ). formsOf (severalAt s (x .start) i)) (sym e) ∙ w .1)
 
-    pub in-room : n ≡ stop → (isRead (severalAt s start stop) ≡ true) × (length (formsOf (severalAt s start stop)) ≡ v)
-    unfolding oneTold listTold
-    in-room e = by-cases (eqb kind 2) (λ t. room manyExtensions listLaws listTrees s os start stop next kind h l y (rw t at q) k0 z e) (λ t. room oneExtension oneLaws oneTrees s os start stop next kind h l y (rw t at q) k0 z e)
-
-    pub in-done : v ≤ 242 → n ≡ stop → (x : Extension) → x ≡ extensionBy kind (formsOf (severalAt s start stop)) → (0, 0, x, next) ≡ shown y (ending (insideOf kind) s start stop next kind)
-    unfolding inOne inList oneTold listTold
-    in-done b e x c = by-cases (eqb kind 2) (λ t. rw t (done manyExtensions listLaws listTrees s os start stop next kind h l y (rw t at q) k0 z b e x c)) (λ t. rw t (done oneExtension oneLaws oneTrees s os start stop next kind h l y (rw t at q) k0 z b e x c))
+    pub in-sized : {v : ℕ} → v ≡ sized (severalAt s (x .start) n) → Ends answer s x kind next n v
+    unfolding normalForm limited closed after shown
+    in-sized {v} z =
+        let size : v ≡ length (f .write (found .0)) =
+        z ∙ counted f (held kind .laws) (held kind .trees) s os (x .start) (x .stop) n (found .0) h l (found .1) in
+        let few : v ≤ 242 → leb (length (f .write (found .0))) 242 ≡ true = λ b. le-leb (length (f .write (found .0))) 242 (omega (arith, size, b)) in
+        record {
+          long = λ b. goes-on (rw (found .1, lt-leb (length (f .write (found .0))) 242 (omega (arith, size, b))));
+          over = λ b e. goes-on (rw (found .1, few b, ne-eqb n (x .stop) e));
+          room = λ e. (forms e .0, ap length (forms e .1) ∙ sym size);
+          done = λ b e w c. goes-on (rw (found .1, few b, eq-eqb n (x .stop) e, c ∙ ap (extensionBy kind) (forms e .1)));
+        }
 
 -- ---- in its place
 

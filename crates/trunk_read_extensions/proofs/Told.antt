@@ -3,10 +3,10 @@ use Rattle.prelude.proofs.Prelude.{ℕ, zero, suc, _≤_, _<_, _≡_, refl, sym
 use Rattle.prelude.proofs.Ways.{by-cases}
 use Rattle.coding.{specs.Reader.Ans, specs.Reader.Reader, specs.Reader.Ruling, specs.Reader.got, specs.Reader.halt, specs.Reader.after, specs.Reader.opened, specs.Reader.closed, specs.Reader.constructed}
 use Rattle.coding.{specs.Reader.primitive, specs.Reader.ruled, specs.Reader.mapped, specs.Reader.part, specs.Reader.tagged, specs.Reader.entries, specs.Codec.prim, specs.Codec.cons, specs.Codec.pair}
-use Rattle.coding.{specs.Codec.any·more, specs.Normal.asJudged, specs.Normal.Any, specs.Normal.anyElement, proofs.Basic.after-same, proofs.Reading.after-assoc, proofs.Reading.some-code, specs.Shown.shown}
-use Rattle.any_elements.specs.Forms.{told}
+use Rattle.coding.{specs.Codec.any·more, specs.Normal.asJudged, specs.Normal.Any, specs.Normal.anyElement, proofs.Basic.after-same, proofs.Reading.after-assoc, proofs.Reading.some-code, specs.inner.Shown.shown}
+use Rattle.any_elements.specs.inner.Forms.{told}
 use Rattle.trunk_types.specs.Extensions.{objectIdentifier, oneExtension, manyExtensions}
-use Rattle.trunk_read_extensions.specs.Judges.{oneTold, entryTold, listTold}
+use Rattle.trunk_read_extensions.specs.inner.Judges.{oneTold, entryTold, listTold}
 
 -- ---- 06 identifier, and one element
 

@@ -1,1 +1,1 @@
-pub mod Judges
+pub mod inner

@@ -1,16 +1,19 @@
-// Extensions of a manufacturer: what is in one is passed over to the bottom, and kept in its shortest form.
+// Extensions of a manufacturer: their contents are checked at every depth, not interpreted, and stored in their shortest form.
+use coding::refusal;
+use trunk_types::extended;
+use trunk_types::in_extension;
 ghost use mathlib.Core.Path.{_≡_};
 ghost use mathlib.Core.Bool.{true, _&&_};
 ghost use Prim.Native.Nat.{_-_, _≤_};
 ghost use lib.Dec.{eqb};
 ghost use lib.ListN.{length, replicate};
 ghost use Rattle.coding.specs.Reader.{part, primitive};
-ghost use Rattle.coding.specs.Shown.{shown, verdict};
+ghost use Rattle.coding.specs.inner.Shown.{shown, verdict};
 ghost use Rattle.types.specs.Stored.{stored};
-ghost use Rattle.trunk_types.specs.Extensions.{arcs, objectIdentifier, noExtension, extensionAt, someExtension, extension, parameter};
+ghost use Rattle.trunk_types.specs.Extensions.{arcs, objectIdentifier, noExtension, extensionAt, someExtension, anyExtension, parameter};
 ghost use Rattle.trunk_types.specs.Stored.{extensionIn};
-ghost use Rattle.read_lengths.specs.Bounds.{Bounded};
-ghost use Rattle.trunk_read_extensions.specs.Judges.{oneTold, entryTold, listTold, judgeOf, insideOf};
+ghost use Rattle.read_lengths.specs.inner.Bounds.{Bounded};
+ghost use Rattle.trunk_read_extensions.specs.inner.Judges.{oneTold, entryTold, listTold, judgeOf, insideOf};
 
 // A number that is to begin here does so with 80.
 fn begins_badly(fresh: bool, x: u8) -> bool
@@ -32,7 +35,7 @@ fn arcs_in(s: &[u8], start: usize, stop: usize) -> u8
     while i < stop {
         let x = s[i];
         if begins_badly(fresh, x) {
-            return 43;
+            return refusal::NOT_SHORTEST;
         }
         fresh = x < 0x80;
         i += 1;
@@ -40,7 +43,7 @@ fn arcs_in(s: &[u8], start: usize, stop: usize) -> u8
     if fresh {
         return 0;
     }
-    44
+    refusal::BAD_CONTENTS
 }
 
 // The contents of an object identifier. Answers the fault.
@@ -49,7 +52,7 @@ fn identifier_in(s: &[u8], start: usize, stop: usize) -> u8
     ensures { λ r. ⌜ (r, tt) ≡ verdict tt (objectIdentifier (part (now (s .entry)) start stop)) ⌝ }
 {
     if start == stop {
-        return 43;
+        return refusal::NOT_SHORTEST;
     }
     arcs_in(s, start, stop)
 }
@@ -99,7 +102,7 @@ fn entry_at(s: &[u8], at: usize, end: usize) -> read_elements::Empty
         return read_figures::halted(o.fault, o.place);
     }
     if o.next != e.value.stop {
-        return read_figures::halted(41, o.next);
+        return read_figures::halted(refusal::UNEXPECTED, o.next);
     }
     read_figures::reached(e.next)
 }
@@ -117,9 +120,9 @@ fn list_at(s: &[u8], at: usize, end: usize) -> read_elements::Empty
     while i < end {
         if 254 <= count {
             if s[i] == 0x30 {
-                return read_figures::halted(45, i);
+                return read_figures::halted(refusal::PAST_LIMIT, i);
             }
-            return read_figures::halted(41, i);
+            return read_figures::halted(refusal::UNEXPECTED, i);
         }
         let e = entry_at(s, i, end);
         if e.fault != 0 {
@@ -136,7 +139,7 @@ fn inside_at(s: &[u8], at: usize, end: usize, kind: u8) -> read_elements::Empty
     requires { ⌜ Bounded (now s) end ⌝ }
     ensures { λ r. ⌜ (r .fault, r .place, tt, r .next) ≡ shown tt (judgeOf kind (now (s .entry)) at end) ⌝ }
 {
-    if kind == 2 {
+    if kind == extended::LIST {
         return list_at(s, at, end);
     }
     one_at(s, at, end)
@@ -168,11 +171,11 @@ fn extension_at(
     end: usize,
     tag: u8,
     kind: u8,
-    lent: &mut [u8; 244],
+    extension: &mut [u8; 244],
 ) -> read_elements::Empty
     requires { ⌜ Bounded (now s) end ⌝ }
-    requires { ⌜ now lent ≡ replicate 244 0 ⌝ }
-    ensures { λ r. ⌜ (r .fault, r .place, stored noExtension (r .fault) (extensionIn (now (lent .exit))), r .next) ≡ shown noExtension ((extensionAt tag kind (insideOf kind)) .read (now (s .entry)) at end) ⌝ }
+    requires { ⌜ now extension ≡ replicate 244 0 ⌝ }
+    ensures { λ r. ⌜ (r .fault, r .place, stored noExtension (r .fault) (extensionIn (now (extension .exit))), r .next) ≡ shown noExtension ((extensionAt tag kind (insideOf kind)) .read (now (s .entry)) at end) ⌝ }
 {
     let e = read_lengths::open_at(s, at, end, tag);
     if e.fault != 0 {
@@ -187,52 +190,62 @@ fn extension_at(
     let last = o.next;
     let size = any_elements::forms_size(s, start, last);
     if 242 < size {
-        return read_figures::halted(44, start);
+        return read_figures::halted(refusal::BAD_CONTENTS, start);
     }
     if last != stop {
-        return read_figures::halted(41, last);
+        return read_figures::halted(refusal::UNEXPECTED, last);
     }
-    any_elements::put_sized(s, start, stop, size, lent, 2);
-    lent[0] = kind;
-    lent[1] = size as u8;
+    any_elements::put_sized(s, start, stop, size, extension, in_extension::EXTENSION);
+    extension[in_extension::EXTENDED] = kind;
+    extension[in_extension::EXTENT] = size as u8;
     read_figures::reached(e.next)
 }
 
 // One or a list, or none.
-pub fn extension_if(s: &[u8], at: usize, end: usize, lent: &mut [u8; 244]) -> read_elements::Empty
+pub fn extension_if(
+    s: &[u8],
+    at: usize,
+    end: usize,
+    extension: &mut [u8; 244],
+) -> read_elements::Empty
     requires { ⌜ Bounded (now s) end ⌝ }
-    requires { ⌜ now lent ≡ replicate 244 0 ⌝ }
-    ensures { λ r. ⌜ (r .fault, r .place, stored noExtension (r .fault) (extensionIn (now (lent .exit))), r .next) ≡ shown noExtension (extension .read (now (s .entry)) at end) ⌝ }
+    requires { ⌜ now extension ≡ replicate 244 0 ⌝ }
+    ensures { λ r. ⌜ (r .fault, r .place, stored noExtension (r .fault) (extensionIn (now (extension .exit))), r .next) ≡ shown noExtension (anyExtension .read (now (s .entry)) at end) ⌝ }
 {
     if read_lengths::is_tag(s, at, end, 0xa1) {
-        return extension_at(s, at, end, 0xa1, 1, lent);
+        return extension_at(s, at, end, 0xa1, extended::ONCE, extension);
     }
     if read_lengths::is_tag(s, at, end, 0xa2) {
-        return extension_at(s, at, end, 0xa2, 2, lent);
+        return extension_at(s, at, end, 0xa2, extended::LIST, extension);
     }
     read_figures::reached(at)
 }
 
 // One or a list.
-pub fn some_at(s: &[u8], at: usize, end: usize, lent: &mut [u8; 244]) -> read_elements::Empty
+pub fn some_at(s: &[u8], at: usize, end: usize, extension: &mut [u8; 244]) -> read_elements::Empty
     requires { ⌜ Bounded (now s) end ⌝ }
-    requires { ⌜ now lent ≡ replicate 244 0 ⌝ }
-    ensures { λ r. ⌜ (r .fault, r .place, stored noExtension (r .fault) (extensionIn (now (lent .exit))), r .next) ≡ shown noExtension (someExtension .read (now (s .entry)) at end) ⌝ }
+    requires { ⌜ now extension ≡ replicate 244 0 ⌝ }
+    ensures { λ r. ⌜ (r .fault, r .place, stored noExtension (r .fault) (extensionIn (now (extension .exit))), r .next) ≡ shown noExtension (someExtension .read (now (s .entry)) at end) ⌝ }
 {
     if read_lengths::is_tag(s, at, end, 0xa1) {
-        return extension_at(s, at, end, 0xa1, 1, lent);
+        return extension_at(s, at, end, 0xa1, extended::ONCE, extension);
     }
-    extension_at(s, at, end, 0xa2, 2, lent)
+    extension_at(s, at, end, 0xa2, extended::LIST, extension)
 }
 
 // The optional parameter of error 1008.
-pub fn parameter_at(s: &[u8], at: usize, end: usize, lent: &mut [u8; 244]) -> read_elements::Empty
+pub fn parameter_at(
+    s: &[u8],
+    at: usize,
+    end: usize,
+    extension: &mut [u8; 244],
+) -> read_elements::Empty
     requires { ⌜ Bounded (now s) end ⌝ }
-    requires { ⌜ now lent ≡ replicate 244 0 ⌝ }
-    ensures { λ r. ⌜ (r .fault, r .place, stored noExtension (r .fault) (extensionIn (now (lent .exit))), r .next) ≡ shown noExtension (parameter .read (now (s .entry)) at end) ⌝ }
+    requires { ⌜ now extension ≡ replicate 244 0 ⌝ }
+    ensures { λ r. ⌜ (r .fault, r .place, stored noExtension (r .fault) (extensionIn (now (extension .exit))), r .next) ≡ shown noExtension (parameter .read (now (s .entry)) at end) ⌝ }
 {
     if read_lengths::is_tag(s, at, end, 0x30) {
-        return extension_at(s, at, end, 0x30, 1, lent);
+        return extension_at(s, at, end, 0x30, extended::ONCE, extension);
     }
     read_figures::reached(at)
 }

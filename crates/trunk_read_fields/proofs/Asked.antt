@@ -1,14 +1,14 @@
 -- The loop over the modes: those read so far lie in the front, and the next would be at i.
 use Rattle.prelude.proofs.Prelude.{ℕ, _+_, _≤_, _<_, arith, _≡_, refl, ap, sym, _∙_, List, [], _∷_, _++_, length, getD, length-append, length-replicate, replicate, drop, set, lt-leb, le-leb}
 use Rattle.coding.{specs.Reader.Reader, specs.Reader.Ans.got, specs.Reader.after, specs.Reader.entries, specs.Reader.listOf, specs.Reader.part, specs.Codec.prim, specs.Codec.pad}
-use Rattle.coding.{specs.Leaves.number, specs.Shown.shown, proofs.Reading.gives, proofs.Lists.Going, proofs.Lists.going-start, proofs.Lists.going-more, proofs.Lists.list-done, proofs.Lists.list-fault}
+use Rattle.coding.{specs.Leaves.number, specs.inner.Shown.shown, proofs.Reading.gives, proofs.Lists.Going, proofs.Lists.going-start, proofs.Lists.going-more, proofs.Lists.list-done, proofs.Lists.list-fault}
 use Rattle.coding.proofs.Lists.{list-limit, list-strange}
 use Rattle.types.specs.{Charges.noAssociation, Arguments.noCharge}
 use Rattle.types.proofs.Stored.{by-octets}
 use Rattle.read_elements.specs.declared.Empty.{Empty}
 use Rattle.read_figures.proofs.{Texts.placed-more, Answers.refused, Answers.arrived}
 use Rattle.trunk_types.specs.{declared.Body.Body, Extensions.noExtension, Bodies.bodyBy, Bodies.noBody, Bodies.askingFor}
-use Rattle.trunk_read_fields.specs.Fields.{innerIn, inner, inModes}
+use Rattle.trunk_read_fields.specs.inner.Fields.{innerIn, inner, inModes}
 use Rattle.trunk_types.specs.Stored.{Spare}
 
 abbrev pub mode : Reader ℕ
@@ -88,3 +88,5 @@ module _ (s : List ℕ) (at end : ℕ) where
         pub asked-strange : r ≡ record { fault = 41; place = i; next = 0 } → i < end → 7 ≤ count → (getD s i 0 ≡ 0x0a → ⊥) → inner r any noCharge ≡ shown noBody (inModes s at end)
         asked-strange q h l e =
             refused _ _ q (λ k. omega arith) (rw (listed (a .going .begun)) (list-strange _ _ _ _ _ _ (λ xs n. got (askingFor xs) n) noBody (a .known) _ (a .going) h (omega (arith, a .counted)) e))
+
+pub ruleset asking = (asked-done, asked-fault, asked-limit, asked-strange)

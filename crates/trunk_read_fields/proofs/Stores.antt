@@ -7,11 +7,11 @@ use Rattle.types.specs.{Charges.flag, Charges.noAssociation, Charges.partyNumbe
 use Rattle.types.specs.Stored.{moneyIn, associationIn, figureIn, storedCharge}
 use Rattle.types.proofs.Stored.{by-octets, by-front, beside-figure, figureWith, money-long}
 use Rattle.read_elements.specs.declared.Empty.{Empty}
-use Rattle.read_figures.{specs.Beside.Unassociated, specs.Beside.SameBeside, proofs.Answers.arrived}
+use Rattle.read_figures.{specs.inner.Beside.Unassociated, specs.inner.Beside.SameBeside, proofs.Answers.arrived}
 use Rattle.trunk_types.specs.{declared.Body.Body, Extensions.noExtension, Bodies.bodyBy, Bodies.noModes, Bodies.naming, Bodies.modes, Bodies.extending, Bodies.address, Bodies.network}
 use Rattle.trunk_types.specs.Stored.{extensionIn, modesIn, bodyIn}
-use Rattle.trunk_read_fields.specs.Readers.{figured}
-use Rattle.trunk_read_fields.specs.Fields.{innerIn, inner, inModes, users, diverting}
+use Rattle.trunk_read_fields.specs.inner.Readers.{figured}
+use Rattle.trunk_read_fields.specs.inner.Fields.{innerIn, inner, inModes, users, diverting}
 use Rattle.trunk_types.specs.Stored.{Spare}
 
 -- a detail alone
@@ -129,6 +129,6 @@ unfolding modes cons constructed canonical over any·more inModes
 modes-read s at end = simp flat
 
 -- a front of zeros, with an extension
-pub bare-body : (front : List ℕ) → front ≡ replicate 48 0 → (lent : List ℕ) → bodyIn front lent noCharge ≡ extending (extensionIn lent)
+pub bare-body : (front : List ℕ) → front ≡ replicate 48 0 → (extension : List ℕ) → bodyIn front extension noCharge ≡ extending (extensionIn extension)
 unfolding bodyIn part
-bare-body front e lent = rw e
+bare-body front e extension = rw e

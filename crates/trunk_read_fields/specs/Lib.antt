@@ -1,2 +1,1 @@
-pub mod Readers
-pub mod Fields
+pub mod inner

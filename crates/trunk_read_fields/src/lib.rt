@@ -1,22 +1,34 @@
-// Reads what is in a trunk's component before its extension, and the network facility extension. The readers of document 01's charges are used as they are, told that the charge is a trunk's.
+// Reads what is in a trunk's component before its extension, and the network facility extension. The readers of document 01's charges are used as they are, with a mark that the charge is a trunk's.
 //
-// What is read is stored in the parts that are lent: a front of 48 octets and a figure of 48.
+// What is read is stored in the caller's parts: a front of 48 octets and a figure of 48.
 // In the front the user lies where a figure has its association, so that the reader of a number stores it there.
+use coding::refusal;
+use trunk_types::in_front;
+use types::billing;
+use types::charge_kind;
+use types::in_figure;
 ghost use mathlib.Core.Path.{_≡_};
 ghost use mathlib.Core.Bool.{true, false};
 ghost use Prim.Native.Nat.{_≤_, _<_};
 ghost use lib.ListN.{replicate};
 ghost use Rattle.coding.specs.Leaves.{given};
-ghost use Rattle.coding.specs.Shown.{shown};
+ghost use Rattle.coding.specs.inner.Shown.{shown};
 ghost use Rattle.types.specs.Charges.{noAssociation};
 ghost use Rattle.types.specs.Arguments.{noCharge, ending, inMoney, withAssociation};
 ghost use Rattle.types.specs.Stored.{associationIn, stored, storedCharge};
-ghost use Rattle.read_figures.specs.Beside.{Unassociated, SameBeside};
+ghost use Rattle.read_figures.specs.inner.Beside.{Unassociated, SameBeside};
 ghost use Rattle.trunk_types.specs.Bodies.{noBody, billings, figures, modes, detail, address, network};
-ghost use Rattle.trunk_read_fields.specs.Readers.{figured};
-ghost use Rattle.trunk_read_fields.specs.Fields.{inner, inModes, users, diverting};
+ghost use Rattle.trunk_read_fields.specs.inner.Readers.{figured};
+ghost use Rattle.trunk_read_fields.specs.inner.Fields.{inner, inModes, users, diverting};
 ghost use Rattle.trunk_types.specs.Stored.{Spare};
-ghost use Rattle.read_lengths.specs.Bounds.{Bounded};
+ghost use Rattle.read_lengths.specs.inner.Bounds.{Bounded};
+
+// As wide as a value that is read.
+const REVERSE: u32 = billing::REVERSE as u32;
+
+const CREDIT_CARD: u32 = billing::CREDIT_CARD as u32;
+
+const TRANSFER: u32 = billing::TRANSFER as u32;
 
 // ---- the figure of 61 and 62, in the figure's octets alone
 
@@ -27,11 +39,11 @@ fn billing_at(s: &[u8], at: usize, end: usize, most: u32) -> read_elements::Chos
     ensures bounded { λ r. ⌜ r .value .value ≤ 7 ⌝ }
 {
     let b = read_elements::chosen_at(s, at, end, 0x82, 0, most);
-    if b.value.value != 1 {
+    if b.value.value != REVERSE {
         return b;
     }
     read_elements::ChosenRead {
-        fault: 44,
+        fault: refusal::BAD_CONTENTS,
         place: at,
         value: coding::Chosen {
             given: false,
@@ -67,18 +79,18 @@ fn priced_at(
         return read_figures::halted(m.fault, m.place);
     }
     if m.next != a.value.stop {
-        return read_figures::halted(41, m.next);
+        return read_figures::halted(refusal::UNEXPECTED, m.next);
     }
     let b = billing_at(s, a.next, e.value.stop, most);
     if b.fault != 0 {
         return read_figures::halted(b.fault, b.place);
     }
     if b.next != e.value.stop {
-        return read_figures::halted(41, b.next);
+        return read_figures::halted(refusal::UNEXPECTED, b.next);
     }
-    figure[42] = 2;
-    figure[44] = read_figures::flag(b.value.given);
-    figure[45] = b.value.value as u8;
+    figure[in_figure::KIND] = charge_kind::MONEY;
+    figure[in_figure::BILLED] = read_figures::flag(b.value.given);
+    figure[in_figure::BILLING] = b.value.value as u8;
     read_figures::reached(e.next)
 }
 
@@ -96,10 +108,10 @@ fn figure_at(
     ensures free { λ _. ⌜ Unassociated (now (figure .exit)) ⌝ }
 {
     if read_lengths::is_tag(s, at, end, 0x80) {
-        return read_figures::sign_at(s, at, end, 0x80, 0, figure);
+        return read_figures::sign_at(s, at, end, 0x80, charge_kind::NONE, figure);
     }
     if read_lengths::is_tag(s, at, end, 0x81) {
-        return read_figures::sign_at(s, at, end, 0x81, 1, figure);
+        return read_figures::sign_at(s, at, end, 0x81, charge_kind::FREE, figure);
     }
     priced_at(s, at, end, most, figure)
 }
@@ -110,7 +122,7 @@ pub fn interim_at(s: &[u8], at: usize, end: usize, figure: &mut [u8; 48]) -> rea
     requires { ⌜ now figure ≡ replicate 48 0 ⌝ }
     ensures { λ r. ⌜ figured r (now (figure .exit)) ≡ shown noCharge ((figures 2) .read (now (s .entry)) at end) ⌝ }
 {
-    figure_at(s, at, end, 2, figure)
+    figure_at(s, at, end, CREDIT_CARD, figure)
 }
 
 // The charge of 61 and its association, which may be a private number.
@@ -119,7 +131,7 @@ pub fn final_at(s: &[u8], at: usize, end: usize, figure: &mut [u8; 48]) -> read_
     requires { ⌜ now figure ≡ replicate 48 0 ⌝ }
     ensures { λ r. ⌜ figured r (now (figure .exit)) ≡ shown noCharge ((withAssociation true (figures 7)) .read (now (s .entry)) at end) ⌝ }
 {
-    let u = figure_at(s, at, end, 7, figure);
+    let u = figure_at(s, at, end, TRANSFER, figure);
     if u.fault != 0 {
         return read_figures::halted(u.fault, u.place);
     }
@@ -130,7 +142,7 @@ pub fn final_at(s: &[u8], at: usize, end: usize, figure: &mut [u8; 48]) -> read_
     read_figures::reached(a.next)
 }
 
-// ---- what stands before the extension. After each of these the last four octets of the front are zero still.
+// ---- what comes before the extension. After each of these the last four octets of the front are zero still.
 
 // The result of 59 or 64.
 pub fn detail_at(
@@ -149,7 +161,7 @@ pub fn detail_at(
     if n.fault != 0 {
         return read_figures::halted(n.fault, n.place);
     }
-    front[42] = n.value as u8;
+    front[in_front::DETAIL] = n.value as u8;
     read_figures::reached(n.next)
 }
 
@@ -202,7 +214,7 @@ pub fn diverting_at(
     if n.fault != 0 {
         return read_figures::halted(n.fault, n.place);
     }
-    front[42] = n.value as u8;
+    front[in_front::DETAIL] = n.value as u8;
     read_figures::reached(n.next)
 }
 
@@ -221,19 +233,19 @@ fn modes_in(s: &[u8], at: usize, end: usize, front: &mut [u8; 48]) -> read_eleme
     while i < end {
         if 7 <= count {
             if s[i] == 0x0a {
-                return read_figures::halted(45, i);
+                return read_figures::halted(refusal::PAST_LIMIT, i);
             }
-            return read_figures::halted(41, i);
+            return read_figures::halted(refusal::UNEXPECTED, i);
         }
         let n = read_elements::natural_at(s, i, end, 0x0a, 0, 6);
         if n.fault != 0 {
             return read_figures::halted(n.fault, n.place);
         }
-        front[9 + count] = n.value as u8;
+        front[in_front::MODES + count] = n.value as u8;
         count += 1;
         i = n.next;
     }
-    front[8] = count as u8;
+    front[in_front::ASKED] = count as u8;
     read_figures::reached(i)
 }
 
@@ -253,7 +265,7 @@ pub fn modes_at(s: &[u8], at: usize, end: usize, front: &mut [u8; 48]) -> read_e
         return read_figures::halted(m.fault, m.place);
     }
     if m.next != e.value.stop {
-        return read_figures::halted(41, m.next);
+        return read_figures::halted(refusal::UNEXPECTED, m.next);
     }
     read_figures::reached(e.next)
 }
@@ -310,7 +322,7 @@ pub fn network_at(
     if a.fault != 0 {
         return read_figures::halted(a.fault, a.place);
     }
-    front[42] = source;
-    front[43] = destination;
+    front[in_front::DETAIL] = source;
+    front[in_front::ENTITY] = destination;
     read_figures::reached(a.next)
 }

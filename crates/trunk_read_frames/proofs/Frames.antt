@@ -3,10 +3,10 @@ use Rattle.prelude.proofs.Prelude.{ℕ, _≡_, refl, List}
 use Rattle.coding.{specs.Reader.after, specs.Reader.blamed, specs.Reader.Ans.got, specs.Codec.prim, specs.Codec.sort, specs.Codec.canonical, specs.Codec.over, specs.Codec.leads, specs.Codec.marked}
 use Rattle.coding.{specs.Leaves.identifier, proofs.Reading.flat}
 use Rattle.types.specs.Frames.{value, caller, problem, problems, reject, rejects}
-use Rattle.read_heads.specs.Heads.{problemIn, problemsIn}
+use Rattle.read_heads.specs.inner.Heads.{problemIn, problemsIn}
 use Rattle.trunk_types.specs.Bodies.{extending, network}
 use Rattle.trunk_types.specs.Components.{leadBy, trunkBy, trunkErrors, failing, trunkError, ofReject, rejected, inNetwork, facility}
-use Rattle.trunk_read_frames.specs.Framed.{failure}
+use Rattle.trunk_read_frames.specs.inner.Framed.{failure}
 
 module _ (s : List ℕ) (at end : ℕ) where
   pub error-read :

@@ -6,7 +6,7 @@ use Rattle.types.proofs.Stored.{halves, by-octets}
 use Rattle.trunk_types.specs.Components.{leadBy, trunkBy}
 use Rattle.trunk_types.specs.Bodies.{detailed}
 use Rattle.trunk_types.specs.Stored.{Spare, bodyIn, trunkIn}
-use Rattle.trunk_read_fields.specs.Fields.{innerIn}
+use Rattle.trunk_read_fields.specs.inner.Fields.{innerIn}
 use Rattle.trunk_read_fields.proofs.Stores.{detail-stored}
 
 long : (s : List ℕ) → Spare s → length s ≡ 48
@@ -16,20 +16,20 @@ abbrev put : List ℕ → ℕ → ℕ → ℕ → ℕ → ℕ → ℕ → ℕ �
 put s k u i₀ i₁ e₀ e₁ o p = set (set (set (set (set (set (set (set s 0 k) 1 u) 2 i₀) 3 i₁) 4 e₀) 5 e₁) 6 o) 7 p
 
 put-is : (k u i₀ i₁ e₀ e₁ o p : ℕ) (s : List ℕ) → length s ≡ 48 →
-    ((lent : List ℕ) (c : Charge) → trunkIn (put s k u i₀ i₁ e₀ e₁ o p) lent c ≡ trunkBy (leadBy k u (i₀ + 256 * i₁) (e₀ + 256 * e₁) o p) (bodyIn s lent c))
+    ((extension : List ℕ) (c : Charge) → trunkIn (put s k u i₀ i₁ e₀ e₁ o p) extension c ≡ trunkBy (leadBy k u (i₀ + 256 * i₁) (e₀ + 256 * e₁) o p) (bodyIn s extension c))
     × (drop 44 (put s k u i₀ i₁ e₀ e₁ o p) ≡ drop 44 s)
 unfolding trunkIn bodyIn part
 put-is k u i₀ i₁ e₀ e₁ o p s l =
     by-octets 48 (λ (s : List ℕ).
-    ((lent : List ℕ) (c : Charge) → trunkIn (put s k u i₀ i₁ e₀ e₁ o p) lent c ≡ trunkBy (leadBy k u (i₀ + 256 * i₁) (e₀ + 256 * e₁) o p) (bodyIn s lent c))
-    × (drop 44 (put s k u i₀ i₁ e₀ e₁ o p) ≡ drop 44 s)) (λ f. (λ lent c. refl, refl)) s l
+    ((extension : List ℕ) (c : Charge) → trunkIn (put s k u i₀ i₁ e₀ e₁ o p) extension c ≡ trunkBy (leadBy k u (i₀ + 256 * i₁) (e₀ + 256 * e₁) o p) (bodyIn s extension c))
+    × (drop 44 (put s k u i₀ i₁ e₀ e₁ o p) ≡ drop 44 s)) (λ f. (λ extension c. refl, refl)) s l
 
 pub lead-put : (s : List ℕ) → Spare s → (k u i e o p : ℕ) →
-    ((lent : List ℕ) (c : Charge) → trunkIn (put s k u (i % 256) (i / 256) (e % 256) (e / 256) o p) lent c ≡ trunkBy (leadBy k u i e o p) (bodyIn s lent c))
+    ((extension : List ℕ) (c : Charge) → trunkIn (put s k u (i % 256) (i / 256) (e % 256) (e / 256) o p) extension c ≡ trunkBy (leadBy k u i e o p) (bodyIn s extension c))
     × Spare (put s k u (i % 256) (i / 256) (e % 256) (e / 256) o p)
 lead-put s z k u i e o p =
     let q = put-is k u (i % 256) (i / 256) (e % 256) (e / 256) o p s (long s z) in
-    (λ lent c. q .0 lent c ∙ ap₂ (λ (a b : ℕ). trunkBy (leadBy k u a b o p) (bodyIn s lent c)) (halves i) (halves e), q .1 ∙ z)
+    (λ extension c. q .0 extension c ∙ ap₂ (λ (a b : ℕ). trunkBy (leadBy k u a b o p) (bodyIn s extension c)) (halves i) (halves e), q .1 ∙ z)
 
 -- ---- bodies without an extension
 

@@ -1,11 +1,15 @@
 // Components of a trunk: the lead, and the frames that carry no argument and no result.
 //
-// What is read is stored in the parts that are lent. A body is stored first, and the lead last: it is all in the first eight octets of the front, which no body uses.
+// What is read is stored in the caller's parts. A body is stored first, and the lead last: it is all in the first eight octets of the front, which no body uses.
+use coding::named;
+use trunk_types::in_front;
+use types::error;
+use types::frame;
 ghost use mathlib.Core.Path.{_≡_};
 ghost use Prim.Native.Nat.{ℕ};
 ghost use mathlib.Core.List.{List};
 ghost use lib.ListN.{replicate};
-ghost use Rattle.coding.specs.Shown.{shown};
+ghost use Rattle.coding.specs.inner.Shown.{shown};
 ghost use Rattle.types.specs.declared.Charge.{Charge};
 ghost use Rattle.types.specs.Arguments.{noCharge};
 ghost use Rattle.types.specs.Stored.{stored, storedCharge};
@@ -13,8 +17,11 @@ ghost use Rattle.trunk_types.specs.Extensions.{noExtension};
 ghost use Rattle.trunk_types.specs.Stored.{extensionIn, bodyIn, trunkIn};
 ghost use Rattle.trunk_types.specs.Components.{noTrunk, leadBy, trunkBy, trunkError, rejected, facility};
 ghost use Rattle.trunk_types.specs.Stored.{Spare};
-ghost use Rattle.trunk_read_frames.specs.Framed.{framed, failure};
-ghost use Rattle.read_lengths.specs.Bounds.{Bounded};
+ghost use Rattle.trunk_read_frames.specs.inner.Framed.{framed, failure};
+ghost use Rattle.read_lengths.specs.inner.Bounds.{Bounded};
+
+// As wide as a lead has it.
+const UNSPECIFIED: u16 = error::UNSPECIFIED as u16;
 
 // The lead, put into a front that holds a body.
 pub fn keep_lead(
@@ -27,17 +34,17 @@ pub fn keep_lead(
     problem: u8,
 )
     requires { ⌜ Spare (now front) ⌝ }
-    ensures { λ _. ⌜ ((lent : List ℕ) (c : Charge) → trunkIn (now (front .exit)) lent c ≡ trunkBy (leadBy frame unnamed id error operation problem) (bodyIn (now (front .entry)) lent c)) ⌝ }
+    ensures { λ _. ⌜ ((extension : List ℕ) (c : Charge) → trunkIn (now (front .exit)) extension c ≡ trunkBy (leadBy frame unnamed id error operation problem) (bodyIn (now (front .entry)) extension c)) ⌝ }
     ensures spare { λ _. ⌜ Spare (now (front .exit)) ⌝ }
 {
-    front[0] = frame;
-    front[1] = unnamed;
-    front[2] = (id % 256) as u8;
-    front[3] = (id / 256) as u8;
-    front[4] = (error % 256) as u8;
-    front[5] = (error / 256) as u8;
-    front[6] = operation;
-    front[7] = problem;
+    front[in_front::FRAME] = frame;
+    front[in_front::UNNAMED] = unnamed;
+    front[in_front::ID] = (id % 256) as u8;
+    front[in_front::ID_HIGH] = (id / 256) as u8;
+    front[in_front::ERROR] = (error % 256) as u8;
+    front[in_front::ERROR_HIGH] = (error / 256) as u8;
+    front[in_front::OPERATION] = operation;
+    front[in_front::PROBLEM] = problem;
 }
 
 // The parameter of error 1008; others have none.
@@ -46,14 +53,14 @@ fn failing_at(
     at: usize,
     end: usize,
     error: u16,
-    lent: &mut [u8; 244],
+    extension: &mut [u8; 244],
 ) -> read_elements::Empty
     requires { ⌜ Bounded (now s) end ⌝ }
-    requires { ⌜ now lent ≡ replicate 244 0 ⌝ }
-    ensures { λ r. ⌜ (r .fault, r .place, stored noExtension (r .fault) (extensionIn (now (lent .exit))), r .next) ≡ shown noExtension ((failure error) .read (now (s .entry)) at end) ⌝ }
+    requires { ⌜ now extension ≡ replicate 244 0 ⌝ }
+    ensures { λ r. ⌜ (r .fault, r .place, stored noExtension (r .fault) (extensionIn (now (extension .exit))), r .next) ≡ shown noExtension ((failure error) .read (now (s .entry)) at end) ⌝ }
 {
-    if error == 1008 {
-        return trunk_read_extensions::parameter_at(s, at, end, lent);
+    if error == UNSPECIFIED {
+        return trunk_read_extensions::parameter_at(s, at, end, extension);
     }
     read_figures::reached(at)
 }
@@ -64,28 +71,28 @@ pub fn error_at(
     at: usize,
     end: usize,
     front: &mut [u8; 48],
-    lent: &mut [u8; 244],
+    extension: &mut [u8; 244],
 ) -> read_elements::Empty
     requires { ⌜ Bounded (now s) end ⌝ }
-    requires { ⌜ (now front ≡ replicate 48 0) × (now lent ≡ replicate 244 0) ⌝ }
-    ensures { λ r. ⌜ framed r (now (front .exit)) (now (lent .exit)) noCharge ≡ shown noTrunk (trunkError .read (now (s .entry)) at end) ⌝ }
+    requires { ⌜ (now front ≡ replicate 48 0) × (now extension ≡ replicate 244 0) ⌝ }
+    ensures { λ r. ⌜ framed r (now (front .exit)) (now (extension .exit)) noCharge ≡ shown noTrunk (trunkError .read (now (s .entry)) at end) ⌝ }
     ensures spare { λ _. ⌜ Spare (now (front .exit)) ⌝ }
 {
     let i = read_elements::identifier_at(s, at, end, 0x02);
     if i.fault != 0 {
         return read_figures::halted(i.fault, i.place);
     }
-    let e = trunk_read_heads::value_at(s, i.next, end, 3);
+    let e = trunk_read_heads::value_at(s, i.next, end, frame::ERROR);
     if e.fault != 0 {
         return read_figures::halted(e.fault, e.place);
     }
     let error = e.value as u16;
-    let x = failing_at(s, e.next, end, error, lent);
+    let x = failing_at(s, e.next, end, error, extension);
     if x.fault != 0 {
         return read_figures::halted(x.fault, x.place);
     }
     let id = i.value as u16;
-    keep_lead(front, 3, 0, id, error, 0, 0);
+    keep_lead(front, frame::ERROR, 0, id, error, 0, 0);
     read_figures::reached(x.next)
 }
 
@@ -104,8 +111,16 @@ pub fn reject_at(s: &[u8], at: usize, end: usize, front: &mut [u8; 48]) -> read_
     if p.fault != 0 {
         return read_figures::halted(p.fault, p.place);
     }
-    front[42] = p.value.detail;
-    keep_lead(front, 4, i.value.unnamed, i.value.id, 0, 0, p.value.tag);
+    front[in_front::DETAIL] = p.value.detail;
+    keep_lead(
+        front,
+        frame::REJECT,
+        i.value.unnamed,
+        i.value.id,
+        0,
+        0,
+        p.value.tag,
+    );
     read_figures::reached(p.next)
 }
 
@@ -124,8 +139,8 @@ pub fn facility_at(
 {
     let b = trunk_read_fields::network_at(s, at, end, front, figure);
     if b.fault != 0 {
-        return read_figures::halted(106, b.place);
+        return read_figures::halted(named::BAD_FRAME, b.place);
     }
-    keep_lead(front, 10, 0, 0, 0, 0, 0);
+    keep_lead(front, frame::EXTENSION, 0, 0, 0, 0, 0);
     read_figures::reached(b.next)
 }

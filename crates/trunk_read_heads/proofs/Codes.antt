@@ -2,12 +2,12 @@
 use Rattle.prelude.proofs.Prelude.{ℕ, _+_, _-_, _≤_, _<_, min, arith, _≡_, refl, sym, _∙_, Bool, true, false, not, List, length, leb, eqb, lt-ltb}
 use Rattle.prelude.proofs.Prelude.{le-ltb, lt-leb, not-true, not-false}
 use Rattle.coding.{specs.Reader.part, specs.Contents.negative, specs.Contents.numberFrom}
-use Rattle.coding.specs.{Codec.oneOf, Leaves.listing, Shown.verdict}
+use Rattle.coding.specs.{Codec.oneOf, Leaves.listing, inner.Shown.verdict}
 use Rattle.prelude.proofs.Ways.{by-cases}
 use Rattle.coding.{proofs.Parts.part-length}
 use Rattle.trunk_types.specs.Components.{trunkOperations}
 use Rattle.read_heads.proofs.Codes.{has-below, list-known, none-of, count, counted}
-use Rattle.trunk_read_heads.specs.Known.{knownIn, unknownIn}
+use Rattle.trunk_read_heads.specs.inner.Known.{knownIn, unknownIn}
 use Rattle.coding.specs.Contents as Contents
 
 -- no known value is over 1016

@@ -1,7 +1,7 @@
 -- The component's own element.
 use Rattle.prelude.proofs.Prelude.{ℕ, _≤_, _<_, arith, _≡_, refl, sym, true, false, List, length, leb, lt-leb, eqb, eqb-false, ne-eqb}
 use Rattle.coding.{specs.Reader.after, specs.Reader.enteredAny, specs.Reader.oneOf, specs.Reader.Ans.got}
-use Rattle.coding.specs.{Reader.Fault.named, Shown.shown}
+use Rattle.coding.specs.{Reader.Fault.named, inner.Shown.shown}
 use Rattle.prelude.proofs.Ways.{by-cases}
 use Rattle.read_lengths.specs.declared.Opened.{Opened}
 use Rattle.types.specs.Frames.{outside}

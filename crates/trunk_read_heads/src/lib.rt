@@ -1,4 +1,9 @@
-// What stands at the head of a trunk's component: the component's own element, and its operation or error value.
+// What is at the head of a trunk's component: the component's own element, and its operation or error value.
+use coding::named;
+use coding::refusal;
+use types::error;
+use types::frame;
+use types::operation;
 ghost use mathlib.Core.Path.{_≡_};
 ghost use mathlib.Core.Bool.{true};
 ghost use Prim.Native.Nat.{_+_, _≤_, _<_};
@@ -7,21 +12,28 @@ ghost use Rattle.coding.specs.Reader.{part, enteredAny};
 ghost use Rattle.coding.specs.Reader.Fault.{named};
 ghost use Rattle.coding.specs.Codec.{oneOf};
 ghost use Rattle.coding.specs.Leaves.{listing};
-ghost use Rattle.coding.specs.Shown.{shown, verdict};
+ghost use Rattle.coding.specs.inner.Shown.{shown, verdict};
 ghost use Rattle.types.specs.Frames.{outside, value};
 ghost use Rattle.trunk_types.specs.Components.{trunkOperations, answerable, trunkErrors, tags};
-ghost use Rattle.trunk_read_heads.specs.Known.{knownIn, unknownIn};
-ghost use Rattle.read_lengths.specs.Bounds.{Bounded};
+ghost use Rattle.trunk_read_heads.specs.inner.Known.{knownIn, unknownIn};
+ghost use Rattle.read_lengths.specs.inner.Bounds.{Bounded};
+
+// As wide as a value that is read.
+const CHARGE_REQUEST: u32 = operation::CHARGE_REQUEST as u32;
+
+const COMPLETE: u32 = operation::COMPLETE as u32;
+
+const DIVERSION: u32 = operation::DIVERSION as u32;
 
 // ---- operation and error values
 
 pub fn known_operation(n: u32) -> bool
     ensures { λ r. ⌜ r ≡ oneOf trunkOperations n ⌝ }
 {
-    if n < 59 {
+    if n < CHARGE_REQUEST {
         return false;
     }
-    if 65 < n {
+    if DIVERSION < n {
         return false;
     }
     true
@@ -30,10 +42,10 @@ pub fn known_operation(n: u32) -> bool
 pub fn is_answerable(n: u32) -> bool
     ensures { λ r. ⌜ r ≡ oneOf answerable n ⌝ }
 {
-    if n == 59 {
+    if n == CHARGE_REQUEST {
         return true;
     }
-    if n == 64 {
+    if n == COMPLETE {
         return true;
     }
     false
@@ -42,16 +54,16 @@ pub fn is_answerable(n: u32) -> bool
 pub fn known_error(n: u32) -> bool
     ensures { λ r. ⌜ r ≡ oneOf trunkErrors n ⌝ }
 {
-    if n == 3 {
+    if n == error::NOT_AVAILABLE {
         return true;
     }
-    if n == 10 {
+    if n == error::INTERACTION {
         return true;
     }
-    if n == 1008 {
+    if n == error::UNSPECIFIED {
         return true;
     }
-    if n == 1016 {
+    if n == error::FREE {
         return true;
     }
     false
@@ -60,10 +72,10 @@ pub fn known_error(n: u32) -> bool
 fn is_known(frame: u8, n: u32) -> bool
     ensures { λ r. ⌜ r ≡ oneOf (knownIn frame) n ⌝ }
 {
-    if frame == 1 {
+    if frame == frame::INVOKE {
         return known_operation(n);
     }
-    if frame == 2 {
+    if frame == frame::RESULT {
         return is_answerable(n);
     }
     known_error(n)
@@ -73,10 +85,10 @@ fn is_known(frame: u8, n: u32) -> bool
 fn unknown(frame: u8) -> u8
     ensures { λ r. ⌜ r ≡ 100 + unknownIn frame ⌝ }
 {
-    if frame == 3 {
-        return 108;
+    if frame == frame::ERROR {
+        return named::UNKNOWN_ERROR;
     }
-    107
+    named::UNKNOWN_OPERATION
 }
 
 // The contents of an operation or error value.
@@ -88,13 +100,13 @@ fn value_in(s: &[u8], start: usize, stop: usize, frame: u8) -> read_elements::Ve
 {
     if !read_elements::is_shortest(s, start, stop) {
         return read_elements::Verdict {
-            fault: 43,
+            fault: refusal::NOT_SHORTEST,
             value: 0,
         };
     }
     if 4 < stop - start {
         return read_elements::Verdict {
-            fault: 44,
+            fault: refusal::BAD_CONTENTS,
             value: 0,
         };
     }
@@ -168,7 +180,7 @@ pub fn operation_at(s: &[u8], at: usize, end: usize) -> read_elements::NumberRea
             };
         }
     }
-    value_at(&s[0..], at, end, 1)
+    value_at(&s[0..], at, end, frame::INVOKE)
 }
 
 // ---- the component's own element
@@ -209,18 +221,18 @@ pub fn enter(s: &[u8]) -> read_lengths::Opened
 {
     let n = s.len();
     if n == 0 {
-        return shut_out(101, n);
+        return shut_out(named::CUT, n);
     }
     let tag = s[0];
     if !is_frame(tag) {
-        return shut_out(104, 0);
+        return shut_out(named::UNKNOWN_COMPONENT, 0);
     }
     let e = read_lengths::open_at(s, 0, n, tag);
     if e.fault != 0 {
         return shut_out(read_heads::outer(e.fault), e.place);
     }
     if e.next != n {
-        return shut_out(105, e.next);
+        return shut_out(named::TRAILING, e.next);
     }
     let value = e.value;
     read_lengths::Opened {

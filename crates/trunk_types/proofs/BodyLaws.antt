@@ -9,7 +9,7 @@ use Rattle.types.specs.{Charges.association, Charges.unassociated, Arguments.si
 use Rattle.types.proofs.{Chains.Known, Chains.From, Chains.weaken, Chains.made, Chains.held, Chains.chosen, Chains.parted, Chains.sorted, PartLaws.numberAt, PartLaws.apart-none}
 use Rattle.types.proofs.{PartLaws.pair-left, PartLaws.taken, PartLaws.associationEqual, PartLaws.numbers, PartLaws.unassociateds, PartLaws.associations, ArgumentLaws.chargeEqual}
 use Rattle.types.proofs.{ArgumentLaws.kindOf, ArgumentLaws.Alone, ArgumentLaws.signs, ArgumentLaws.moneys, ArgumentLaws.settleds, ArgumentLaws.associateds, ArgumentLaws.all-rates}
-use Rattle.trunk_types.specs.{declared.Extension.Extension, declared.Body.Body, Extensions.noExtension, Extensions.extension, Extensions.extensionAt}
+use Rattle.trunk_types.specs.{declared.Extension.Extension, declared.Body.Body, Extensions.noExtension, Extensions.anyExtension, Extensions.extensionAt}
 use Rattle.trunk_types.specs.{Extensions.unextended, Extensions.someExtension, Bodies.sameModes, Bodies.sameBody, Bodies.bodyBy, Bodies.noBody, Bodies.withExtension, Bodies.extended, Bodies.askingFor}
 use Rattle.trunk_types.specs.{Bodies.modes, Bodies.detailed, Bodies.detail, Bodies.extending, Bodies.dummy, Bodies.charging, Bodies.charged, Bodies.billings, Bodies.figures, Bodies.finalCharge}
 use Rattle.trunk_types.specs.{Bodies.interim, Bodies.tariff, Bodies.naming, Bodies.otherOf, Bodies.complete, Bodies.diverted, Bodies.address, Bodies.network, Bodies.argumentOf, Bodies.resultOf}
@@ -29,7 +29,7 @@ bodyEqual =
 abbrev Bare : Run Body → Type 0
 Bare = Known (λ b. b .extension ≡ noExtension)
 
-extendeds : {f : Run Body} → Bare f → apart (extension .first) (f .avoid) ≡ true → RunLaws (extended f)
+extendeds : {f : Run Body} → Bare f → apart (anyExtension .first) (f .avoid) ≡ true → RunLaws (extended f)
 unfolding extended
 extendeds F ok =
     consLaws _ _ (made {P = λ b. Unit {0}} bodyEqual (λ p. withExtension (p .1) (p .0)) (λ b. (withExtension noExtension b, b .extension)) _
@@ -79,15 +79,15 @@ unfolding figures settled sort sign ending canonical over cons prim
 figures-end most = apart-none
 
 finals : RunLaws finalCharge
-unfolding finalCharge charged withAssociation association identified party unassociated extension extensionAt unextended sort canonical over pair cons prim nothing apart oneOf figures settled sign ending
+unfolding finalCharge charged withAssociation association identified party unassociated anyExtension extensionAt unextended sort canonical over pair cons prim nothing apart oneOf figures settled sign ending
 finals = extendeds (chargeds (associateds true (all-figures 7 (omega arith)) (figures-end 7 ((association true) .first)) .laws)) refl
 
 interims : RunLaws interim
-unfolding interim charged extension extensionAt unextended sort canonical over cons prim nothing apart oneOf figures settled sign ending
+unfolding interim charged anyExtension extensionAt unextended sort canonical over cons prim nothing apart oneOf figures settled sign ending
 interims = extendeds (chargeds (all-figures 2 (omega arith) .laws)) refl
 
 tariffs : RunLaws tariff
-unfolding tariff charged extension extensionAt unextended sign rates sort canonical over cons prim nothing apart oneOf
+unfolding tariff charged anyExtension extensionAt unextended sign rates sort canonical over cons prim nothing apart oneOf
 tariffs =
     extendeds (chargeds (sorted kindOf (λ c. Unit {0}) 0x05 (weaken (λ c h. (h .0, tt)) (signs 0x05 0 refl))
     (weaken (λ c h. (omega (arith, h .0), tt)) (all-rates true)) refl refl refl .laws)) refl
@@ -95,13 +95,13 @@ tariffs =
 -- ---- 64, 65
 
 completes : RunLaws complete
-unfolding complete partyNumber planned plainParty association identified party unassociated extension extensionAt unextended sort canonical over pair cons prim nothing apart oneOf
+unfolding complete partyNumber planned plainParty association identified party unassociated anyExtension extensionAt unextended sort canonical over pair cons prim nothing apart oneOf
 completes =
     extendeds (made bodyEqual (λ p. naming 0 0 (p .0) (p .1)) (λ b. (b .user, otherOf b)) _ (λ p v. refl) (λ p v. refl)
     (pairLaws _ _ (numbers true .laws) (associations true .laws) refl)) refl
 
 diversions : RunLaws diverted
-unfolding diverted partyNumber planned plainParty association identified party unassociated extension extensionAt unextended sort canonical over pair cons prim nothing apart oneOf
+unfolding diverted partyNumber planned plainParty association identified party unassociated anyExtension extensionAt unextended sort canonical over pair cons prim nothing apart oneOf
 diversions =
     extendeds (made bodyEqual (λ p. naming (p .1 .1) 0 (p .0) (p .1 .0)) (λ b. (b .user, (otherOf b, b .detail))) _ (λ p v. refl) (λ p v. refl)
     (pairLaws _ _ (numbers true .laws) (pairLaws _ _ (associations true .laws) (numberAt _ _ _ (omega arith) refl) refl) refl)) refl
@@ -124,11 +124,11 @@ networks =
 -- ---- by the operation
 
 pub argumentLaws : (o : ℕ) → RunLaws (argumentOf o)
-unfolding argumentOf modes extension extensionAt unextended sort canonical over cons prim nothing apart oneOf
+unfolding argumentOf modes anyExtension extensionAt unextended sort canonical over cons prim nothing apart oneOf
 argumentLaws o =
     chosen RunLaws (eqb o 59) (λ e. extendeds all-modes refl) (λ e. chosen RunLaws (eqb o 60) (λ e. dummies) (λ e. chosen RunLaws (eqb o 61) (λ e. finals) (λ e.
     chosen RunLaws (eqb o 62) (λ e. interims) (λ e. chosen RunLaws (eqb o 63) (λ e. tariffs) (λ e. chosen RunLaws (eqb o 64) (λ e. completes) (λ e. diversions))))))
 
 pub resultLaws : (o : ℕ) → RunLaws (resultOf o)
-unfolding resultOf detail extension extensionAt unextended sort canonical over cons prim nothing apart oneOf
+unfolding resultOf detail anyExtension extensionAt unextended sort canonical over cons prim nothing apart oneOf
 resultLaws o = chosen RunLaws (eqb o 59) (λ e. extendeds (details 6 (omega arith)) refl) (λ e. extendeds (details 2 (omega arith)) refl)

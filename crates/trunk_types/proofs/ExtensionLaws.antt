@@ -5,7 +5,7 @@ use Rattle.coding.{specs.Codec.nothing, specs.Codec.prim, specs.Codec.cons, spe
 use Rattle.coding.{proofs.Padded.pairEqual, proofs.Padded.viaEqual}
 use Rattle.types.proofs.{Chains.Known, Chains.made, Chains.parted, PartLaws.taken}
 use Rattle.trunk_types.specs.declared.Extension.{Extension}
-use Rattle.trunk_types.specs.Extensions.{noExtension, sameExtension, extensionBy, keptOctets, isExtension, objectIdentifier, oneExtension, inOne, manyExtensions, inList, extensionAt, unextended, someExtension, extension, parameter}
+use Rattle.trunk_types.specs.Extensions.{noExtension, sameExtension, extensionBy, keptOctets, isExtension, objectIdentifier, oneExtension, inOne, manyExtensions, inList, extensionAt, unextended, someExtension, anyExtension, parameter}
 
 pub extensionEqual : Equal sameExtension
 extensionEqual =
@@ -46,8 +46,8 @@ some-extensions =
     parted 0xa1 (isExtension 1) (extensions-at 0xa1 1 _ inOneLaws refl) (extensions-at 0xa2 2 _ inListLaws refl) (λ x h. (eq-eqb (x .kind) 1 h, λ z. omega (arith, h, z)))
     (λ x h. (ne-eqb (x .kind) 1 (λ z. omega (arith, h, z)), λ z. omega (arith, h, z))) refl refl refl
 
-pub extensions : Known (λ x. Unit {0}) extension
-unfolding extension extensionAt unextended sort canonical over cons nothing apart oneOf
+pub extensions : Known (λ x. Unit {0}) anyExtension
+unfolding anyExtension extensionAt unextended sort canonical over cons nothing apart oneOf
 extensions =
     let others : Known (λ x. x .kind ≡ 1 → ⊥) (sort 0xa2 (isExtension 2) (extensionAt 0xa2 2 inList) unextended) =
     parted 0xa2 (isExtension 2) (extensions-at 0xa2 2 _ inListLaws refl) unextendeds (λ x h. (eq-eqb (x .kind) 2 h, λ z. omega (arith, h, z)))

@@ -8,7 +8,7 @@ use Rattle.types.specs.Arguments.{sign, inMoney, ending, settled, withAssociati
 use Rattle.types.proofs.{Places.Plain, Places.Ends, Places.Blames, Places.Placed, Places.pick, Places.either-placed, Faults.Unnamed, Faults.unnamed}
 use Rattle.types.proofs.{Faults.Told, Faults.Inside, Faults.framed, Faults.marked-placed, Faults.id-led, Faults.value-led, Faults.value-placed, Faults.seven, Faults.eight, Faults.reject-placed}
 use Rattle.types.proofs.{Faults.placed, Faults.family-told}
-use Rattle.trunk_types.specs.Extensions.{arcs, objectIdentifier, oneExtension, inOne, manyExtensions, inList, extensionAt, unextended, someExtension, extension, parameter}
+use Rattle.trunk_types.specs.Extensions.{arcs, objectIdentifier, oneExtension, inOne, manyExtensions, inList, extensionAt, unextended, someExtension, anyExtension, parameter}
 use Rattle.trunk_types.specs.Bodies.{extended, modes, detail, dummy, charged, billings, figures, finalCharge, interim, tariff, complete, diverted, address, network, argumentOf, resultOf}
 use Rattle.trunk_types.specs.Components.{carryingBody, trunkInvoke, trunkResult, failing, trunkError, rejected, inNetwork, facility, tags, trunkFrame, trunkComponent, readWholeTrunk}
 
@@ -25,8 +25,8 @@ module _ (P : Fault → ℕ → Type 0) (plain : (w : Fault) (p : ℕ) → Plain
 
 ruleset parts = (placed, either-placed, object-blames)
 
-extension-placed : (k : ℕ) → Placed Unnamed k extension
-unfolding canonical extension unextended extensionAt oneExtension inOne manyExtensions inList
+extension-placed : (k : ℕ) → Placed Unnamed k anyExtension
+unfolding canonical anyExtension unextended extensionAt oneExtension inOne manyExtensions inList
 extension-placed k = search parts depth 20
 
 figures-placed : (k most : ℕ) → Placed Unnamed k (figures most)

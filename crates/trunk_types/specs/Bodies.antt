@@ -13,7 +13,7 @@ use Rattle.types.specs.Arguments.{noCharge, sameCharge, isKind, sign, inMoney, 
 use Rattle.trunk_types.specs.declared.Modes.{Modes}
 use Rattle.trunk_types.specs.declared.Extension.{Extension}
 use Rattle.trunk_types.specs.declared.Body.{Body}
-use Rattle.trunk_types.specs.Extensions.{noExtension, sameExtension, extension, someExtension}
+use Rattle.trunk_types.specs.Extensions.{noExtension, sameExtension, anyExtension, someExtension}
 
 -- ---- what is not there is zero
 
@@ -42,7 +42,7 @@ withExtension x b = bodyBy (b .detail) (b .entity) (b .modes) (b .user) x (b .ch
 
 unfoldable pub extended : Run Body → Run Body
 extended f =
-    cons 0x30 (canonical (λ p. withExtension (p .1) (p .0)) (λ b. (withExtension noExtension b, b .extension)) sameBody (pair f extension))
+    cons 0x30 (canonical (λ p. withExtension (p .1) (p .0)) (λ b. (withExtension noExtension b, b .extension)) sameBody (pair f anyExtension))
 
 -- ---- 59: 30 with 0 to 7 of 0A mode 0 to 6; its result, and that of 64: 0A
 

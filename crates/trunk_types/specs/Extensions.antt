@@ -60,8 +60,8 @@ unfoldable pub someExtension : Run Extension
 someExtension = sort 0xa1 (isExtension 1) (extensionAt 0xa1 1 inOne) (extensionAt 0xa2 2 inList)
 
 -- or none
-unfoldable pub extension : Run Extension
-extension = sort 0xa1 (isExtension 1) (extensionAt 0xa1 1 inOne) (sort 0xa2 (isExtension 2) (extensionAt 0xa2 2 inList) unextended)
+unfoldable pub anyExtension : Run Extension
+anyExtension = sort 0xa1 (isExtension 1) (extensionAt 0xa1 1 inOne) (sort 0xa2 (isExtension 2) (extensionAt 0xa2 2 inList) unextended)
 
 -- the parameter of error 1008: 30 with one, or none
 unfoldable pub parameter : Run Extension

@@ -1,4 +1,4 @@
--- A trunk's component as it lies in the five parts that a reader is lent: a front of 48 octets, an extension of 244, a figure of 48 and a list's two arrays.
+-- A trunk's component as it lies in the caller's five parts: a front of 48 octets, an extension of 244, a figure of 48 and a list's two arrays.
 -- Of the front: 0 to 7 the lead, 8 the count of the modes and 9 to 15 the modes, 16 to 41 the user (where a figure has its association), 42 detail, 43 entity;
 -- 44 to 47 are zero.
 use Prim.Native.Nat.{ℕ}

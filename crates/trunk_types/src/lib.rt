@@ -57,3 +57,70 @@ pub struct TrunkAnswer {
     pub offset: u32,
     pub value: Trunk,
 }
+
+// ---- numbers by the names of include/aoc.h
+
+pub mod extended {
+    pub const NOT: u8 = 0;
+
+    pub const ONCE: u8 = 1;
+
+    pub const LIST: u8 = 2;
+}
+
+// The form of a body is the operation of an invoke, else the frame, but for these three: the results of CHARGE_REQUEST and of COMPLETE, and the
+// error UNSPECIFIED.
+pub mod form {
+    pub const CHARGE_RESULT: u8 = 1;
+
+    pub const COMPLETE_RESULT: u8 = 2;
+
+    pub const UNSPECIFIED: u8 = 8;
+}
+
+// ---- where the fields of a record begin in its octets
+
+// The lead, and what it has beside: the modes asked for, the user (an association, from USER on), and the last six octets.
+pub mod in_front {
+    pub const FRAME: usize = 0;
+
+    pub const UNNAMED: usize = 1;
+
+    pub const ID: usize = 2;
+
+    pub const ID_HIGH: usize = 3;
+
+    pub const ERROR: usize = 4;
+
+    pub const ERROR_HIGH: usize = 5;
+
+    pub const OPERATION: usize = 6;
+
+    pub const PROBLEM: usize = 7;
+
+    pub const ASKED: usize = 8;
+
+    pub const MODES: usize = 9;
+
+    pub const USER: usize = 16;
+
+    pub const DETAIL: usize = 42;
+
+    pub const ENTITY: usize = 43;
+
+    pub const ZERO: usize = 44;
+
+    pub const ZERO_1: usize = 45;
+
+    pub const ZERO_2: usize = 46;
+
+    pub const ZERO_3: usize = 47;
+}
+
+pub mod in_extension {
+    pub const EXTENDED: usize = 0;
+
+    pub const EXTENT: usize = 1;
+
+    pub const EXTENSION: usize = 2;
+}

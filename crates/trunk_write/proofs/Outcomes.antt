@@ -1,13 +1,13 @@
 -- What writing answers and leaves, by how many octets the frame holds.
 use Rattle.prelude.proofs.Prelude.{ℕ, _+_, _≤_, _<_, arith, _≡_, ap, sym, _∙_, Bool, true, not, List, _++_, length, ltb, ltb-true, ltb-false}
 use Rattle.prelude.proofs.Prelude.{not-true}
-use Rattle.coding.{specs.Codec.frames, specs.Written.Wrote, specs.Written.Room, specs.Written.lead, proofs.Basic.picked, proofs.Basic.unpicked, proofs.Writing.lead-length}
+use Rattle.coding.{specs.Codec.frames, specs.inner.Written.Wrote, specs.inner.Written.Room, specs.inner.Written.lead, proofs.Basic.picked, proofs.Basic.unpicked, proofs.Writing.lead-length}
 use Rattle.prelude.proofs.Ways.{by-cases}
 use Rattle.coding.proofs.Writing.{lead-length-short, lead-length-long, Split, split-length, room-first, room-rest, wrote-parts}
 use Rattle.trunk_types.specs.{declared.Trunk.Trunk, Components.trunkComponent}
 use Rattle.write.{specs.declared.Written.Written, specs.Outcome.done, specs.Outcome.no}
 use Rattle.write.proofs.Family as Family
-use Rattle.trunk_write_frames.specs.Octets.{contentsOf}
+use Rattle.trunk_write_frames.specs.inner.Octets.{contentsOf}
 use Rattle.trunk_write.specs.Outcome.{trunkWriteOf, trunkLeftOf}
 
 abbrev Answers : Bool → Trunk → List ℕ → Written → List ℕ → Type 0

@@ -1,16 +1,16 @@
 -- A valid charge of 61, 62 or 63: what it holds, and its octets.
 use Rattle.prelude.proofs.Prelude.{ℕ, _+_, _≤_, _≡_, sym, ap, ap₂, _∙_, List, _++_, true, not, _&&_, arith, length, length-append, eqb, leb, leb-true, eqb-true, eq-eqb, ne-eqb}
 use Rattle.coding.{specs.Codec.cons, specs.Codec.pair, specs.Codec.prim, specs.Codec.sort, specs.Codec.over, specs.Codec.canonical, specs.Codec.maybe, specs.Codec.some·more}
-use Rattle.coding.{specs.Leaves.number, specs.Leaves.only, specs.Leaves.given, specs.Written.lead, proofs.Basic.and-left, proofs.Basic.and-right}
+use Rattle.coding.{specs.Leaves.number, specs.Leaves.only, specs.Leaves.given, specs.inner.Written.lead, proofs.Basic.and-left, proofs.Basic.and-right}
 use Rattle.prelude.proofs.Ways.{by-cases}
 use Rattle.coding.{proofs.Writing.cons-write, proofs.Small.null-write}
 use Rattle.types.specs.{declared.Figure.Figure, declared.Charge.Charge, Charges.flag, Charges.noAssociation, Charges.association, Arguments.sign, Arguments.inMoney, Arguments.ending, Arguments.settled}
 use Rattle.types.specs.Arguments.{plain, moneyFigure, sameCharge, totalled, associated, withAssociation, rates}
-use Rattle.write_tests.{specs.Fine.unmarked, specs.Fine.ratesFine, proofs.Valid.bareParts, proofs.Valid.rates-is}
-use Rattle.write_figures.{specs.Octets.element, specs.Octets.billingOctets, specs.Octets.marks, proofs.Frames.marks-ending}
-use Rattle.write_rates.specs.Arrays.{ratesCharge}
+use Rattle.write_tests.{specs.inner.Fine.unmarked, specs.inner.Fine.ratesFine, proofs.Valid.bareParts, proofs.Valid.rates-is}
+use Rattle.write_figures.{specs.inner.Octets.element, specs.inner.Octets.billingOctets, specs.inner.Octets.marks, proofs.Frames.marks-ending}
+use Rattle.write_rates.specs.inner.Arrays.{ratesCharge}
 use Rattle.trunk_types.specs.Bodies.{billings, figures, chargeFor}
-use Rattle.trunk_write_charges.specs.Octets.{pricedOctets, figureOctets, Figured}
+use Rattle.trunk_write_charges.specs.inner.Octets.{pricedOctets, figureOctets, Figured}
 
 -- ---- figures
 

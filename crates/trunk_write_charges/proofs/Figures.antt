@@ -1,9 +1,9 @@
 -- A figure in money: its octets as they are put, and how many they are.
 use Rattle.prelude.proofs.Prelude.{ℕ, _+_, _≤_, _≡_, sym, ap, _∙_, List, _++_, append-assoc, true, arith, length, length-append, eq-eqb, ne-eqb}
-use Rattle.coding.{specs.Written.Wrote, specs.Written.Room, specs.Written.lead, proofs.Writing.room-as, proofs.Writing.room-head, proofs.Small.null-length}
+use Rattle.coding.{specs.inner.Written.Wrote, specs.inner.Written.Room, specs.inner.Written.lead, proofs.Writing.room-as, proofs.Writing.room-head, proofs.Small.null-length}
 use Rattle.types.specs.{declared.Figure.Figure, Charges.money}
-use Rattle.write_figures.{specs.Octets.element, specs.Octets.billingOctets, proofs.Sizes.element-as, proofs.Sizes.room-2, proofs.Sizes.room-3, proofs.Sizes.wrote-three}
-use Rattle.trunk_write_charges.specs.Octets.{pricedOctets, figureOctets}
+use Rattle.write_figures.{specs.inner.Octets.element, specs.inner.Octets.billingOctets, proofs.Sizes.element-as, proofs.Sizes.room-2, proofs.Sizes.room-3, proofs.Sizes.wrote-three}
+use Rattle.trunk_write_charges.specs.inner.Octets.{pricedOctets, figureOctets}
 
 -- n octets of money, s of its A1, b of the billing
 module _ (f : Figure) (n s b : ℕ) (e : n ≡ length ((money true) .write (f .money))) (g : (tag : ℕ) → s ≡ length (lead tag n) + n)

@@ -2,15 +2,18 @@
 // wants with one caller is written here a second time, over the same laws (docs/SPEED.md).
 use types::Association;
 use types::Figure;
+use types::association_kind;
+use types::charge_kind;
+use types::operation;
 ghost use mathlib.Core.Path.{_≡_};
 ghost use mathlib.Core.Bool.{true};
 ghost use Prim.Native.Nat.{_≤_};
 ghost use lib.ListN.{length};
-ghost use Rattle.coding.specs.Written.{Wrote, Room};
+ghost use Rattle.coding.specs.inner.Written.{Wrote, Room};
 ghost use Rattle.types.specs.Charges.{association};
 ghost use Rattle.types.specs.Stored.{withList};
 ghost use Rattle.trunk_types.specs.Bodies.{chargeFor};
-ghost use Rattle.trunk_write_charges.specs.Octets.{pricedOctets, figureOctets, Priced, Figured};
+ghost use Rattle.trunk_write_charges.specs.inner.Octets.{pricedOctets, figureOctets, Priced, Figured};
 
 // ---- associations
 
@@ -19,10 +22,10 @@ pub fn association_size(a: Association) -> usize
     ensures { λ r. ⌜ r ≡ length ((association true) .write a) ⌝ }
     ensures few { λ r. ⌜ r ≤ 29 ⌝ }
 {
-    if a.kind == 0 {
+    if a.kind == association_kind::NONE {
         return 0;
     }
-    if a.kind == 1 {
+    if a.kind == association_kind::IDENTIFIER {
         return 2 + write_elements::id_width(a.id);
     }
     write_figures::address_size(a)
@@ -32,10 +35,10 @@ pub fn put_association(buf: &mut [u8], at: usize, a: Association) -> usize
     requires { ⌜ ((association true) .valid a ≡ true) × Room (now buf) at ((association true) .write a) ⌝ }
     ensures { λ r. ⌜ Wrote (now (buf .entry)) (now (buf .exit)) at ((association true) .write a) r ⌝ }
 {
-    if a.kind == 0 {
+    if a.kind == association_kind::NONE {
         return at;
     }
-    if a.kind == 1 {
+    if a.kind == association_kind::IDENTIFIER {
         return write_elements::put_id(buf, at, 0x02, a.id);
     }
     write_figures::put_address(buf, at, 0xa0, a)
@@ -58,10 +61,10 @@ fn figure_size(f: Figure) -> usize
     ensures { λ r. ⌜ r ≡ length (figureOctets f) ⌝ }
     ensures few { λ r. ⌜ r ≤ 34 ⌝ }
 {
-    if f.kind == 0 {
+    if f.kind == charge_kind::NONE {
         return 2;
     }
-    if f.kind == 1 {
+    if f.kind == charge_kind::FREE {
         return 2;
     }
     priced_size(f)
@@ -83,10 +86,10 @@ fn put_figure(buf: &mut [u8], at: usize, f: Figure) -> usize
     requires { ⌜ Figured f × Room (now buf) at (figureOctets f) ⌝ }
     ensures { λ r. ⌜ Wrote (now (buf .entry)) (now (buf .exit)) at (figureOctets f) r ⌝ }
 {
-    if f.kind == 0 {
+    if f.kind == charge_kind::NONE {
         return write_elements::put_null(buf, at, 0x80);
     }
-    if f.kind == 1 {
+    if f.kind == charge_kind::FREE {
         return write_elements::put_null(buf, at, 0x81);
     }
     put_priced(buf, at, f)
@@ -103,13 +106,13 @@ pub fn charge_size(form: u8, f: Figure, numbers: &[u32; 32], rows: &[u8; 192]) -
 {
     let a = f.association;
     let n = f.count as usize;
-    if form == 61 {
+    if form == operation::FINAL {
         return figure_size(f) + association_size(a);
     }
-    if form == 62 {
+    if form == operation::INTERIM {
         return figure_size(f);
     }
-    if f.kind == 0 {
+    if f.kind == charge_kind::NONE {
         return 2;
     }
     write_figures::sized(write_rates::rates_size(numbers, rows, n))
@@ -131,14 +134,14 @@ pub fn put_charge(
     ensures { λ r. ⌜ Wrote (now (buf .entry)) (now (buf .exit)) at ((chargeFor form) .write (withList f (now (numbers .entry)) (now (rows .entry)))) r ⌝ }
 {
     let a = f.association;
-    if form == 61 {
+    if form == operation::FINAL {
         let p = put_figure(buf, at, f);
         return put_association(buf, p, a);
     }
-    if form == 62 {
+    if form == operation::INTERIM {
         return put_figure(buf, at, f);
     }
-    if f.kind == 0 {
+    if f.kind == charge_kind::NONE {
         return write_elements::put_null(buf, at, 0x05);
     }
     write_rates::put_rates_charge(buf, at, numbers, rows, f.count)

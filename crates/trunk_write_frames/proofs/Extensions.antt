@@ -1,11 +1,12 @@
 -- Extensions: those that are there, how many octets they take, and their octets.
 use Rattle.prelude.proofs.Prelude.{ℕ, List, _+_, _≤_, _≡_, sym, ap, _∙_, [], _∷_, _++_, true, cond, arith, length, take, length-append, length-take, eqb, eqb-true, eqb-false, eq-eqb, ne-eqb}
-use Rattle.coding.{specs.Codec.Run, specs.Codec.cons, specs.Codec.canonical, specs.Codec.over, specs.Codec.sort, specs.Codec.nothing, specs.Codec.lengthOctets, specs.Normal.normalForm, specs.Written.lead}
+use Rattle.coding.{specs.Codec.Run, specs.Codec.cons, specs.Codec.canonical, specs.Codec.over, specs.Codec.sort, specs.Codec.nothing, specs.Codec.lengthOctets, specs.Normal.normalForm, specs.inner.Written.lead}
 use Rattle.coding.proofs.Basic.{and-left, and-right, picked, unpicked}
 use Rattle.prelude.proofs.Ways.{by-cases}
 use Rattle.trunk_types.specs.declared.Extension.{Extension}
-use Rattle.trunk_types.specs.Extensions.{noExtension, sameExtension, extensionBy, keptOctets, inOne, inList, extensionAt, unextended, someExtension, extension, parameter}
-use Rattle.trunk_write_frames.specs.Octets.{extensionOctets, Counted}
+use Rattle.trunk_types.specs.Extensions.{noExtension, sameExtension, extensionBy, keptOctets, inOne, inList, extensionAt, unextended, someExtension, anyExtension, parameter}
+use Rattle.trunk_write_frames.specs.inner.Octets.{extensionOctets, Counted}
+use Rattle.trunk_write_frames.proofs.Dispatch.{Form}
 
 module _ (x : Extension) where
   -- ---- a valid one has as many octets as it says
@@ -22,8 +23,8 @@ module _ (x : Extension) where
   unfolding unextended canonical over
   none-kind v = sym (eqb-true 0 (x .kind) (and-left (eqb 0 (x .kind)) _ (and-left (sameExtension noExtension x) _ v)))
 
-  pub extension-counted : extension .valid x ≡ true → Counted x
-  unfolding extension sort
+  pub extension-counted : anyExtension .valid x ≡ true → Counted x
+  unfolding anyExtension sort
   extension-counted v = record {
     octets = λ k.
         by-cases (eqb (x .kind) 1) (λ q. at-same 0xa1 1 inOne (rw q at v) .1) (λ q.
@@ -38,21 +39,27 @@ module _ (x : Extension) where
 
   -- ---- what is written
 
-  pub extension-one : x .kind ≡ 1 → extension .write x ≡ extensionOctets 0xa1 x
-  unfolding extension sort extensionAt canonical over cons inOne normalForm
-  extension-one e = rw (eq-eqb (x .kind) 1 e)
+  abbrev Kept : List ℕ → ℕ → Type 0
+  Kept all tag = Form all (Counted x × (x .kind ≡ 0 → ⊥)) (extensionOctets tag x)
 
-  pub extension-list : x .kind ≡ 2 → extension .write x ≡ extensionOctets 0xa2 x
-  unfolding extension sort extensionAt canonical over cons inList normalForm
-  extension-list e = rw (ne-eqb (x .kind) 1 (λ z. omega (arith, e, z)), eq-eqb (x .kind) 2 e)
+  pub extension-one : anyExtension .valid x ≡ true → x .kind ≡ 1 → Kept (anyExtension .write x) 0xa1
+  unfolding anyExtension sort extensionAt canonical over cons inOne normalForm
+  extension-one v e = record { asked = (extension-counted v, λ z. omega (arith, e, z)); octets = rw (eq-eqb (x .kind) 1 e) }
 
-  pub extension-none : (x .kind ≡ 1 → ⊥) → (x .kind ≡ 2 → ⊥) → extension .write x ≡ []
-  unfolding extension sort unextended canonical over nothing
+  pub extension-list : anyExtension .valid x ≡ true → x .kind ≡ 2 → Kept (anyExtension .write x) 0xa2
+  unfolding anyExtension sort extensionAt canonical over cons inList normalForm
+  extension-list v e = record {
+    asked = (extension-counted v, λ z. omega (arith, e, z));
+    octets = rw (ne-eqb (x .kind) 1 (λ z. omega (arith, e, z)), eq-eqb (x .kind) 2 e);
+  }
+
+  pub extension-none : (x .kind ≡ 1 → ⊥) → (x .kind ≡ 2 → ⊥) → anyExtension .write x ≡ []
+  unfolding anyExtension sort unextended canonical over nothing
   extension-none a b = rw (ne-eqb (x .kind) 1 a, ne-eqb (x .kind) 2 b)
 
-  pub parameter-one : x .kind ≡ 1 → parameter .write x ≡ extensionOctets 0x30 x
+  pub parameter-one : parameter .valid x ≡ true → x .kind ≡ 1 → Kept (parameter .write x) 0x30
   unfolding parameter sort extensionAt canonical over cons inOne normalForm
-  parameter-one e = rw (eq-eqb (x .kind) 1 e)
+  parameter-one v e = record { asked = (parameter-counted v, λ z. omega (arith, e, z)); octets = rw (eq-eqb (x .kind) 1 e) }
 
   pub parameter-none : (x .kind ≡ 1 → ⊥) → parameter .write x ≡ []
   unfolding parameter sort unextended canonical over nothing
@@ -65,8 +72,8 @@ module _ (x : Extension) where
       let n : x .kind ≡ 1 → ⊥ = λ z. omega (arith, none-kind v, z) in (rw (ne-eqb (x .kind) 1 n) v, parameter-none n)
 
   -- one or a list is an extension that is there
-  pub some-valid : someExtension .valid x ≡ true → (extension .valid x ≡ true) × (someExtension .write x ≡ extension .write x)
-  unfolding someExtension extension sort
+  pub some-valid : someExtension .valid x ≡ true → (anyExtension .valid x ≡ true) × (someExtension .write x ≡ anyExtension .write x)
+  unfolding someExtension anyExtension sort
   some-valid v =
       by-cases (eqb (x .kind) 1) (λ q. (rw q (rw q at v), rw q)) (λ q.
       let w : (extensionAt 0xa2 2 inList) .valid x ≡ true = rw q at v in
@@ -104,15 +111,15 @@ module _ (x : Extension) where
     none : x .kind ≡ 0 → n ≡ 0
     none e = s 0 ∙ picked _ _ (eq-eqb (x .kind) 0 e)
 
-    pub extension-length : extension .valid x ≡ true → n ≡ length (extension .write x)
-    unfolding extension sort
+    pub extension-length : anyExtension .valid x ≡ true → n ≡ length (anyExtension .write x)
+    unfolding anyExtension sort
     extension-length v =
-        by-cases (eqb (x .kind) 1) (λ q. let e = eqb-true (x .kind) 1 q in there 1 0xa1 e (λ z. omega arith) ∙ sym (ap length (extension-one e))) (λ q.
-        by-cases (eqb (x .kind) 2) (λ r. let e = eqb-true (x .kind) 2 r in there 2 0xa2 e (λ z. omega arith) ∙ sym (ap length (extension-list e)))
+        by-cases (eqb (x .kind) 1) (λ q. let e = eqb-true (x .kind) 1 q in there 1 0xa1 e (λ z. omega arith) ∙ sym (ap length (extension-one v e .octets))) (λ q.
+        by-cases (eqb (x .kind) 2) (λ r. let e = eqb-true (x .kind) 2 r in there 2 0xa2 e (λ z. omega arith) ∙ sym (ap length (extension-list v e .octets)))
         (λ r. none (none-kind (rw (q, r) at v)) ∙ sym (ap length (extension-none (eqb-false (x .kind) 1 q) (eqb-false (x .kind) 2 r)))))
 
     pub parameter-length : parameter .valid x ≡ true → n ≡ length (parameter .write x)
     unfolding parameter sort
     parameter-length v =
-        by-cases (eqb (x .kind) 1) (λ q. let e = eqb-true (x .kind) 1 q in there 1 0x30 e (λ z. omega arith) ∙ sym (ap length (parameter-one e)))
+        by-cases (eqb (x .kind) 1) (λ q. let e = eqb-true (x .kind) 1 q in there 1 0x30 e (λ z. omega arith) ∙ sym (ap length (parameter-one v e .octets)))
         (λ q. none (none-kind (rw q at v)) ∙ sym (ap length (parameter-none (eqb-false (x .kind) 1 q))))

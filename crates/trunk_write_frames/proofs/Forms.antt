@@ -1,20 +1,19 @@
--- What stands before the extension, by its form: what a valid one holds, and its octets.
-use Rattle.prelude.proofs.Prelude.{ℕ, _+_, _-_, _*_, _≤_, _<_, _≡_, refl, sym, ap, _∙_, List, [], _∷_, _++_, append-assoc, Bool, true, _&&_, arith, length, getD, take, drop}
+-- What comes before the extension, by its form: what a valid one holds, and its octets.
+use Rattle.prelude.proofs.Prelude.{ℕ, _+_, _*_, _≤_, _<_, _≡_, refl, sym, ap, _∙_, List, [], _∷_, _++_, append-assoc, Bool, true, _&&_, arith, length, getD, take, drop}
 use Rattle.prelude.proofs.Prelude.{length-append, length-take, length-drop, length-take-le, getD-take, getD-drop, eqb, eqb-true, ne-eqb, leb-true, leb}
 use Rattle.coding.{specs.Reader.part, specs.Codec.canonical, specs.Codec.over, specs.Codec.pair, specs.Codec.prim, specs.Codec.cons, specs.Codec.any·more, specs.Codec.all, specs.Codec.writeAll}
-use Rattle.coding.{specs.Rows.table, specs.Leaves.number, specs.Written.lead, specs.Written.fullNumber, proofs.Basic.and-left, proofs.Basic.and-right, proofs.Rows.rows-table}
+use Rattle.coding.{specs.Rows.table, specs.Leaves.number, specs.inner.Written.lead, specs.inner.Written.fullNumber, proofs.Basic.and-left, proofs.Basic.and-right, proofs.Rows.rows-table}
 use Rattle.coding.{proofs.Rows.table-length}
-use Rattle.coding.proofs.{Small.small-length, Writing.number-write, Writing.cons-write}
-use Rattle.types.specs.{declared.Figure.Figure, declared.Charge.Charge, Charges.partyNumber, Charges.association, Stored.two, Stored.associationIn, Stored.figureIn, Stored.storedCharge}
+use Rattle.coding.proofs.{Small.small-length, Writing.number-write, Writing.cons-write, Writing.lead-length-short}
+use Rattle.types.specs.{declared.Figure.Figure, declared.Charge.Charge, Charges.partyNumber, Charges.association, Stored.associationIn, Stored.figureIn, Stored.storedCharge, Stored.withList}
 use Rattle.types.specs.Arguments.{noCharge, sameCharge}
-use Rattle.write_tests.specs.Fine.{laid}
 use Rattle.trunk_types.specs.Extensions.{noExtension, sameExtension}
 use Rattle.trunk_types.specs.{Stored.modesIn, Bodies.sameBody, Bodies.sameModes, Bodies.askingFor, Bodies.modes, Bodies.detail, Bodies.detailed, Bodies.charged, Bodies.charging, Bodies.naming}
 use Rattle.trunk_types.specs.Bodies.{chargeFor}
-use Rattle.trunk_types.specs.Forms.{innerIn, users, diverting, innerOf}
-use Rattle.trunk_write_frames.specs.{Octets.mode, Octets.modeAt, Octets.modesOf, Octets.modesOctets}
-use Rattle.trunk_write_frames.specs.Octets.{detailIn, usersOctets}
-use Rattle.trunk_write_frames.proofs.Given.{Parts, inner}
+use Rattle.trunk_types.specs.inner.Forms.{innerIn, users, diverting, innerOf}
+use Rattle.trunk_write_frames.specs.{inner.Octets.mode, inner.Octets.modeAt, inner.Octets.modesOf, inner.Octets.modesOctets}
+use Rattle.trunk_write_frames.specs.inner.Octets.{detailIn, usersOctets}
+use Rattle.trunk_write_frames.proofs.{Given.Four, Given.inner, Dispatch.Form, Dispatch.form-size}
 
 -- ---- modes
 
@@ -50,12 +49,11 @@ module _ (front : List ℕ) (n : ℕ) (long : length front ≡ 48) (few : n ≤ 
       sym (getD-take n _ i 0 l ∙ getD-take 7 (drop 9 front) i 0 m ∙ getD-drop 9 front i 0))
 
 -- a front that holds modes
-pub record Asking (front : List ℕ) : Type 0 where
-  pub few : modesIn front .count ≤ 7
-  pub fine : all (mode .valid) (modesOf front) ≡ true
+abbrev pub Asking : List ℕ → Type 0
+Asking front = (modesIn front .count ≤ 7) × (all (mode .valid) (modesOf front) ≡ true)
 
-pub modes-size : {front : List ℕ} → Asking front → length (writeAll (mode .write) (modesOf front)) ≡ 3 * modesIn front .count
-modes-size {front} a = modes-length (modesOf front) (a .fine) ∙ ap (λ (k : ℕ). 3 * k) (table-length (modesIn front .count) (modeAt front))
+pub modes-size : (front : List ℕ) → Asking front → length (writeAll (mode .write) (modesOf front)) ≡ 3 * modesIn front .count
+modes-size front a = modes-length (modesOf front) (a .1) ∙ ap (λ (k : ℕ). 3 * k) (table-length (modesIn front .count) (modeAt front))
 
 module _ (front : List ℕ) (c : Charge) (long : length front ≡ 48) (v : modes .valid (innerIn front c) ≡ true) where
   abbrev held : List ℕ
@@ -75,95 +73,100 @@ module _ (front : List ℕ) (c : Charge) (long : length front ≡ 48) (v : modes
 
   pub modes-asking : Asking front
   unfolding modes cons canonical over any·more innerIn
-  modes-asking = record {
-    few = held-few;
-    fine = ap (all (mode .valid)) (places front (modesIn front .count) long held-few)
-        ∙ and-right (leb (length held) 7) _ (and-right (sameBody (askingFor held) (innerIn front c)) _ v);
-  }
+  modes-asking = (
+    held-few,
+    ap (all (mode .valid)) (places front (modesIn front .count) long held-few)
+        ∙ and-right (leb (length held) 7) _ (and-right (sameBody (askingFor held) (innerIn front c)) _ v),
+  )
 
   pub modes-write : modes .write (innerIn front c) ≡ modesOctets front
   unfolding modes modesOctets canonical over any·more innerIn
   modes-write =
       cons-write 0x30 _ (innerIn front c)
       ∙ ap (λ (xs : List ℕ). lead 0x30 (length (writeAll (mode .write) xs)) ++ writeAll (mode .write) xs) (sym (places front (modesIn front .count) long held-few))
-      ∙ ap (λ (k : ℕ). lead 0x30 k ++ writeAll (mode .write) (modesOf front)) (modes-size modes-asking)
+      ∙ ap (λ (k : ℕ). lead 0x30 k ++ writeAll (mode .write) (modesOf front)) (modes-size front modes-asking)
 
 -- ---- by the form
 
 abbrev Users : List ℕ → List ℕ → Type 0
 Users front figure = ((partyNumber true) .valid (associationIn front) ≡ true) × ((association true) .valid (associationIn figure) ≡ true)
 
-module _ {form : ℕ} (five : Parts) where
-  pub inner-1 : form ≡ 1 → (innerOf form) .write (inner five) ≡ fullNumber 0x0a (detailIn (five .front))
-  unfolding innerOf innerIn detail canonical over
-  inner-1 e = rw e (number-write 0x0a 0 6 (detailIn (five .front)))
+detail-form : (front : List ℕ) (c : Charge) (most : ℕ) → most < 128 → (detail most) .valid (innerIn front c) ≡ true
+    → (detailIn front < 128) × ((detail most) .write (innerIn front c) ≡ fullNumber 0x0a (detailIn front))
+unfolding innerIn detail canonical over prim number
+detail-form front c most h v =
+    let w = and-right (sameBody (detailed (detailIn front)) (innerIn front c)) _ v in
+    (omega (arith, h, leb-true (detailIn front) most (and-right (leb 0 (detailIn front)) _ w)), number-write 0x0a 0 most (detailIn front))
 
-  pub inner-2 : form ≡ 2 → (innerOf form) .write (inner five) ≡ fullNumber 0x0a (detailIn (five .front))
-  unfolding innerOf innerIn detail canonical over
-  inner-2 e = rw e (number-write 0x0a 0 2 (detailIn (five .front)))
-
-  pub inner-59 : form ≡ 59 → (innerOf form) .write (inner five) ≡ modes .write (inner five)
+module _ {form : ℕ} (p : Four) (v : (innerOf form) .valid (inner p) ≡ true) where
+  pub form-1 : form ≡ 1 → Form ((innerOf form) .write (inner p)) (detailIn (p .front) < 128) (fullNumber 0x0a (detailIn (p .front)))
   unfolding innerOf
-  inner-59 e = rw e
+  form-1 e = let w = detail-form (p .front) _ 6 (omega arith) (rw e at v) in record { asked = w .0; octets = rw e (w .1) }
 
-  pub inner-64 : form ≡ 64 → (innerOf form) .write (inner five) ≡ usersOctets (associationIn (five .front)) (associationIn (five .figure))
-  unfolding innerOf innerIn users canonical over pair figureIn
-  inner-64 e = rw e
-
-  pub inner-65 : form ≡ 65 → (innerOf form) .write (inner five) ≡ usersOctets (associationIn (five .front)) (associationIn (five .figure)) ++ fullNumber 0x0a (detailIn (five .front))
-  unfolding innerOf innerIn diverting canonical over pair figureIn
-  inner-65 e =
-      rw (e, number-write 0x0a 0 3 (detailIn (five .front)))
-      (sym (append-assoc ((partyNumber true) .write (associationIn (five .front))) ((association true) .write (associationIn (five .figure))) (fullNumber 0x0a (detailIn (five .front)))))
-
-  -- what a valid one holds
-  pub low-1 : form ≡ 1 → (innerOf form) .valid (inner five) ≡ true → detailIn (five .front) < 128
-  unfolding innerOf innerIn detail canonical over prim number
-  low-1 e v =
-      let w : sameBody (detailed (detailIn (five .front))) (inner five) && (leb 0 (detailIn (five .front)) && leb (detailIn (five .front)) 6) ≡ true = rw e at v in
-      omega (arith, leb-true (detailIn (five .front)) 6 (and-right (leb 0 (detailIn (five .front))) _ (and-right (sameBody (detailed (detailIn (five .front))) (inner five)) _ w)))
-
-  pub low-2 : form ≡ 2 → (innerOf form) .valid (inner five) ≡ true → detailIn (five .front) < 128
-  unfolding innerOf innerIn detail canonical over prim number
-  low-2 e v =
-      let w : sameBody (detailed (detailIn (five .front))) (inner five) && (leb 0 (detailIn (five .front)) && leb (detailIn (five .front)) 2) ≡ true = rw e at v in
-      omega (arith, leb-true (detailIn (five .front)) 2 (and-right (leb 0 (detailIn (five .front))) _ (and-right (sameBody (detailed (detailIn (five .front))) (inner five)) _ w)))
-
-  pub asks-59 : form ≡ 59 → (innerOf form) .valid (inner five) ≡ true → modes .valid (inner five) ≡ true
+  pub form-2 : form ≡ 2 → Form ((innerOf form) .write (inner p)) (detailIn (p .front) < 128) (fullNumber 0x0a (detailIn (p .front)))
   unfolding innerOf
-  asks-59 e v = rw e at v
+  form-2 e = let w = detail-form (p .front) _ 2 (omega arith) (rw e at v) in record { asked = w .0; octets = rw e (w .1) }
 
-  pub users-64 : form ≡ 64 → (innerOf form) .valid (inner five) ≡ true → Users (five .front) (five .figure)
+  pub form-59 : length (p .front) ≡ 48 → form ≡ 59 → Form ((innerOf form) .write (inner p)) (Asking (p .front)) (modesOctets (p .front))
+  unfolding innerOf
+  form-59 long e = record { asked = modes-asking (p .front) _ long (rw e at v); octets = rw e (modes-write (p .front) _ long (rw e at v)) }
+
+  pub form-64 : form ≡ 64
+      → Form ((innerOf form) .write (inner p)) (Users (p .front) (p .figure)) (usersOctets (associationIn (p .front)) (associationIn (p .figure)))
   unfolding innerOf innerIn users canonical over pair figureIn
-  users-64 e v =
-      let n = (partyNumber true) .valid (associationIn (five .front)) in
-      let a = (association true) .valid (associationIn (five .figure)) in
-      let w : sameBody (naming 0 0 (associationIn (five .front)) (associationIn (five .figure))) (inner five) && (n && a) ≡ true = rw e at v in
-      let p = and-right (sameBody (naming 0 0 (associationIn (five .front)) (associationIn (five .figure))) (inner five)) _ w in
-      (and-left n a p, and-right n a p)
+  form-64 e =
+      let n = (partyNumber true) .valid (associationIn (p .front)) in
+      let a = (association true) .valid (associationIn (p .figure)) in
+      let w = and-right (sameBody (naming 0 0 (associationIn (p .front)) (associationIn (p .figure))) (inner p)) (n && a) (rw e at v) in
+      record { asked = (and-left n a w, and-right n a w); octets = rw e }
 
-  pub users-65 : form ≡ 65 → (innerOf form) .valid (inner five) ≡ true → Users (five .front) (five .figure) × (detailIn (five .front) < 128)
+  pub form-65 : form ≡ 65
+      → Form ((innerOf form) .write (inner p)) (Users (p .front) (p .figure) × (detailIn (p .front) < 128))
+      (usersOctets (associationIn (p .front)) (associationIn (p .figure)) ++ fullNumber 0x0a (detailIn (p .front)))
   unfolding innerOf innerIn diverting canonical over pair prim number figureIn
-  users-65 e v =
-      let n = (partyNumber true) .valid (associationIn (five .front)) in
-      let a = (association true) .valid (associationIn (five .figure)) in
-      let d = detailIn (five .front) in
-      let w : sameBody (naming d 0 (associationIn (five .front)) (associationIn (five .figure))) (inner five) && (n && (a && (leb 0 d && leb d 3))) ≡ true = rw e at v in
-      let p = and-right (sameBody (naming d 0 (associationIn (five .front)) (associationIn (five .figure))) (inner five)) _ w in
-      let q = and-right n _ p in
-      ((and-left n _ p, and-left a _ q), omega (arith, leb-true d 3 (and-right (leb 0 d) _ (and-right a _ q))))
+  form-65 e =
+      let n = (partyNumber true) .valid (associationIn (p .front)) in
+      let a = (association true) .valid (associationIn (p .figure)) in
+      let d = detailIn (p .front) in
+      let w = and-right (sameBody (naming d 0 (associationIn (p .front)) (associationIn (p .figure))) (inner p)) (n && (a && (leb 0 d && leb d 3))) (rw e at v) in
+      let q = and-right n _ w in
+      record {
+        asked = ((and-left n _ w, and-left a _ q), omega (arith, leb-true d 3 (and-right (leb 0 d) _ (and-right a _ q))));
+        octets = rw (e, number-write 0x0a 0 3 d)
+            (sym (append-assoc ((partyNumber true) .write (associationIn (p .front))) ((association true) .write (associationIn (p .figure))) (fullNumber 0x0a d)));
+      }
 
-  module _ {f : Figure} (is : f ≡ figureIn (five .figure)) (a : form ≡ 1 → ⊥) (b : form ≡ 2 → ⊥) (c : form ≡ 59 → ⊥) (d : form ≡ 64 → ⊥) (e : form ≡ 65 → ⊥) where
-    abbrev ofFigure : Charge
-    ofFigure = record { figure = f; entries = laid (five .numbers) (five .rows) }
+  -- any other, with a figure as the code has it
+  pub form-charge : {f : Figure} → f ≡ figureIn (p .figure) → (form ≡ 1 → ⊥) → (form ≡ 2 → ⊥) → (form ≡ 59 → ⊥) → (form ≡ 64 → ⊥) → (form ≡ 65 → ⊥)
+      → Form ((innerOf form) .write (inner p)) ((chargeFor form) .valid (withList f (p .numbers) (p .rows)) ≡ true)
+      ((chargeFor form) .write (withList f (p .numbers) (p .rows)))
+  unfolding innerOf innerIn charged canonical over
+  form-charge is a b c d e =
+      let w = rw (ne-eqb form 1 a, ne-eqb form 2 b, ne-eqb form 59 c, ne-eqb form 64 d, ne-eqb form 65 e) at v in
+      record {
+        asked = ap (λ (g : Figure). (chargeFor form) .valid (withList g (p .numbers) (p .rows))) is
+            ∙ and-right (sameBody (charging (storedCharge (p .figure) (p .numbers) (p .rows))) (inner p)) _ w;
+        octets = rw (ne-eqb form 1 a, ne-eqb form 2 b, ne-eqb form 59 c, ne-eqb form 64 d, ne-eqb form 65 e)
+            (ap (λ (g : Figure). (chargeFor form) .write (withList g (p .numbers) (p .rows))) (sym is));
+      }
 
-    pub inner-charge : ((innerOf form) .write (inner five) ≡ (chargeFor form) .write ofFigure) × ((innerOf form) .valid (inner five) ≡ true → (chargeFor form) .valid ofFigure ≡ true)
-    unfolding innerOf innerIn charged canonical over
-    inner-charge = (
-      rw (ne-eqb form 1 a, ne-eqb form 2 b, ne-eqb form 59 c, ne-eqb form 64 d, ne-eqb form 65 e)
-          (ap (λ (g : Figure). (chargeFor form) .write (record { figure = g; entries = laid (five .numbers) (five .rows) })) (sym is)),
-      λ v.
-          let w = rw (ne-eqb form 1 a, ne-eqb form 2 b, ne-eqb form 59 c, ne-eqb form 64 d, ne-eqb form 65 e) at v in
-          ap (λ (g : Figure). (chargeFor form) .valid (record { figure = g; entries = laid (five .numbers) (five .rows) })) is
-          ∙ and-right (sameBody (charging (storedCharge (five .figure) (five .numbers) (five .rows))) (inner five)) _ w,
-    )
+-- ---- how many octets
+
+pub size-detail : {all : List ℕ} {d : ℕ} → Form all (d < 128) (fullNumber 0x0a d) → 3 ≡ length all
+size-detail {all} {d} f = form-size f (sym (small-length 0x0a d (f .asked)))
+
+pub size-59 : (front : List ℕ) {all : List ℕ} {n : ℕ} → Form all (Asking front) (modesOctets front) → n ≡ modesIn front .count → 2 + 3 * n ≡ length all
+unfolding modesOctets
+size-59 front f q =
+    let few = f .asked .0 in
+    let l = simp length-append at (ap length (f .octets)) in
+    omega (arith, l, lead-length-short 0x30 (3 * modesIn front .count) (omega arith), modes-size front (f .asked))
+
+pub size-65 : {form n : ℕ} (p : Four) → (innerOf form) .valid (inner p) ≡ true → form ≡ 65
+    → n ≡ length (usersOctets (associationIn (p .front)) (associationIn (p .figure)))
+    → n + 3 ≡ length ((innerOf form) .write (inner p))
+size-65 p v e q =
+    let f = form-65 p v e in
+    let d = detailIn (p .front) in
+    let l = length-append (usersOctets (associationIn (p .front)) (associationIn (p .figure))) (fullNumber 0x0a d) in
+    form-size f (omega (arith, small-length 0x0a d (f .asked .1)))

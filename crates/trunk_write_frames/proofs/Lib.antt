@@ -1,4 +1,5 @@
 pub mod Given
+pub mod Dispatch
 pub mod Extensions
 pub mod Forms
 pub mod Bodies

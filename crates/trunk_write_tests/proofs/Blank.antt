@@ -6,9 +6,9 @@ use Rattle.prelude.proofs.Ways.{by-cases}
 use Rattle.coding.proofs.{Basic.and-left, Basic.and-right, Basic.and-both, Tests.and-assoc, Tests.and-true}
 use Rattle.types.specs.{declared.Money.Money, declared.Association.Association, Charges.noMoney, Charges.noAssociation, Charges.sameAssociation, Charges.money, Arguments.sameMoney}
 use Rattle.types.{specs.Stored.moneyIn, specs.Stored.associationIn, specs.Stored.figureIn, proofs.Stored.by-octets, proofs.Stored.by-front}
-use Rattle.trunk_types.specs.{Bodies.noModes, Extensions.unextended, Extensions.extension, Stored.modesIn, Stored.extensionIn}
+use Rattle.trunk_types.specs.{Bodies.noModes, Extensions.unextended, Extensions.anyExtension, Stored.modesIn, Stored.extensionIn}
 use Rattle.write_tests.proofs.{Truth.same-truth, Truth.list-iff, Tests.association-0, Tests.number-plain, Tests.plain-is}
-use Rattle.trunk_write_tests.specs.Fine.{someModes, modesFine, names, userFine, otherFine, amountIf, extensionFine}
+use Rattle.trunk_write_tests.specs.inner.Fine.{someModes, modesFine, names, userFine, otherFine, amountIf, extensionFine}
 
 -- what the test of zeros says
 blank : {z : Bool} {s : List ℕ} {n : ℕ} → length s ≡ n → z ≡ sameList eqb (replicate (length s) 0) s → z ≡ true → s ≡ replicate n 0
@@ -65,7 +65,7 @@ module _ {r : Bool} (s : List ℕ) where
 
 pub not-extended : {z : Bool} (k : ℕ) (s : List ℕ) → length s ≡ 244 → z ≡ sameList eqb (replicate (length s) 0) s → z ≡ true
     → true ≡ extensionFine k (extensionIn s)
-unfolding extensionFine extension sort unextended canonical over nothing
+unfolding extensionFine anyExtension sort unextended canonical over nothing
 not-extended k s l t h = let b : s ≡ replicate 244 0 = blank l t h in rw (b, leb·zero)
 
 -- ---- the modes and the user

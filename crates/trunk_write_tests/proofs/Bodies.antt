@@ -1,26 +1,23 @@
 -- What a component carries is valid where each of its parts fits the form.
 use Rattle.prelude.proofs.Prelude.{ℕ, _≡_, refl, sym, ap, ap₂, subst, _∙_, List, [], _∷_, Bool, true, false, _&&_, _||_, true≢false, cond, length, leb, eqb, leb·zero, eqb-true}
 use Rattle.coding.{specs.Codec.Run, specs.Codec.canonical, specs.Codec.over, specs.Codec.prim, specs.Codec.cons, specs.Codec.pair, specs.Codec.sort, specs.Codec.nothing}
-use Rattle.coding.{specs.Codec.any·more}
-use Rattle.coding.specs.{Codec.all, Codec.pad, Codec.oneOf, Codec.pickRun, Leaves.number, Leaves.nullLeaf, Codec.cons}
+use Rattle.coding.{specs.Codec.any·more, proofs.Tests.ands, proofs.Tests.and-true, proofs.Tests.eqb-self}
+use Rattle.coding.specs.{Codec.all, Codec.pad, Codec.oneOf, Codec.pickRun, Leaves.number, Leaves.nullLeaf}
 use Rattle.prelude.proofs.Ways.{by-cases}
-use Rattle.coding.{proofs.Tests.ands, proofs.Tests.and-true, proofs.Tests.eqb-self}
 use Rattle.types.{specs.declared.Association.Association, specs.declared.Charge.Charge, specs.Charges.noAssociation, specs.Charges.sameAssociation, specs.Charges.partyNumber}
-use Rattle.types.{specs.Charges.association}
-use Rattle.types.{specs.Charges.unassociated, specs.Arguments.noCharge, specs.Arguments.sameCharge, specs.Arguments.associated, proofs.PartLaws.associationEqual}
-use Rattle.types.{proofs.ArgumentLaws.chargeEqual}
+use Rattle.types.{specs.Charges.association, specs.Charges.unassociated, specs.Arguments.noCharge, specs.Arguments.sameCharge, specs.Arguments.associated}
+use Rattle.types.{proofs.PartLaws.associationEqual, proofs.ArgumentLaws.chargeEqual}
 use Rattle.trunk_types.specs.{declared.Modes.Modes, declared.Extension.Extension, declared.Body.Body, Extensions.noExtension, Extensions.sameExtension, Extensions.extensionAt}
-use Rattle.trunk_types.specs.{Extensions.unextended}
-use Rattle.trunk_types.specs.{Extensions.someExtension, Extensions.extension, Extensions.parameter, Bodies.noModes, Bodies.sameModes, Bodies.bodyBy, Bodies.sameBody, Bodies.withExtension}
-use Rattle.trunk_types.specs.{Bodies.extended}
-use Rattle.trunk_types.specs.Bodies.{askingFor, detailed, extending, modes, detail, dummy, charged, finalCharge, interim, tariff, otherOf, complete, diverted, address, network, argumentOf}
-use Rattle.trunk_types.specs.Bodies.{resultOf}
+use Rattle.trunk_types.specs.{Extensions.unextended, Extensions.someExtension, Extensions.anyExtension, Extensions.parameter, Bodies.noModes, Bodies.sameModes, Bodies.bodyBy}
+use Rattle.trunk_types.specs.{Bodies.sameBody, Bodies.withExtension, Bodies.extended}
+use Rattle.trunk_types.specs.Bodies.{askingFor, detailed, extending, modes, detail, dummy, charged, finalCharge, interim, tariff, otherOf, complete, diverted, address, network}
+use Rattle.trunk_types.specs.Bodies.{argumentOf, resultOf}
 use Rattle.trunk_types.specs.Components.{trunkOperations, answerable}
 use Rattle.trunk_types.proofs.ExtensionLaws.{extensionEqual}
-use Rattle.write_heads.specs.Fronts.{problemFine}
+use Rattle.write_heads.specs.inner.Fronts.{problemFine}
 use Rattle.write_tests.proofs.Truth.{kinds, other-kind, other-kind'}
-use Rattle.trunk_write_tests.specs.Fine.{detailFine, entityFine, someModes, modesOf, modesFine, numberIf, userFine, otherFine, kindFine, chargeFits, mostExtension, extensionFine, innerFine}
-use Rattle.trunk_write_tests.specs.Fine.{bodyFine}
+use Rattle.trunk_write_tests.specs.inner.Fine.{detailFine, entityFine, someModes, modesOf, modesFine, numberIf, userFine, otherFine, kindFine, chargeFits, mostExtension}
+use Rattle.trunk_write_tests.specs.inner.Fine.{extensionFine, innerFine, bodyFine}
 use Rattle.trunk_write_tests.proofs.Charges.{list-self, past-kind, final-fits, interim-fits, tariff-fits, other-fits, none-fits, kindless}
 
 -- ---- extensions: by how great a kind may be
@@ -29,41 +26,41 @@ module _ (n : ℕ) (os : List ℕ) where
   abbrev of : ℕ → Extension
   of k = record { kind = k; count = n; octets = os }
 
-  none-of : (k : ℕ) → sameExtension noExtension (of k) ≡ leb k 0 && extension .valid (of k)
-  unfolding extension sort unextended canonical over nothing
+  none-of : (k : ℕ) → sameExtension noExtension (of k) ≡ leb k 0 && anyExtension .valid (of k)
+  unfolding anyExtension sort unextended canonical over nothing
   none-of =
-      kinds (λ (k : ℕ). sameExtension noExtension (of k) ≡ leb k 0 && extension .valid (of k)) (sym (and-true _)) refl refl refl refl refl
+      kinds (λ (k : ℕ). sameExtension noExtension (of k) ≡ leb k 0 && anyExtension .valid (of k)) (sym (and-true _)) refl refl refl refl refl
       (λ k h. simp (other-kind', past-kind))
 
-  one-of : (k : ℕ) → parameter .valid (of k) ≡ leb k 1 && extension .valid (of k)
-  unfolding parameter extension sort extensionAt unextended canonical over nothing cons
+  one-of : (k : ℕ) → parameter .valid (of k) ≡ leb k 1 && anyExtension .valid (of k)
+  unfolding parameter anyExtension sort extensionAt unextended canonical over nothing cons
   one-of =
-      kinds (λ (k : ℕ). parameter .valid (of k) ≡ leb k 1 && extension .valid (of k)) refl refl refl refl refl refl
+      kinds (λ (k : ℕ). parameter .valid (of k) ≡ leb k 1 && anyExtension .valid (of k)) refl refl refl refl refl refl
       (λ k h. simp (other-kind, other-kind', past-kind))
 
-  any-of : (k : ℕ) → extension .valid (of k) ≡ leb k 2 && extension .valid (of k)
-  unfolding extension sort unextended canonical over nothing
+  any-of : (k : ℕ) → anyExtension .valid (of k) ≡ leb k 2 && anyExtension .valid (of k)
+  unfolding anyExtension sort unextended canonical over nothing
   any-of =
-      kinds (λ (k : ℕ). extension .valid (of k) ≡ leb k 2 && extension .valid (of k)) refl refl refl refl refl refl
+      kinds (λ (k : ℕ). anyExtension .valid (of k) ≡ leb k 2 && anyExtension .valid (of k)) refl refl refl refl refl refl
       (λ k h. simp (other-kind, other-kind', past-kind))
 
-  some-of : (k : ℕ) → cond (eqb k 0) (sameExtension noExtension (of k)) (someExtension .valid (of k)) ≡ leb k 2 && extension .valid (of k)
-  unfolding someExtension extension sort extensionAt unextended canonical over nothing cons
+  some-of : (k : ℕ) → cond (eqb k 0) (sameExtension noExtension (of k)) (someExtension .valid (of k)) ≡ leb k 2 && anyExtension .valid (of k)
+  unfolding someExtension anyExtension sort extensionAt unextended canonical over nothing cons
   some-of =
-      kinds (λ (k : ℕ). cond (eqb k 0) (sameExtension noExtension (of k)) (someExtension .valid (of k)) ≡ leb k 2 && extension .valid (of k))
+      kinds (λ (k : ℕ). cond (eqb k 0) (sameExtension noExtension (of k)) (someExtension .valid (of k)) ≡ leb k 2 && anyExtension .valid (of k))
       (sym (and-true _)) refl refl refl refl refl (λ k h. simp (other-kind, other-kind', past-kind))
 
 module _ (x : Extension) where
-  pub no-extension : sameExtension noExtension x ≡ leb (x .kind) 0 && extension .valid x
+  pub no-extension : sameExtension noExtension x ≡ leb (x .kind) 0 && anyExtension .valid x
   no-extension = none-of (x .count) (x .octets) (x .kind)
 
-  pub one-extension : parameter .valid x ≡ leb (x .kind) 1 && extension .valid x
+  pub one-extension : parameter .valid x ≡ leb (x .kind) 1 && anyExtension .valid x
   one-extension = one-of (x .count) (x .octets) (x .kind)
 
-  pub any-extension : extension .valid x ≡ leb (x .kind) 2 && extension .valid x
+  pub any-extension : anyExtension .valid x ≡ leb (x .kind) 2 && anyExtension .valid x
   any-extension = any-of (x .count) (x .octets) (x .kind)
 
-  some-extension : cond (eqb (x .kind) 0) (sameExtension noExtension x) (someExtension .valid x) ≡ leb (x .kind) 2 && extension .valid x
+  some-extension : cond (eqb (x .kind) 0) (sameExtension noExtension x) (someExtension .valid x) ≡ leb (x .kind) 2 && anyExtension .valid x
   some-extension = some-of (x .count) (x .octets) (x .kind)
 
 -- ---- a test of equality of bodies, and a test of what it holds
@@ -85,7 +82,7 @@ inner-of : (d e : ℕ) (m : Modes) (u : Association) (c : Charge) (b : Body) (v 
 inner-of d e m u c b v =
     parts-of d e m u noExtension c (withExtension noExtension b) v ∙ ap (λ (t : Bool). partsOf d e m u c b v && t) (extensionEqual .self noExtension) ∙ and-true _
 
--- ---- what stands before the extension, by the form: the orders in which the tests are met and made
+-- ---- what comes before the extension, by the form: the orders in which the tests are met and made
 
 modes-order : (d e m u c v : Bool) → ((d && e) && (m && u)) && (c && v) ≡ (d && e) && ((m && v) && (u && c))
 modes-order d e m u c v = simp ands
@@ -258,7 +255,7 @@ module _ (p : ℕ) (b : Body) where
       let v = problemFine p (b .detail) in
       parts-of (b .detail) 0 noModes noAssociation noExtension noCharge b v
       ∙ ap₂ (λ (s t : Bool). (((s && noEntity) && (modeless && nameless)) && (sameCharge noCharge (b .charge) && v)) && t) (eqb-self (b .detail)) (no-extension (b .extension))
-      ∙ ap (λ (t : Bool). t && (leb (b .extension .kind) 0 && extension .valid (b .extension))) (detail-order noEntity modeless nameless (sameCharge noCharge (b .charge)) v
+      ∙ ap (λ (t : Bool). t && (leb (b .extension .kind) 0 && anyExtension .valid (b .extension))) (detail-order noEntity modeless nameless (sameCharge noCharge (b .charge)) v
       ∙ ap (λ (t : Bool). (v && noEntity) && (modeless && (nameless && t))) (none-fits (b .charge) 4 (λ k. kindless 4 k refl refl refl) refl))
 
   pub network-body : network .valid b ≡ bodyFine 10 p b
@@ -273,7 +270,7 @@ module _ (p : ℕ) (b : Body) where
       ∙ ap₂ (λ (s t : Bool). (((s && eqb (b .entity) (b .entity)) && (modeless && t)) && (bareOther && (d && (v && (e && w))))) && sameExtension noExtension (b .extension))
       (eqb-self (b .detail)) (associationEqual .self (b .user))
       ∙ ap₂ (λ (s t : Bool). ((s && (modeless && true)) && (bareOther && (d && (v && (e && w))))) && t) (eqb-self (b .entity)) (no-extension (b .extension))
-      ∙ ap (λ (t : Bool). t && (leb (b .extension .kind) 0 && extension .valid (b .extension))) (network-order modeless bareOther d v e w
+      ∙ ap (λ (t : Bool). t && (leb (b .extension .kind) 0 && anyExtension .valid (b .extension))) (network-order modeless bareOther d v e w
       ∙ ap (λ (t : Bool). (d && e) && (modeless && (v && t))) (other-fits (b .charge) 10 (λ k. kindless 10 k refl refl refl))))
 
 -- ---- by the operation, and by the error

@@ -8,9 +8,9 @@ use Rattle.types.specs.{declared.Money.Money, declared.Association.Association,
 use Rattle.types.specs.{Charges.noMoney, Charges.noAssociation, Charges.sameAssociation, Arguments.noCharge, Arguments.sameMoney, Arguments.sameCharge, Arguments.sign, Arguments.inMoney}
 use Rattle.types.specs.{Arguments.totalled, Arguments.associated, Arguments.ending, Arguments.settled, Arguments.withAssociation, Arguments.rates, Arguments.isKind}
 use Rattle.trunk_types.specs.Bodies.{billings, figures}
-use Rattle.write_tests.{specs.Fine.unmarked, proofs.Valid.noList, proofs.Valid.sign-is, proofs.Valid.inMoney-is, proofs.Valid.rates-is}
+use Rattle.write_tests.{specs.inner.Fine.unmarked, proofs.Valid.noList, proofs.Valid.sign-is, proofs.Valid.inMoney-is, proofs.Valid.rates-is}
 use Rattle.write_tests.proofs.{Valid.billedBy, Valid.ending-by, Valid.whole, Truth.money-order, Truth.last-order, Truth.kinds, Truth.other-kind, Truth.other-kind'}
-use Rattle.trunk_write_tests.specs.Fine.{kindFine, isBilling, billedFine, markedFine, amountIf, otherFine, listIf, chargeFits}
+use Rattle.trunk_write_tests.specs.inner.Fine.{kindFine, isBilling, billedFine, markedFine, amountIf, otherFine, listIf, chargeFits}
 
 pub list-self : (xs : List ℕ) → sameList eqb xs xs ≡ true
 list-self xs = listEqual eqb eqbEqual .self xs

@@ -1,19 +1,17 @@
 -- A component of a trunk is valid where its lead is fine and its body fits its form.
 use Rattle.prelude.proofs.Prelude.{ℕ, _+_, _≡_, refl, sym, ap, subst, _∙_, arith, Bool, true, false, _&&_, cond, leb, eqb, leb·zero, eqb-true, eqb-false, ne-eqb, _⊎_, inl, inr}
-use Rattle.coding.{specs.Codec.oneOf, specs.Codec.prim, specs.Codec.cons, specs.Codec.alt, specs.Codec.canonical, specs.Codec.over, specs.Codec.sort, specs.Codec.frames, specs.Codec.leads}
-use Rattle.coding.{specs.Codec.barring, specs.Codec.marked, specs.Codec.pickRun, specs.Leaves.number, specs.Leaves.nullLeaf, specs.Leaves.identifier, specs.Leaves.listed}
+use Rattle.coding.{specs.Codec.oneOf, specs.Codec.prim, specs.Codec.cons, specs.Codec.alt, specs.Codec.canonical, specs.Codec.over, specs.Codec.sort, specs.Codec.frames}
+use Rattle.coding.{specs.Codec.leads, specs.Codec.barring, specs.Codec.marked, specs.Codec.pickRun, specs.Leaves.number, specs.Leaves.nullLeaf, specs.Leaves.identifier}
+use Rattle.coding.{specs.Leaves.listed, proofs.Tests.ands, proofs.Tests.and-assoc, proofs.Tests.and-true, proofs.Tests.eqb-self}
 use Rattle.prelude.proofs.Ways.{by-cases}
-use Rattle.coding.{proofs.Tests.ands, proofs.Tests.and-assoc, proofs.Tests.and-true, proofs.Tests.eqb-self}
 use Rattle.types.specs.{declared.Record.Record, Frames.value, Frames.reject, Frames.caller, Frames.problem, Frames.problems, Frames.frontBy, Frames.uncharged, Frames.rejects}
 use Rattle.types.specs.{Frames.sameRecord}
-use Rattle.trunk_types.{specs.declared.Body.Body, specs.declared.Lead.Lead, specs.declared.Trunk.Trunk, specs.Bodies.detailed, specs.Bodies.extending, specs.Bodies.sameBody, specs.Bodies.network}
-use Rattle.trunk_types.{specs.Bodies.argumentOf}
-use Rattle.trunk_types.{specs.Bodies.resultOf, specs.Extensions.parameter, specs.Extensions.unextended, proofs.BodyLaws.bodyEqual}
-use Rattle.trunk_types.specs.Components.{leadBy, trunkBy, sameLead, tags, trunkOperations, answerable, trunkErrors, carryingBody, trunkInvoke, trunkResult, failing, trunkError, rejected}
-use Rattle.trunk_types.specs.Components.{facility, trunkFrame}
-use Rattle.trunk_types.specs.Components.{trunkComponent}
-use Rattle.write_heads.specs.Fronts.{problemFine}
-use Rattle.trunk_write_tests.specs.Fine.{isPattern, calledBy, leadFine, formOf, bodyFine, trunkFine}
+use Rattle.trunk_types.{specs.declared.Body.Body, specs.declared.Lead.Lead, specs.declared.Trunk.Trunk, specs.Bodies.detailed, specs.Bodies.extending, specs.Bodies.sameBody}
+use Rattle.trunk_types.{specs.Bodies.network, specs.Bodies.argumentOf, specs.Bodies.resultOf, specs.Extensions.parameter, specs.Extensions.unextended, proofs.BodyLaws.bodyEqual}
+use Rattle.trunk_types.specs.Components.{leadBy, trunkBy, sameLead, tags, trunkOperations, answerable, trunkErrors, carryingBody, trunkInvoke, trunkResult, failing, trunkError}
+use Rattle.trunk_types.specs.Components.{rejected, facility, trunkFrame, trunkComponent}
+use Rattle.write_heads.specs.inner.Fronts.{problemFine}
+use Rattle.trunk_write_tests.specs.inner.Fine.{isPattern, calledBy, leadFine, formOf, bodyFine, trunkFine}
 use Rattle.trunk_write_tests.proofs.Bodies.{argument-body, result-body, error-body, rejected-body, network-body}
 
 -- ---- a reject

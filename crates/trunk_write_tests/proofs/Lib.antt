@@ -1,6 +1,5 @@
 pub mod Charges
 pub mod Bodies
 pub mod Components
-pub mod Valid
 pub mod Blank
 pub mod Tests

@@ -1,25 +1,21 @@
 -- The tests of a component's parts, in the order in which the code makes them.
-use Rattle.prelude.proofs.Prelude.{ℕ, _+_, _-_, _≤_, _<_, _≡_, refl, sym, ap, ap₂, _∙_, List, [], _∷_, _++_, Bool, true, false, not, _&&_, _||_, cond, arith, length, getD, take, drop}
-use Rattle.prelude.proofs.Prelude.{length-drop, take-take, take-all, drop-drop, drop-append-seam, replicate, ltb, leb, eqb, lt-ltb, eq-eqb, ne-eqb, eqb-true, eqb-false, leb-true, le-leb}
-use Rattle.prelude.proofs.Prelude.{lt-leb, ltb-true, not-true, not-false}
+use Rattle.prelude.proofs.Prelude.{ℕ, _+_, _-_, _≤_, _<_, _≡_, refl, sym, ap, ap₂, _∙_, List, [], _∷_, _++_, Bool, true, false, not, _&&_, _||_, cond, arith, length, getD, take}
+use Rattle.prelude.proofs.Prelude.{drop, length-drop, take-take, take-all, drop-drop, drop-append-seam, replicate, ltb, leb, eqb, lt-ltb, eq-eqb, ne-eqb, eqb-true, eqb-false}
+use Rattle.prelude.proofs.Prelude.{leb-true, le-leb, lt-leb, ltb-true, not-true, not-false}
 use Rattle.coding.{specs.Reader.part, specs.Contents.every, specs.Codec.all, specs.Codec.oneOf, specs.Codec.sameList, proofs.Parts.part-length, proofs.Parts.part-split}
+use Rattle.coding.{specs.Codec.sort, specs.Codec.canonical, specs.Codec.over, specs.Codec.nothing, specs.Codec.Run, specs.Codec.cons}
 use Rattle.prelude.proofs.Ways.{by-cases}
-use Rattle.coding.proofs.Tests.{ands, and-true}
-use Rattle.coding.{specs.Reader.Ans, specs.Reader.Reader, specs.Reader.Ans.got, specs.Reader.Ans.halt, specs.Codec.sort, specs.Codec.canonical, specs.Codec.over, specs.Codec.nothing}
-use Rattle.coding.{specs.Shown.shown}
-use Rattle.coding.{specs.Codec.Run, specs.Codec.cons, proofs.Laws.Octets}
-use Rattle.coding.{proofs.Reading.some-code}
-use Rattle.coding.proofs.Tests.{and-assoc, eqb-self}
-use Rattle.types.specs.{declared.Association.Association, declared.Figure.Figure, declared.Entries.Entries, declared.Charge.Charge, Stored.associationIn, Stored.figureIn, Charges.noAssociation}
-use Rattle.types.specs.{Charges.sameAssociation, Charges.partyNumber}
-use Rattle.trunk_types.specs.{declared.Lead.Lead, declared.Trunk.Trunk, Components.trunkComponent, Components.trunkOperations, Components.answerable, Components.trunkErrors, Stored.modesIn}
-use Rattle.trunk_types.specs.{Stored.extensionIn, Stored.bodyIn}
-use Rattle.trunk_types.specs.Extensions.{noExtension, sameExtension, inOne, inList, extensionAt, unextended, extension}
-use Rattle.trunk_read_extensions.specs.Judges.{insideOf}
+use Rattle.coding.proofs.Tests.{ands, and-true, and-assoc, eqb-self}
+use Rattle.types.specs.{declared.Association.Association, declared.Figure.Figure, declared.Entries.Entries, declared.Charge.Charge, Stored.associationIn, Stored.figureIn}
+use Rattle.types.specs.{Charges.noAssociation, Charges.sameAssociation, Charges.partyNumber}
+use Rattle.trunk_types.specs.{declared.Lead.Lead, declared.Trunk.Trunk, Components.trunkComponent, Components.trunkOperations, Components.answerable, Components.trunkErrors}
+use Rattle.trunk_types.specs.{Stored.modesIn, Stored.extensionIn, Stored.bodyIn}
+use Rattle.trunk_types.specs.Extensions.{noExtension, sameExtension, inOne, inList, extensionAt, unextended, anyExtension}
+use Rattle.trunk_read_extensions.specs.inner.Judges.{insideOf}
 use Rattle.write_tests.proofs.Truth.{same-truth}
 use Rattle.write_tests.proofs.Tests.{counted-is, zeros-below, few-taken, first-part}
-use Rattle.trunk_write_tests.specs.Fine.{leadFine, formOf, trunkFine, numberIf, detailFine, entityFine, someModes, modesFine, userFine, markedFine, amountIf, otherFine, listIf, chargeFits}
-use Rattle.trunk_write_tests.specs.Fine.{mostExtension, extensionFine, innerFine, bodyFine, frontFits}
+use Rattle.trunk_write_tests.specs.inner.Fine.{leadFine, formOf, trunkFine, numberIf, detailFine, entityFine, someModes, modesFine, userFine, markedFine, amountIf, otherFine}
+use Rattle.trunk_write_tests.specs.inner.Fine.{listIf, chargeFits, mostExtension, extensionFine, innerFine, bodyFine, frontFits}
 use Rattle.trunk_write_tests.proofs.Components.{component-fine}
 
 -- ---- the lead, by the frame
@@ -148,7 +144,7 @@ unfolding mostExtension
 most-two form =
     by-cases (leb 59 form || leb form 2) (λ q. rw q (omega arith)) (λ q. rw q (by-cases (eqb form 8) (λ p. rw p (omega arith)) (λ p. rw p (omega arith))))
 
-module _ (s : List ℕ) (e : length s ≡ 244) (os : Octets s) where
+module _ (s : List ℕ) (e : length s ≡ 244) where
   abbrev count : ℕ
   count = getD s 1 0
 
@@ -195,7 +191,7 @@ module _ (s : List ℕ) (e : length s ≡ 244) (os : Octets s) where
 
   pub extension-is : (form : ℕ) → extensionFine form (extensionIn s)
       ≡ leb kind (mostExtension form) && (leb count 242 && (zeroPast && cond (eqb kind 0) (eqb count 0) (good (insideOf kind))))
-  unfolding extensionFine extension sort unextended canonical over nothing
+  unfolding extensionFine anyExtension sort unextended canonical over nothing
   extension-is form =
       by-cases (leb kind (mostExtension form))
       (λ l.
@@ -210,7 +206,7 @@ module _ (s : List ℕ) (e : length s ≡ 244) (os : Octets s) where
       (λ l. rw l)
 
   -- what the code has found when it answers
-  module _ (form most : ℕ) (m : most ≡ mostExtension form) where
+  module _ (form : ℕ) {most : ℕ} (m : most ≡ mostExtension form) where
     pub extension-over : most < kind → false ≡ extensionFine form (extensionIn s)
     extension-over h = rw (extension-is form, lt-leb kind (mostExtension form) (omega arith))
 
@@ -221,7 +217,7 @@ module _ (s : List ℕ) (e : length s ≡ 244) (os : Octets s) where
       pub extension-long : 242 < count → false ≡ extensionFine form (extensionIn s)
       extension-long h = rw (extension-is form, fits, lt-leb count 242 h)
 
-      module _ (short : count ≤ 242) (r : Bool) (z : r ≡ zeroPast) where
+      module _ (short : count ≤ 242) {r : Bool} (z : r ≡ zeroPast) where
         pub extension-past : not r ≡ true → false ≡ extensionFine form (extensionIn s)
         extension-past h = rw (extension-is form, fits, le-leb count 242 short, ← z, not-true r h)
 

@@ -1,17 +1,31 @@
 // Components of a trunk: which may be written. Each `_fine` is the writer's test of a part, by the component's form.
 use trunk_types::Lead;
+use trunk_types::extended;
+use trunk_types::form;
+use trunk_types::in_extension;
+use trunk_types::in_front;
 use types::Association;
 use types::Figure;
+use types::association_kind;
+use types::billing;
+use types::charge_kind;
+use types::error;
+use types::frame;
+use types::in_figure;
+use types::operation;
 ghost use mathlib.Core.Path.{_≡_};
 ghost use mathlib.Core.Bool.{true, _||_};
 ghost use Rattle.types.specs.Charges.{association};
 ghost use lib.Dec.{eqb};
 ghost use lib.ListN.{length};
 ghost use Rattle.types.specs.Stored.{storedCharge, associationIn, figureIn};
-ghost use Rattle.write_tests.specs.Fine.{laid};
+ghost use Rattle.write_tests.specs.inner.Fine.{laid};
 ghost use Rattle.trunk_types.specs.Stored.{leadIn, modesIn, extensionIn, bodyIn, trunkIn};
 ghost use Rattle.trunk_types.specs.Components.{trunkComponent};
-ghost use Rattle.trunk_write_tests.specs.Fine.{leadFine, formOf, detailFine, entityFine, modesFine, numberIf, names, userFine, otherFine, kindFine, isBilling, billedFine, markedFine, amountIf, listIf, chargeFits, mostExtension, extensionFine, frontFits, bodyFine};
+ghost use Rattle.trunk_write_tests.specs.inner.Fine.{leadFine, formOf, detailFine, entityFine, modesFine, numberIf, names, userFine, otherFine, kindFine, isBilling, billedFine, markedFine, amountIf, listIf, chargeFits, mostExtension, extensionFine, frontFits, bodyFine};
+
+// As wide as a lead has it.
+const UNSPECIFIED: u16 = error::UNSPECIFIED as u16;
 
 // ---- the lead
 
@@ -19,12 +33,12 @@ fn lead_of(front: &[u8; 48]) -> Lead
     ensures { λ r. ⌜ r ≡ leadIn (now (front .entry)) ⌝ }
 {
     Lead {
-        frame: front[0],
-        unnamed: front[1],
-        id: types_parts::number16(front[2], front[3]),
-        error: types_parts::number16(front[4], front[5]),
-        operation: front[6],
-        problem: front[7],
+        frame: front[in_front::FRAME],
+        unnamed: front[in_front::UNNAMED],
+        id: types_parts::number16(front[in_front::ID], front[in_front::ID_HIGH]),
+        error: types_parts::number16(front[in_front::ERROR], front[in_front::ERROR_HIGH]),
+        operation: front[in_front::OPERATION],
+        problem: front[in_front::PROBLEM],
     }
 }
 
@@ -115,19 +129,19 @@ fn network_fine(l: Lead) -> bool
 fn lead_fine(l: Lead) -> bool
     ensures { λ r. ⌜ r ≡ leadFine l ⌝ }
 {
-    if l.frame == 1 {
+    if l.frame == frame::INVOKE {
         return invoke_fine(l);
     }
-    if l.frame == 2 {
+    if l.frame == frame::RESULT {
         return result_fine(l);
     }
-    if l.frame == 3 {
+    if l.frame == frame::ERROR {
         return error_fine(l);
     }
-    if l.frame == 4 {
+    if l.frame == frame::REJECT {
         return reject_fine(l);
     }
-    if l.frame == 10 {
+    if l.frame == frame::EXTENSION {
         return network_fine(l);
     }
     false
@@ -137,20 +151,20 @@ fn lead_fine(l: Lead) -> bool
 fn form_of(l: Lead) -> u8
     ensures { λ r. ⌜ r ≡ formOf l ⌝ }
 {
-    if l.frame == 1 {
+    if l.frame == frame::INVOKE {
         return l.operation;
     }
-    if l.frame == 2 {
-        if l.operation == 59 {
-            return 1;
+    if l.frame == frame::RESULT {
+        if l.operation == operation::CHARGE_REQUEST {
+            return form::CHARGE_RESULT;
         }
-        return 2;
+        return form::COMPLETE_RESULT;
     }
-    if l.frame == 3 {
-        if l.error == 1008 {
-            return 8;
+    if l.frame == frame::ERROR {
+        if l.error == UNSPECIFIED {
+            return form::UNSPECIFIED;
         }
-        return 3;
+        return frame::ERROR;
     }
     l.frame
 }
@@ -160,19 +174,19 @@ fn form_of(l: Lead) -> u8
 fn detail_fine(form: u8, problem: u8, detail: u8) -> bool
     ensures { λ r. ⌜ r ≡ detailFine form problem detail ⌝ }
 {
-    if form == 1 {
+    if form == form::CHARGE_RESULT {
         return detail <= 6;
     }
-    if form == 2 {
+    if form == form::COMPLETE_RESULT {
         return detail <= 2;
     }
-    if form == 65 {
+    if form == operation::DIVERSION {
         return detail <= 3;
     }
-    if form == 10 {
+    if form == frame::EXTENSION {
         return detail <= 1;
     }
-    if form == 4 {
+    if form == frame::REJECT {
         return write_heads::problem_fine(problem, detail);
     }
     if detail != 0 {
@@ -184,7 +198,7 @@ fn detail_fine(form: u8, problem: u8, detail: u8) -> bool
 fn entity_fine(form: u8, entity: u8) -> bool
     ensures { λ r. ⌜ r ≡ entityFine form entity ⌝ }
 {
-    if form == 10 {
+    if form == frame::EXTENSION {
         return entity <= 1;
     }
     if entity != 0 {
@@ -199,29 +213,29 @@ fn modes_fine(front: &[u8; 48], form: u8) -> bool
 {
     // As a slice the array shows its length to the proof.
     let all: &[u8] = front;
-    let n = all[8] as usize;
-    if form != 59 {
+    let n = all[in_front::ASKED] as usize;
+    if form != operation::CHARGE_REQUEST {
         if n != 0 {
             return false;
         }
-        return octets::below(all, 9, 16, 1);
+        return octets::below(all, in_front::MODES, in_front::USER, 1);
     }
     if 7 < n {
         return false;
     }
-    if !octets::below(all, 9 + n, 16, 1) {
+    if !octets::below(all, in_front::MODES + n, in_front::USER, 1) {
         return false;
     }
-    octets::below(all, 9, 9 + n, 7)
+    octets::below(all, in_front::MODES, in_front::MODES + n, 7)
 }
 
-// ---- numbers and associations, their digits lent beside them
+// ---- numbers and associations, with their digits in an array beside them
 
 fn number_if(a: Association, digits: &[u8; 20]) -> bool
     requires { ⌜ now digits ≡ a .digits ⌝ }
     ensures { λ r. ⌜ r ≡ numberIf a ⌝ }
 {
-    if a.kind == 0 {
+    if a.kind == association_kind::NONE {
         return write_tests::no_association(a, digits);
     }
     write_tests::number_fine(a)
@@ -231,10 +245,10 @@ fn number_if(a: Association, digits: &[u8; 20]) -> bool
 fn names(form: u8) -> bool
     ensures { λ r. ⌜ r ≡ names form ⌝ }
 {
-    if form == 64 {
+    if form == operation::COMPLETE {
         return true;
     }
-    form == 65
+    form == operation::DIVERSION
 }
 
 fn user_fine(a: Association, digits: &[u8; 20], form: u8) -> bool
@@ -244,7 +258,7 @@ fn user_fine(a: Association, digits: &[u8; 20], form: u8) -> bool
     if names(form) {
         return write_tests::number_fine(a);
     }
-    if form == 10 {
+    if form == frame::EXTENSION {
         return number_if(a, digits);
     }
     write_tests::no_association(a, digits)
@@ -254,7 +268,7 @@ fn user_fine(a: Association, digits: &[u8; 20], form: u8) -> bool
 fn associates(form: u8) -> bool
     ensures { λ r. ⌜ r ≡ eqb form 61 || names form ⌝ }
 {
-    if form == 61 {
+    if form == operation::FINAL {
         return true;
     }
     names(form)
@@ -265,10 +279,10 @@ fn association_fine(a: Association, digits: &[u8; 20]) -> bool
     requires { ⌜ now digits ≡ a .digits ⌝ }
     ensures { λ r. ⌜ r ≡ (association true) .valid a ⌝ }
 {
-    if a.kind == 0 {
+    if a.kind == association_kind::NONE {
         return write_tests::no_association(a, digits);
     }
-    if a.kind == 1 {
+    if a.kind == association_kind::IDENTIFIER {
         return write_tests::identified_fine(a, digits);
     }
     write_tests::number_fine(a)
@@ -282,7 +296,7 @@ fn associated_fine(a: Association, digits: &[u8; 20], form: u8) -> bool
     if associates(form) {
         return association_fine(a, digits);
     }
-    if form == 10 {
+    if form == frame::EXTENSION {
         return number_if(a, digits);
     }
     write_tests::no_association(a, digits)
@@ -293,8 +307,8 @@ fn other_fine(figure: &[u8; 48], form: u8) -> bool
     ensures { λ r. ⌜ r ≡ otherFine form (associationIn (now (figure .entry))) ⌝ }
 {
     let all: &[u8] = figure;
-    if all[20] == 0 {
-        return octets::zeros(&all[16..42]);
+    if all[in_figure::ASSOCIATION_KIND] == association_kind::NONE {
+        return octets::zeros(&all[in_figure::ID..in_figure::KIND]);
     }
     let a = types_parts::association_of(figure);
     let digits = a.digits;
@@ -306,39 +320,39 @@ fn other_fine(figure: &[u8; 48], form: u8) -> bool
 fn kind_fine(form: u8, kind: u8) -> bool
     ensures { λ r. ⌜ r ≡ kindFine form kind ⌝ }
 {
-    if kind == 0 {
+    if kind == charge_kind::NONE {
         return true;
     }
-    if kind <= 2 {
-        if form == 61 {
+    if kind <= charge_kind::MONEY {
+        if form == operation::FINAL {
             return true;
         }
-        return form == 62;
+        return form == operation::INTERIM;
     }
-    if kind != 4 {
+    if kind != charge_kind::RATES {
         return false;
     }
-    form == 63
+    form == operation::RATE
 }
 
 // A billing identification that money may have.
 fn is_billing(form: u8, billing: u8) -> bool
     ensures { λ r. ⌜ r ≡ isBilling form billing ⌝ }
 {
-    if billing == 1 {
+    if billing == billing::REVERSE {
         return false;
     }
-    if form == 61 {
-        return billing <= 7;
+    if form == operation::FINAL {
+        return billing <= billing::TRANSFER;
     }
-    billing <= 2
+    billing <= billing::CREDIT_CARD
 }
 
 fn billed_fine(f: Figure, form: u8) -> bool
     ensures { λ r. ⌜ r ≡ billedFine form f ⌝ }
 {
     if f.billed == 1 {
-        if f.kind != 2 {
+        if f.kind != charge_kind::MONEY {
             return false;
         }
         return is_billing(form, f.billing);
@@ -372,11 +386,11 @@ fn amount_fine(figure: &[u8; 48]) -> bool
     ensures { λ r. ⌜ r ≡ amountIf (figureIn (now (figure .entry))) ⌝ }
 {
     let all: &[u8] = figure;
-    if all[42] == 2 {
+    if all[in_figure::KIND] == charge_kind::MONEY {
         let m = types_parts::money_of(figure);
         return write_tests::money_fine(m, true);
     }
-    octets::zeros(&all[0..16])
+    octets::zeros(&all[in_figure::CURRENCY_COUNT..in_figure::ID])
 }
 
 // Rates, or none.
@@ -384,7 +398,7 @@ fn list_fine(f: Figure, numbers: &[u32; 32], rows: &[u8; 192]) -> bool
     requires { ⌜ (length (now numbers) ≡ 32) × (length (now rows) ≡ 192) ⌝ }
     ensures { λ r. ⌜ r ≡ listIf (record { figure = f; entries = laid (now (numbers .entry)) (now (rows .entry)) }) ⌝ }
 {
-    if f.kind == 4 {
+    if f.kind == charge_kind::RATES {
         return write_rates::rates_fine(numbers, rows, f.count, true);
     }
     if f.count != 0 {
@@ -417,49 +431,52 @@ fn charge_fine(figure: &[u8; 48], numbers: &[u32; 32], rows: &[u8; 192], form: u
 fn most_extension(form: u8) -> u8
     ensures { λ r. ⌜ r ≡ mostExtension form ⌝ }
 {
-    if 59 <= form {
-        return 2;
+    if operation::CHARGE_REQUEST <= form {
+        return extended::LIST;
     }
-    if form <= 2 {
-        return 2;
+    if form <= form::COMPLETE_RESULT {
+        return extended::LIST;
     }
-    if form == 8 {
-        return 1;
+    if form == form::UNSPECIFIED {
+        return extended::ONCE;
     }
-    0
+    extended::NOT
 }
 
-// Its contents are judged as the reader judges them, and what is past them is zero.
-fn extended_fine(lent: &[u8; 244], form: u8) -> bool
-    ensures { λ r. ⌜ r ≡ extensionFine form (extensionIn (now (lent .entry))) ⌝ }
+// Its contents are checked as the reader checks them, and what is past them is zero.
+fn extended_fine(extension: &[u8; 244], form: u8) -> bool
+    ensures { λ r. ⌜ r ≡ extensionFine form (extensionIn (now (extension .entry))) ⌝ }
 {
-    let all: &[u8] = lent;
-    let kind = all[0];
-    let n = all[1] as usize;
+    let all: &[u8] = extension;
+    let kind = all[in_extension::EXTENDED];
+    let n = all[in_extension::EXTENT] as usize;
     if most_extension(form) < kind {
         return false;
     }
     if 242 < n {
         return false;
     }
-    if !octets::zeros(&all[2 + n..244]) {
+    if !octets::zeros(&all[in_extension::EXTENSION + n..244]) {
         return false;
     }
-    if kind == 0 {
+    if kind == extended::NOT {
         return n == 0;
     }
-    trunk_read_extensions::is_form(&all[2..2 + n], kind)
+    trunk_read_extensions::is_form(
+        &all[in_extension::EXTENSION..in_extension::EXTENSION + n],
+        kind,
+    )
 }
 
 // None fits every form.
-fn extension_fine(lent: &[u8; 244], form: u8) -> bool
-    ensures { λ r. ⌜ r ≡ extensionFine form (extensionIn (now (lent .entry))) ⌝ }
+fn extension_fine(extension: &[u8; 244], form: u8) -> bool
+    ensures { λ r. ⌜ r ≡ extensionFine form (extensionIn (now (extension .entry))) ⌝ }
 {
-    let all: &[u8] = lent;
+    let all: &[u8] = extension;
     if octets::zeros(all) {
         return true;
     }
-    extended_fine(lent, form)
+    extended_fine(extension, form)
 }
 
 // ---- the whole
@@ -468,15 +485,15 @@ fn extension_fine(lent: &[u8; 244], form: u8) -> bool
 fn front_fine(front: &[u8; 48], form: u8, problem: u8) -> bool
     ensures { λ r. ⌜ r ≡ frontFits form problem (now (front .entry)) ⌝ }
 {
-    if !detail_fine(form, problem, front[42]) {
+    if !detail_fine(form, problem, front[in_front::DETAIL]) {
         return false;
     }
-    if !entity_fine(form, front[43]) {
+    if !entity_fine(form, front[in_front::ENTITY]) {
         return false;
     }
     // No modes and no user.
     let all: &[u8] = front;
-    if octets::zeros(&all[8..42]) {
+    if octets::zeros(&all[in_front::ASKED..in_front::DETAIL]) {
         return !names(form);
     }
     if !modes_fine(front, form) {
@@ -489,14 +506,14 @@ fn front_fine(front: &[u8; 48], form: u8, problem: u8) -> bool
 
 fn body_fine(
     front: &[u8; 48],
-    lent: &[u8; 244],
+    extension: &[u8; 244],
     figure: &[u8; 48],
     numbers: &[u32; 32],
     rows: &[u8; 192],
     form: u8,
     problem: u8,
 ) -> bool
-    ensures { λ r. ⌜ r ≡ bodyFine form problem (bodyIn (now (front .entry)) (now (lent .entry)) (storedCharge (now (figure .entry)) (now (numbers .entry)) (now (rows .entry)))) ⌝ }
+    ensures { λ r. ⌜ r ≡ bodyFine form problem (bodyIn (now (front .entry)) (now (extension .entry)) (storedCharge (now (figure .entry)) (now (numbers .entry)) (now (rows .entry)))) ⌝ }
 {
     if !front_fine(front, form, problem) {
         return false;
@@ -504,22 +521,30 @@ fn body_fine(
     if !charge_fine(figure, numbers, rows, form) {
         return false;
     }
-    extension_fine(lent, form)
+    extension_fine(extension, form)
 }
 
 // Whether the component that lies in the five parts may be written.
 pub fn trunk_fine(
     front: &[u8; 48],
-    lent: &[u8; 244],
+    extension: &[u8; 244],
     figure: &[u8; 48],
     numbers: &[u32; 32],
     rows: &[u8; 192],
 ) -> bool
-    ensures { λ r. ⌜ r ≡ trunkComponent .valid (trunkIn (now (front .entry)) (now (lent .entry)) (storedCharge (now (figure .entry)) (now (numbers .entry)) (now (rows .entry)))) ⌝ }
+    ensures { λ r. ⌜ r ≡ trunkComponent .valid (trunkIn (now (front .entry)) (now (extension .entry)) (storedCharge (now (figure .entry)) (now (numbers .entry)) (now (rows .entry)))) ⌝ }
 {
     let l = lead_of(front);
     if !lead_fine(l) {
         return false;
     }
-    body_fine(front, lent, figure, numbers, rows, form_of(l), l.problem)
+    body_fine(
+        front,
+        extension,
+        figure,
+        numbers,
+        rows,
+        form_of(l),
+        l.problem,
+    )
 }

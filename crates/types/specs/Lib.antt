@@ -4,5 +4,5 @@ pub mod Rates
 pub mod Arguments
 pub mod Frames
 pub mod Thousandths
-pub mod Cases
 pub mod Stored
+pub mod inner

@@ -63,7 +63,7 @@ frontIn s = record {
 abbrev pub recordIn : List ℕ → List ℕ → List ℕ → List ℕ → Record
 recordIn front figure numbers rows = record { front = frontIn front; charge = storedCharge figure numbers rows }
 
--- ---- what a reader leaves in the parts that it is lent
+-- ---- what a reader leaves in the caller's parts
 
 -- a charge's parts that hold nothing yet
 pub record Blank (figure numbers rows : List ℕ) : Type 0 where

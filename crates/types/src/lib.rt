@@ -115,6 +115,224 @@ pub struct Answer {
     pub value: Record,
 }
 
+// ---- numbers by the names of include/aoc.h
+
+pub mod frame {
+    pub const INVOKE: u8 = 1;
+
+    pub const RESULT: u8 = 2;
+
+    pub const ERROR: u8 = 3;
+
+    pub const REJECT: u8 = 4;
+
+    pub const EXTENSION: u8 = 10;
+}
+
+// Up to E_UNITS those of a public line, from CHARGE_REQUEST on those of a trunk.
+pub mod operation {
+    pub const CHARGING_REQUEST: u8 = 30;
+
+    pub const S_CURRENCY: u8 = 31;
+
+    pub const S_SPECIAL: u8 = 32;
+
+    pub const D_CURRENCY: u8 = 33;
+
+    pub const D_UNITS: u8 = 34;
+
+    pub const E_CURRENCY: u8 = 35;
+
+    pub const E_UNITS: u8 = 36;
+
+    pub const CHARGE_REQUEST: u8 = 59;
+
+    pub const GET_FINAL_CHARGE: u8 = 60;
+
+    pub const FINAL: u8 = 61;
+
+    pub const INTERIM: u8 = 62;
+
+    pub const RATE: u8 = 63;
+
+    pub const COMPLETE: u8 = 64;
+
+    pub const DIVERSION: u8 = 65;
+}
+
+// What CHARGING_REQUEST asks for.
+pub mod charging_case {
+    pub const S: u8 = 0;
+
+    pub const D: u8 = 1;
+
+    pub const E: u8 = 2;
+}
+
+pub mod error {
+    pub const NOT_SUBSCRIBED: u32 = 0;
+
+    pub const NOT_AVAILABLE: u32 = 3;
+
+    pub const NOT_IMPLEMENTED: u32 = 4;
+
+    pub const INVALID_CALL_STATE: u32 = 7;
+
+    pub const INTERACTION: u32 = 10;
+
+    pub const NO_CHARGING_INFO: u32 = 26;
+
+    pub const UNSPECIFIED: u32 = 1008;
+
+    pub const FREE: u32 = 1016;
+}
+
+pub mod charge_kind {
+    pub const NONE: u8 = 0;
+
+    pub const FREE: u8 = 1;
+
+    pub const MONEY: u8 = 2;
+
+    pub const UNITS: u8 = 3;
+
+    pub const RATES: u8 = 4;
+
+    pub const ARRANGEMENT: u8 = 5;
+}
+
+pub mod association_kind {
+    pub const NONE: u8 = 0;
+
+    pub const IDENTIFIER: u8 = 1;
+
+    pub const NUMBER: u8 = 2;
+
+    pub const PLANNED_NUMBER: u8 = 3;
+
+    pub const PRIVATE_NUMBER: u8 = 4;
+}
+
+pub mod rate_kind {
+    pub const DURATION: u8 = 1;
+
+    pub const FLAT: u8 = 2;
+
+    pub const VOLUME: u8 = 3;
+
+    pub const CODE: u8 = 4;
+
+    pub const FREE: u8 = 5;
+
+    pub const UNKNOWN: u8 = 6;
+
+    pub const FREE_FROM_BEGINNING: u8 = 7;
+}
+
+pub mod billing {
+    pub const NORMAL: u8 = 0;
+
+    pub const REVERSE: u8 = 1;
+
+    pub const CREDIT_CARD: u8 = 2;
+
+    pub const FORWARDING_UNCONDITIONAL: u8 = 3;
+
+    pub const FORWARDING_BUSY: u8 = 4;
+
+    pub const FORWARDING_NO_REPLY: u8 = 5;
+
+    pub const DEFLECTION: u8 = 6;
+
+    pub const TRANSFER: u8 = 7;
+}
+
+// ---- where the fields of a record begin in its octets
+
+pub mod in_front {
+    pub const FRAME: usize = 0;
+
+    pub const UNNAMED: usize = 1;
+
+    pub const ID: usize = 2;
+
+    pub const ID_HIGH: usize = 3;
+
+    pub const OPERATION: usize = 4;
+
+    pub const ERROR: usize = 5;
+
+    pub const PROBLEM: usize = 6;
+
+    pub const DETAIL: usize = 7;
+}
+
+// Currency and amount, the association (from ID on), and the rest.
+pub mod in_figure {
+    pub const CURRENCY_COUNT: usize = 0;
+
+    pub const CURRENCY: usize = 1;
+
+    pub const MULTIPLIER: usize = 11;
+
+    pub const NUMBER: usize = 12;
+
+    pub const NUMBER_1: usize = 13;
+
+    pub const NUMBER_2: usize = 14;
+
+    pub const NUMBER_3: usize = 15;
+
+    pub const ID: usize = 16;
+
+    pub const ID_HIGH: usize = 17;
+
+    pub const DIGITS_COUNT: usize = 18;
+
+    pub const DIGITS_COUNT_HIGH: usize = 19;
+
+    pub const ASSOCIATION_KIND: usize = 20;
+
+    pub const PLAN: usize = 21;
+
+    pub const DIGITS: usize = 22;
+
+    pub const KIND: usize = 42;
+
+    pub const TOTAL: usize = 43;
+
+    pub const BILLED: usize = 44;
+
+    pub const BILLING: usize = 45;
+
+    pub const ARRANGEMENT: usize = 46;
+
+    pub const COUNT: usize = 47;
+}
+
+// In the 18 octets of a rate.
+pub mod in_rate {
+    pub const ITEM: usize = 0;
+
+    pub const KIND: usize = 1;
+
+    pub const DETAIL: usize = 2;
+
+    pub const STEPPED: usize = 3;
+
+    pub const SCALE: usize = 4;
+
+    pub const STEP_SCALE: usize = 5;
+
+    pub const MULTIPLIER: usize = 6;
+
+    pub const CURRENCY_COUNT: usize = 7;
+
+    pub const CURRENCY: usize = 8;
+}
+
+// ---- limits
+
 // The largest number of an amount, of a time, of units.
 pub const MOST: u32 = 16777215;
 
@@ -166,7 +384,7 @@ pub const NO_CHARGE: Charge = Charge {
 
 // ---- digits
 
-// Whether an octet may stand in a number: 0 to 9, or space.
+// Whether an octet is allowed in a number: 0 to 9, or space.
 pub fn is_digit(x: u8) -> bool
     ensures { λ r. ⌜ r ≡ isDigit x ⌝ }
 {

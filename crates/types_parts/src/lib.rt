@@ -4,9 +4,11 @@ use types::Currency;
 use types::Figure;
 use types::Front;
 use types::Money;
+use types::in_figure;
+use types::in_front;
 ghost use mathlib.Core.Path.{_≡_};
 ghost use Prim.Native.Nat.{_+_, _*_};
-ghost use Rattle.types.specs.Stored.{frontIn, moneyIn, associationIn, figureIn};
+ghost use Rattle.types.specs.Stored.{two, frontIn, moneyIn, associationIn, figureIn};
 
 pub fn number16(low: u8, high: u8) -> u16
     ensures { λ r. ⌜ r ≡ low + 256 * high ⌝ }
@@ -20,18 +22,31 @@ fn number32(low: u16, high: u16) -> u32
     (low as u32) + 65536 * (high as u32)
 }
 
+// The identifier and the error in a trunk's front.
+pub fn id_of(front: &[u8; 48]) -> u16
+    ensures { λ r. ⌜ r ≡ two (now (front .entry)) 2 ⌝ }
+{
+    number16(front[2], front[3])
+}
+
+pub fn error_of(front: &[u8; 48]) -> u16
+    ensures { λ r. ⌜ r ≡ two (now (front .entry)) 4 ⌝ }
+{
+    number16(front[4], front[5])
+}
+
 // What lies in a front's 8 octets.
 pub fn front_of(f: &[u8; 8]) -> Front
     ensures { λ r. ⌜ r ≡ frontIn (now (f .entry)) ⌝ }
 {
     Front {
-        frame: f[0],
-        unnamed: f[1],
-        id: number16(f[2], f[3]),
-        operation: f[4],
-        error: f[5],
-        problem: f[6],
-        detail: f[7],
+        frame: f[in_front::FRAME],
+        unnamed: f[in_front::UNNAMED],
+        id: number16(f[in_front::ID], f[in_front::ID_HIGH]),
+        operation: f[in_front::OPERATION],
+        error: f[in_front::ERROR],
+        problem: f[in_front::PROBLEM],
+        detail: f[in_front::DETAIL],
     }
 }
 
@@ -44,16 +59,19 @@ pub fn money_of(f: &[u8; 48]) -> Money
     let mut octets: [u8; 10] = [0; 10];
     let mut i = 0;
     while i < 10 {
-        octets[i] = f[1 + i];
+        octets[i] = f[in_figure::CURRENCY + i];
         i += 1;
     }
     Money {
         currency: Currency {
-            count: f[0],
+            count: f[in_figure::CURRENCY_COUNT],
             octets,
         },
-        multiplier: f[11],
-        number: number32(number16(f[12], f[13]), number16(f[14], f[15])),
+        multiplier: f[in_figure::MULTIPLIER],
+        number: number32(
+            number16(f[in_figure::NUMBER], f[in_figure::NUMBER_1]),
+            number16(f[in_figure::NUMBER_2], f[in_figure::NUMBER_3]),
+        ),
     }
 }
 
@@ -64,14 +82,14 @@ pub fn association_of(f: &[u8; 48]) -> Association
     let mut digits: [u8; 20] = [0; 20];
     let mut i = 0;
     while i < 20 {
-        digits[i] = f[22 + i];
+        digits[i] = f[in_figure::DIGITS + i];
         i += 1;
     }
     Association {
-        id: number16(f[16], f[17]),
-        count: number16(f[18], f[19]),
-        kind: f[20],
-        plan: f[21],
+        id: number16(f[in_figure::ID], f[in_figure::ID_HIGH]),
+        count: number16(f[in_figure::DIGITS_COUNT], f[in_figure::DIGITS_COUNT_HIGH]),
+        kind: f[in_figure::ASSOCIATION_KIND],
+        plan: f[in_figure::PLAN],
         digits,
     }
 }
@@ -84,11 +102,11 @@ pub fn figure_of(f: &[u8; 48]) -> Figure
     Figure {
         money,
         association,
-        kind: f[42],
-        total: f[43],
-        billed: f[44],
-        billing: f[45],
-        arrangement: f[46],
-        count: f[47],
+        kind: f[in_figure::KIND],
+        total: f[in_figure::TOTAL],
+        billed: f[in_figure::BILLED],
+        billing: f[in_figure::BILLING],
+        arrangement: f[in_figure::ARRANGEMENT],
+        count: f[in_figure::COUNT],
     }
 }

@@ -6,7 +6,7 @@ use Rattle.prelude.proofs.Ways.{by-cases}
 use Rattle.outcomes.{specs.Outcome.firstFinal, specs.Outcome.judge, specs.Outcome.chargeIn, specs.Outcome.its, proofs.Judging.only-final}
 use Rattle.account.specs.History.{Judged, any, known, judged, phase, hasFinal, final, closing}
 use Rattle.events.{specs.Earliest.orElse, specs.Earliest.earliest, proofs.Earliest.at-most}
-use Rattle.why_rules.specs.{declared.Reason.Reason, Reasons.ifFound, Reasons.explained, Reasons.reasonOf, Seeing.seenBy}
+use Rattle.why_rules.specs.{declared.Reason.Reason, Reasons.ifFound, Reasons.explained, Reasons.reasonOf, inner.Seeing.seenBy}
 
 -- the charge of event n
 abbrev pub chargeAt : ℕ → List Judged → Charge

@@ -1,1 +1,1 @@
-pub mod Seeing
+pub mod inner

@@ -1,9 +1,13 @@
 // Why a call has no price: one reason, and the number of an event, from the call's event list.
 //
-// An account is kept beside the numbers of the events seen, so that each event is judged once.
+// An account is kept beside the numbers of the events seen, so that each event is checked once.
 use account::Account;
+use coding::refusal;
 use phases::Event;
 use phases::Outcome;
+use types::charge_kind;
+use types::frame;
+use types::operation;
 use why_rules::Reason;
 use why_rules::Seen;
 ghost use mathlib.Core.Path.{_≡_};
@@ -12,7 +16,9 @@ ghost use lib.ListN.{length};
 ghost use Rattle.types.specs.Frames.{readOf};
 ghost use Rattle.events.specs.Events.{addsUp, eventsOf};
 ghost use Rattle.why_rules.specs.Reasons.{isFigure, passedOver, reasonOf, whyOf};
-ghost use Rattle.why.specs.Seeing.{turnOf};
+ghost use Rattle.why.specs.inner.Seeing.{turnOf};
+
+const LENGTHS: u32 = refusal::LENGTHS as u32;
 
 #[repr(C)]
 struct State {
@@ -26,22 +32,30 @@ fn is_figure(octets: &[u8]) -> bool
     ensures { λ r. ⌜ r ≡ isFigure (readOf (now (octets .entry)) .value) ⌝ }
 {
     let a = read::read(octets);
-    if a.value.front.frame != 1 {
+    if a.value.front.frame != frame::INVOKE {
         return false;
     }
-    if !events::within(33, a.value.front.operation, 36) {
+    if !events::within(
+        operation::D_CURRENCY,
+        a.value.front.operation,
+        operation::E_UNITS,
+    ) {
         return false;
     }
-    events::within(1, a.value.charge.figure.kind, 3)
+    events::within(
+        charge_kind::FREE,
+        a.value.charge.figure.kind,
+        charge_kind::UNITS,
+    )
 }
 
 fn passed_over(o: Outcome, octets: &[u8]) -> bool
     ensures { λ r. ⌜ r ≡ passedOver o (now (octets .entry)) ⌝ }
 {
-    if o.number == 26 {
+    if o.number == outcomes::IGNORED {
         return is_figure(octets);
     }
-    if o.number == 27 {
+    if o.number == outcomes::OUT_OF_PHASE {
         return is_figure(octets);
     }
     false
@@ -99,7 +113,7 @@ pub fn why(rows: &[u16], octets: &[u8]) -> Reason
 {
     if !events::adds_up(rows, octets.len()) {
         return Reason {
-            number: 48,
+            number: LENGTHS,
             reason: 0,
             event: 0,
         };

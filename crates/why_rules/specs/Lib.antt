@@ -1,2 +1,2 @@
 pub mod Reasons
-pub mod Seeing
+pub mod inner

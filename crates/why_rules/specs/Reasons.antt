@@ -24,7 +24,7 @@ isFigure c = eqb (c .front .frame) 1 && (within 33 (c .front .operation) 36 && w
 abbrev pub passedOver : Outcome → List ℕ → Bool
 passedOver r o = (was 26 r || was 27 r) && isFigure (readOf o .value)
 
--- D or E told not available
+-- D or E reported as not available
 abbrev pub toldAbsent : Outcome → Bool
 toldAbsent r = its D 23 r || its E 23 r
 
@@ -41,7 +41,7 @@ because n event = record { number = 0; reason = n; event = event }
 abbrev pub ifFound : ℕ → ℕ → Reason → Reason
 ifFound n event rest = cond (eqb event 0) rest (because n event)
 
--- 1 still open; 2 there is a closing figure: E's only 22, else D's; 3 a figure was ignored or out of phase; 4 told not available;
+-- 1 still open; 2 there is a closing figure: E's only 22, else D's; 3 a figure was ignored or out of phase; 4 reported as not available;
 -- 5 only running figures; 6 a component was refused; 7 nothing usable came in time
 unfoldable pub explained : List Judged → Reason
 explained h =

@@ -1,8 +1,25 @@
 // Says why a call has no price, by value: what is remembered of the events so far, and the reason that follows from it.
+use coding::refusal;
 use phases::Outcome;
+use requests::service;
 ghost use mathlib.Core.Path.{_≡_};
 ghost use Rattle.why_rules.specs.Reasons.{toldAbsent, unread, because, ifFound};
-ghost use Rattle.why_rules.specs.Seeing.{concluded, seenNext};
+ghost use Rattle.why_rules.specs.inner.Seeing.{concluded, seenNext};
+
+// The reasons, each by its name in include/aoc.h.
+pub const OPEN: u32 = 1;
+
+pub const PRICED: u32 = 2;
+
+pub const PASSED_OVER: u32 = 3;
+
+pub const NOT_AVAILABLE: u32 = 4;
+
+pub const RUNNING: u32 = 5;
+
+pub const REFUSED: u32 = 6;
+
+pub const NOTHING: u32 = 7;
 
 // number: 48 for slices that are no event list, and then the rest is 0. reason: 1 to 7. event: its number, from 1; 0 for none.
 #[repr(C)]
@@ -28,19 +45,19 @@ pub struct Seen {
 fn told_absent(o: Outcome) -> bool
     ensures { λ r. ⌜ r ≡ toldAbsent o ⌝ }
 {
-    if outcomes::is_its(o, 2, 23) {
+    if outcomes::is_its(o, service::D, outcomes::NOT_AVAILABLE) {
         return true;
     }
-    outcomes::is_its(o, 3, 23)
+    outcomes::is_its(o, service::E, outcomes::NOT_AVAILABLE)
 }
 
 fn is_unread(o: Outcome) -> bool
     ensures { λ r. ⌜ r ≡ unread o ⌝ }
 {
-    if events::within(1, o.number, 9) {
+    if events::within(refusal::CUT, o.number, 9) {
         return true;
     }
-    events::within(40, o.number, 45)
+    events::within(refusal::MISSING, o.number, refusal::PAST_LIMIT)
 }
 
 // ---- one event
@@ -49,11 +66,19 @@ fn is_unread(o: Outcome) -> bool
 pub fn seen_next(s: Seen, o: Outcome, figure: bool, n: u64) -> Seen
     ensures { λ r. ⌜ r ≡ seenNext s o figure n ⌝ }
 {
-    let efinal = events::or_else(s.efinal, outcomes::is_its(o, 3, 22), n);
-    let dfinal = events::or_else(s.dfinal, outcomes::is_its(o, 2, 22), n);
+    let efinal = events::or_else(
+        s.efinal,
+        outcomes::is_its(o, service::E, outcomes::FINAL),
+        n,
+    );
+    let dfinal = events::or_else(
+        s.dfinal,
+        outcomes::is_its(o, service::D, outcomes::FINAL),
+        n,
+    );
     let passed = events::or_else(s.figure, figure, n);
     let absent = events::or_else(s.absent, told_absent(o), n);
-    let running = events::or_else(s.running, o.number == 21, n);
+    let running = events::or_else(s.running, o.number == outcomes::NEW_RUNNING, n);
     let refused = events::or_else(s.refused, is_unread(o), n);
     Seen {
         efinal,
@@ -89,14 +114,14 @@ fn if_found(reason: u32, event: u64, rest: Reason) -> Reason
 pub fn concluded(phase: u8, s: Seen) -> Reason
     ensures { λ r. ⌜ r ≡ concluded phase s ⌝ }
 {
-    if phase != 4 {
-        return because(1, 0);
+    if phase != phases::ENDED {
+        return because(OPEN, 0);
     }
-    let nothing = because(7, 0);
-    let refused = if_found(6, s.refused, nothing);
-    let running = if_found(5, s.running, refused);
-    let absent = if_found(4, s.absent, running);
-    let figure = if_found(3, s.figure, absent);
-    let dfinal = if_found(2, s.dfinal, figure);
-    if_found(2, s.efinal, dfinal)
+    let nothing = because(NOTHING, 0);
+    let refused = if_found(REFUSED, s.refused, nothing);
+    let running = if_found(RUNNING, s.running, refused);
+    let absent = if_found(NOT_AVAILABLE, s.absent, running);
+    let figure = if_found(PASSED_OVER, s.figure, absent);
+    let dfinal = if_found(PRICED, s.dfinal, figure);
+    if_found(PRICED, s.efinal, dfinal)
 }

@@ -1,6 +1,6 @@
 -- What writing answers and leaves, of a value of any family of frames.
 use Rattle.prelude.proofs.Prelude.{ℕ, _≤_, _<_, arith, zero-add, _≡_, refl, ap, _∙_, true, false, List, _++_, length, take, drop, take-append-seam, sets-eq, leb, leb-true, le-leb, lt-leb}
-use Rattle.coding.specs.{Codec.Run, Written.Wrote}
+use Rattle.coding.specs.{Codec.Run, inner.Written.Wrote}
 use Rattle.prelude.proofs.Ways.{by-cases}
 use Rattle.write.specs.{declared.Written.Written, Outcome.done, Outcome.no, Outcome.writeFamily, Outcome.leftFamily}
 

@@ -1,3 +1,4 @@
+pub mod Laid
 pub mod Valid
 pub mod Octets
 pub mod Outcomes

@@ -2,17 +2,17 @@
 use Rattle.prelude.proofs.Prelude.{ℕ, zero, suc, _+_, arith, _≡_, ap, ap₂, sym, _∙_, Bool, true, false, cond, _⊎_, inl, inr, List, [], _∷_, _++_, append-assoc, append-nil, length}
 use Rattle.prelude.proofs.Prelude.{length-append, eqb}
 use Rattle.coding.{specs.Codec.prim, specs.Codec.cons, specs.Codec.alt, specs.Codec.canonical, specs.Codec.over, specs.Codec.sort, specs.Codec.frames, specs.Codec.leads, specs.Codec.barring}
-use Rattle.coding.{specs.Codec.marked, specs.Codec.lengthOctets, specs.Leaves.number, specs.Leaves.identifier, specs.Leaves.listed, specs.Written.Wrote, specs.Written.Room}
-use Rattle.coding.{specs.Written.lead, specs.Written.fullNumber, proofs.Basic.picked, proofs.Basic.unpicked, proofs.Small.small-length, proofs.Small.null-write}
+use Rattle.coding.{specs.Codec.marked, specs.Codec.lengthOctets, specs.Leaves.number, specs.Leaves.identifier, specs.Leaves.listed, specs.inner.Written.Wrote, specs.inner.Written.Room}
+use Rattle.coding.{specs.inner.Written.lead, specs.inner.Written.fullNumber, proofs.Basic.picked, proofs.Basic.unpicked, proofs.Small.small-length, proofs.Small.null-write}
 use Rattle.prelude.proofs.Ways.{by-cases}
 use Rattle.coding.{proofs.Writing.number-write, proofs.Writing.wrote-as, proofs.Writing.Split, proofs.Writing.room-first, proofs.Writing.room-rest, proofs.Writing.room-as}
 use Rattle.coding.{proofs.Writing.wrote-parts}
 use Rattle.types.specs.{declared.Front.Front, declared.Record.Record, declared.Charge.Charge, Arguments.chargeOf, Frames.operations, Frames.errors, Frames.component, Frames.frame}
 use Rattle.types.specs.{Frames.invoke, Frames.returnResult, Frames.returnError, Frames.reject, Frames.value, Frames.argument, Frames.request, Frames.carrying, Frames.failed, Frames.caller}
 use Rattle.types.specs.{Frames.problem, Frames.problems, Frames.frontBy}
-use Rattle.write_heads.specs.Fronts.{charged, frontFine, frontOctets}
+use Rattle.write_heads.specs.inner.Fronts.{charged, frontFine, frontOctets}
 use Rattle.write_heads.proofs.Sizes.{small-operation, reject-problem, problem-tag}
-use Rattle.write.specs.Halves.{frontOf, recordOf, chargeOctets, bodyOf}
+use Rattle.write.specs.inner.Halves.{frontOf, recordOf, chargeOctets, bodyOf}
 
 -- an operation or error value
 value-write : (unknown : ℕ) (known : List ℕ) (n : ℕ) → (value unknown known) .write n ≡ fullNumber 0x02 n

@@ -1,3 +1,2 @@
 pub mod Outcome
-pub mod Halves
-pub mod Handed
+pub mod inner

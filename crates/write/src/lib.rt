@@ -1,17 +1,25 @@
 // Components: written in their shortest form. All is decided before a single octet is stored.
+use coding::refusal;
 use types::Figure;
-use write_figures::Outline;
+use types::charge_kind;
+use types::operation;
 ghost use mathlib.Core.Path.{_≡_};
 ghost use mathlib.Core.Bool.{true, false, _||_, cond};
 ghost use Prim.Native.Nat.{_≤_, _<_};
 ghost use lib.ListN.{length};
 ghost use lib.Dec.{eqb};
-ghost use Rattle.coding.specs.Written.{Wrote, Room};
-ghost use Rattle.write_heads.specs.Fronts.{frontFine, charged};
+ghost use Rattle.coding.specs.inner.Written.{Wrote, Room};
+ghost use Rattle.write_heads.specs.inner.Fronts.{frontFine, charged};
 ghost use Rattle.write.specs.Outcome.{no, writeOf, leftOf};
-ghost use Rattle.types.specs.Stored.{withList};
-ghost use Rattle.write.specs.Handed.{handed};
-ghost use Rattle.write.specs.Halves.{recordOf, fineOf, chargeOctets, bodyOf};
+ghost use Rattle.types.specs.Stored.{figureIn, withList, storedCharge};
+ghost use Rattle.write.specs.inner.Halves.{recordOf, fineOf, chargeOctets, bodyOf};
+
+// As wide as the answer has them.
+const BAD_RECORD: u32 = refusal::BAD_RECORD as u32;
+
+const LONG_RECORD: u32 = refusal::LONG_RECORD as u32;
+
+const NO_ROOM: u32 = refusal::NO_ROOM as u32;
 
 // What writing answers: 0 and the octets written, or the refusal's number and 0.
 #[repr(C)]
@@ -26,14 +34,14 @@ fn refuse(number: u32) -> Written
     Written { number, count: 0 }
 }
 
-// Whether a charge of a kind may stand beside a front: any where one follows, none where none does.
+// Whether a charge of a kind is allowed beside a front: any where one follows, none where none does.
 fn may_hold(f: types::Front, kind: u8) -> bool
     ensures { λ r. ⌜ r ≡ charged f || eqb kind 0 ⌝ }
 {
     if write_heads::is_charged(f) {
         return true;
     }
-    kind == 0
+    kind == charge_kind::NONE
 }
 
 // The operation by which a charge is tested: its own, or, where none follows, one to which no charge at all is fine.
@@ -45,19 +53,18 @@ fn tested_by(f: types::Front) -> u8
     if write_heads::is_charged(f) {
         return f.operation;
     }
-    32
+    operation::S_SPECIAL
 }
 
 // Whether a record may be written.
 fn record_fine(
     f: types::Front,
     figure: Figure,
-    currency: &[u8; 10],
-    digits: &[u8; 20],
+    stored: &[u8; 48],
     numbers: &[u32; 32],
     rows: &[u8; 192],
 ) -> bool
-    requires { ⌜ (now currency ≡ figure .money .currency .octets) × (now digits ≡ figure .association .digits) ⌝ }
+    requires { ⌜ figure ≡ figureIn (now stored) ⌝ }
     ensures { λ r. ⌜ r ≡ fineOf f (withList figure (now (numbers .entry)) (now (rows .entry))) ⌝ }
     ensures long { λ _. ⌜ length (now (rows .entry)) ≡ 192 ⌝ }
 {
@@ -70,7 +77,7 @@ fn record_fine(
     if !may_hold(f, figure.kind) {
         return false;
     }
-    write_charges::charge_fine(figure, currency, digits, numbers, rows, tested_by(f))
+    write_charges::charge_fine(figure, stored, numbers, rows, tested_by(f))
 }
 
 // The octets of a charge that follows.
@@ -110,30 +117,29 @@ fn put_body(
 fn put_record(
     f: types::Front,
     figure: Figure,
-    currency: &[u8; 10],
-    digits: &[u8; 20],
+    stored: &[u8; 48],
     numbers: &[u32; 32],
     rows: &[u8; 192],
     buf: &mut [u8],
 ) -> Written
-    requires { ⌜ (now currency ≡ figure .money .currency .octets) × (now digits ≡ figure .association .digits) ⌝ }
+    requires { ⌜ figure ≡ figureIn (now stored) ⌝ }
     ensures { λ w. ⌜ w ≡ writeOf (recordOf f (withList figure (now (numbers .entry)) (now (rows .entry)))) (length (now (buf .entry))) ⌝ }
     ensures left { λ w. ⌜ now (buf .exit) ≡ leftOf (recordOf f (withList figure (now (numbers .entry)) (now (rows .entry)))) (now (buf .entry)) ⌝ }
 {
-    if !record_fine(f, figure, currency, digits, numbers, rows) {
-        return refuse(10);
+    if !record_fine(f, figure, stored, numbers, rows) {
+        return refuse(BAD_RECORD);
     }
     let n = charge_size(f, figure, numbers, rows);
     if 250 <= n {
-        return refuse(11);
+        return refuse(LONG_RECORD);
     }
     let m = write_heads::front_size(f, n) + n;
     if 251 < m {
-        return refuse(11);
+        return refuse(LONG_RECORD);
     }
     let whole = write_elements::element_size(m);
     if buf.len() < whole {
-        return refuse(12);
+        return refuse(NO_ROOM);
     }
     let p = write_elements::put_lead(buf, 0, 0xa0 + f.frame, m);
     let q = put_body(buf, p, f, figure, numbers, rows, n);
@@ -141,52 +147,95 @@ fn put_record(
     Written { number: 0, count }
 }
 
-// Writes a record, handed over in parts, into a lent buffer. Numbers go by value and arrays are lent, so that none is copied.
+// Writes a record into the caller's buffer. Its front goes by value, its figure and its list as they lie in a host's memory.
 pub fn write_from(
     f: types::Front,
-    o: Outline,
-    number: u32,
-    currency: &[u8; 10],
-    digits: &[u8; 20],
+    figure: &[u8; 48],
     numbers: &[u32; 32],
     rows: &[u8; 192],
     buf: &mut [u8],
 ) -> Written
-    ensures { λ w. ⌜ w ≡ writeOf (handed f o number (now (currency .entry)) (now (digits .entry)) (now (numbers .entry)) (now (rows .entry))) (length (now (buf .entry))) ⌝ }
-    ensures left { λ w. ⌜ now (buf .exit) ≡ leftOf (handed f o number (now (currency .entry)) (now (digits .entry)) (now (numbers .entry)) (now (rows .entry))) (now (buf .entry)) ⌝ }
+    ensures { λ w. ⌜ w ≡ writeOf (record { front = f; charge = storedCharge (now (figure .entry)) (now (numbers .entry)) (now (rows .entry)) }) (length (now (buf .entry))) ⌝ }
+    ensures left { λ w. ⌜ now (buf .exit) ≡ leftOf (record { front = f; charge = storedCharge (now (figure .entry)) (now (numbers .entry)) (now (rows .entry)) }) (now (buf .entry)) ⌝ }
 {
-    let figure = write_figures::figure_of(o, number, currency, digits);
-    put_record(f, figure, currency, digits, numbers, rows, buf)
+    let g = types_parts::figure_of(figure);
+    put_record(f, g, figure, numbers, rows, buf)
 }
 
-// Writes a record into a lent buffer.
+// The 48 octets that a figure lies in.
+fn octets_of(f: Figure) -> [u8; 48]
+    ensures { λ r. ⌜ figureIn r ≡ f ⌝ }
+{
+    let m = f.money;
+    let c = m.currency;
+    let a = f.association;
+    let o = c.octets;
+    let d = a.digits;
+    let n = m.number;
+    let i = a.id;
+    let k = a.count;
+    [
+        c.count,
+        o[0],
+        o[1],
+        o[2],
+        o[3],
+        o[4],
+        o[5],
+        o[6],
+        o[7],
+        o[8],
+        o[9],
+        m.multiplier,
+        (n % 256) as u8,
+        (n / 256 % 256) as u8,
+        (n / 65536 % 256) as u8,
+        (n / 16777216) as u8,
+        (i % 256) as u8,
+        (i / 256) as u8,
+        (k % 256) as u8,
+        (k / 256) as u8,
+        a.kind,
+        a.plan,
+        d[0],
+        d[1],
+        d[2],
+        d[3],
+        d[4],
+        d[5],
+        d[6],
+        d[7],
+        d[8],
+        d[9],
+        d[10],
+        d[11],
+        d[12],
+        d[13],
+        d[14],
+        d[15],
+        d[16],
+        d[17],
+        d[18],
+        d[19],
+        f.kind,
+        f.total,
+        f.billed,
+        f.billing,
+        f.arrangement,
+        f.count,
+    ]
+}
+
+// Writes a record into the caller's buffer.
 pub fn write(r: types::Record, buf: &mut [u8]) -> Written
     ensures { λ w. ⌜ w ≡ writeOf r (length (now (buf .entry))) ⌝ }
     ensures left { λ w. ⌜ now (buf .exit) ≡ leftOf r (now (buf .entry)) ⌝ }
 {
     let f = r.front;
-    let figure = r.charge.figure;
-    let money = figure.money;
-    let currency = money.currency;
-    let association = figure.association;
+    let g = r.charge.figure;
     let entries = r.charge.entries;
-    let o = Outline {
-        id: association.id,
-        digits: association.count,
-        currency: currency.count,
-        multiplier: money.multiplier,
-        party: association.kind,
-        plan: association.plan,
-        kind: figure.kind,
-        total: figure.total,
-        billed: figure.billed,
-        billing: figure.billing,
-        arrangement: figure.arrangement,
-        count: figure.count,
-    };
-    let octets = currency.octets;
-    let digits = association.digits;
+    let figure = octets_of(g);
     let numbers = entries.numbers;
     let rows = entries.octets;
-    write_from(f, o, money.number, &octets, &digits, &numbers, &rows, buf)
+    write_from(f, &figure, &numbers, &rows, buf)
 }

@@ -1,14 +1,14 @@
 -- What a valid charge holds, by its kind, and its octets.
 use Rattle.prelude.proofs.Prelude.{ℕ, _+_, _≤_, _≡_, sym, ap, _∙_, true, false, _&&_, List, _++_, arith, length, eq-eqb, ne-eqb}
-use Rattle.coding.{specs.Codec.all, specs.Codec.writeAll, specs.Written.Wrote, specs.Written.Room, proofs.Basic.and-left, proofs.Basic.and-right}
+use Rattle.coding.{specs.Codec.all, specs.Codec.writeAll, specs.inner.Written.Wrote, specs.inner.Written.Room, proofs.Basic.and-left, proofs.Basic.and-right}
 use Rattle.types.specs.{declared.Entries.Entries, declared.Figure.Figure, declared.Charge.Charge, Entries.unit, Entries.unitAt, Entries.unitRows, Entries.unitList}
 use Rattle.types.specs.Arguments.{sameEntries, chargeOf}
-use Rattle.write_tests.{specs.Fine.figureFine, specs.Fine.unitsFine, specs.Fine.ratesFine, specs.Fine.entriesFine, proofs.Valid.charge-fine}
-use Rattle.write_figures.{specs.Octets.element, specs.Octets.written, specs.Octets.contents, specs.Octets.before, specs.Octets.after, proofs.Forms.charge-write}
+use Rattle.write_tests.{specs.inner.Fine.figureFine, specs.inner.Fine.unitsFine, specs.inner.Fine.ratesFine, specs.inner.Fine.entriesFine, proofs.Valid.charge-fine}
+use Rattle.write_figures.{specs.inner.Octets.element, specs.inner.Octets.written, specs.inner.Octets.contents, specs.inner.Octets.before, specs.inner.Octets.after, proofs.Forms.charge-write}
 use Rattle.write_figures.proofs.Frames.{fine-marks, ended-split}
 use Rattle.write_rate.proofs.Three.{Three, three-length, room-1, room-2, room-3, wrote-3}
-use Rattle.write_rates.{specs.Arrays.ratesCharge, proofs.Listed.few-valid, proofs.Listed.list-same}
-use Rattle.write_charges.specs.Octets.{unitsCharge}
+use Rattle.write_rates.{specs.inner.Arrays.ratesCharge, proofs.Listed.few-valid, proofs.Listed.list-same}
+use Rattle.write_charges.specs.inner.Octets.{unitsCharge}
 
 -- ---- the list
 

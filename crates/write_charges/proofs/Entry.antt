@@ -2,12 +2,12 @@
 use Rattle.prelude.proofs.Prelude.{ℕ, zero, suc, _+_, _<_, _≡_, sym, ap, _∙_, List, _++_, Bool, true, _&&_, and-comm, cond, arith, length, length-append, leb, eqb, leb·zero, leb-true}
 use Rattle.prelude.proofs.Prelude.{le-leb, ne-eqb}
 use Rattle.coding.{specs.Codec.prim, specs.Codec.cons, specs.Codec.pair, specs.Codec.alt, specs.Codec.maybe, specs.Codec.over, specs.Codec.canonical, specs.Leaves.number}
-use Rattle.coding.{specs.Leaves.nullLeaf, specs.Written.Wrote, specs.Written.Room, specs.Written.lead, proofs.Basic.and-left, proofs.Writing.cons-write, proofs.Writing.number-write}
+use Rattle.coding.{specs.Leaves.nullLeaf, specs.inner.Written.Wrote, specs.inner.Written.Room, specs.inner.Written.lead, proofs.Basic.and-left, proofs.Writing.cons-write, proofs.Writing.number-write}
 use Rattle.coding.proofs.{Writing.lead-length-short, Tests.and-true, Tests.and-false, Tests.eqb-self, Small.null-write}
 use Rattle.prelude.proofs.Ways.{by-cases}
 use Rattle.types.specs.{declared.Units.Units, Entries.unit}
 use Rattle.write_rate.proofs.{Prices.zero-first, Three.Three, Three.three-length, Three.room-1, Three.room-2, Three.room-3, Three.wrote-3}
-use Rattle.write_charges.specs.Octets.{numberOctets, typeOctets}
+use Rattle.write_charges.specs.inner.Octets.{numberOctets, typeOctets}
 
 -- ---- which may be written
 

@@ -2,8 +2,8 @@
 use Rattle.prelude.proofs.Prelude.{ℕ, _+_, _*_, _≤_, _<_, _≡_, refl, sym, ap, _∙_, not, _&&_, List, [], _∷_, arith, one-mul, add-one, length, getD, take, drop, leb, eqb}
 use Rattle.coding.specs.Codec.{all}
 use Rattle.types.specs.Entries.{unit, unitNumbers, unitOctets, unitAt, unitList}
-use Rattle.write_tests.specs.Fine.{laid, unitsFine}
-use Rattle.write_rates.{specs.Arrays.unusedZero, proofs.Tables.picks, proofs.Tables.picks-taken, proofs.Tables.list-fine}
+use Rattle.write_tests.specs.inner.Fine.{laid, unitsFine}
+use Rattle.write_rates.{specs.inner.Arrays.unusedZero, proofs.Tables.picks, proofs.Tables.picks-taken, proofs.Tables.list-fine}
 
 -- a row holds its entry: a number and two octets
 module _ (numbers octets : List ℕ) (i : ℕ) where

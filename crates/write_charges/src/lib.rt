@@ -1,19 +1,20 @@
 // Charges that may hold a list: which may be written, how many octets they take, and their octets.
 //
-// A list stands in two arrays, which are lent and never copied in a loop.
+// A list lies in two arrays of the caller, which are never copied in a loop.
 use types::Figure;
 use types::Units;
+use types::charge_kind;
 ghost use mathlib.Core.Path.{_≡_};
 ghost use mathlib.Core.Bool.{true};
 ghost use Prim.Native.Nat.{_≤_, _<_};
 ghost use lib.ListN.{length};
 ghost use Rattle.coding.specs.Codec.{all, writeAll};
-ghost use Rattle.coding.specs.Written.{Wrote, Room};
+ghost use Rattle.coding.specs.inner.Written.{Wrote, Room};
 ghost use Rattle.types.specs.Entries.{unit, unitAt, unitList};
 ghost use Rattle.types.specs.Arguments.{chargeOf};
-ghost use Rattle.write_tests.specs.Fine.{laid, figureFine, unitsFine, entriesFine};
-ghost use Rattle.types.specs.Stored.{withList};
-ghost use Rattle.write_charges.specs.Octets.{numberOctets, typeOctets, unitsCharge};
+ghost use Rattle.write_tests.specs.inner.Fine.{laid, figureFine, unitsFine, entriesFine};
+ghost use Rattle.types.specs.Stored.{figureIn, withList};
+ghost use Rattle.write_charges.specs.inner.Octets.{numberOctets, typeOctets, unitsCharge};
 
 // ---- an entry of units
 
@@ -178,10 +179,10 @@ fn entries_fine(f: Figure, numbers: &[u32; 32], rows: &[u8; 192]) -> bool
     requires { ⌜ (length (now numbers) ≡ 32) × (length (now rows) ≡ 192) ⌝ }
     ensures { λ r. ⌜ r ≡ entriesFine (withList f (now (numbers .entry)) (now (rows .entry))) ⌝ }
 {
-    if f.kind == 3 {
+    if f.kind == charge_kind::UNITS {
         return units_fine(numbers, rows, f.count);
     }
-    if f.kind == 4 {
+    if f.kind == charge_kind::RATES {
         return write_rates::rates_fine(numbers, rows, f.count, false);
     }
     if f.count != 0 {
@@ -190,21 +191,20 @@ fn entries_fine(f: Figure, numbers: &[u32; 32], rows: &[u8; 192]) -> bool
     write_tests::no_entries(numbers, rows)
 }
 
-// Whether a charge may be written as the argument or result of an operation.
+// Whether a charge may be written as the argument or result of an operation. Its figure is tested where it lies.
 pub fn charge_fine(
     f: Figure,
-    currency: &[u8; 10],
-    digits: &[u8; 20],
+    figure: &[u8; 48],
     numbers: &[u32; 32],
     rows: &[u8; 192],
     operation: u8,
 ) -> bool
     requires { ⌜ (30 ≤ operation) × (operation ≤ 36) ⌝ }
-    requires { ⌜ (now currency ≡ f .money .currency .octets) × (now digits ≡ f .association .digits) ⌝ }
+    requires { ⌜ f ≡ figureIn (now figure) ⌝ }
     requires { ⌜ (length (now numbers) ≡ 32) × (length (now rows) ≡ 192) ⌝ }
     ensures { λ r. ⌜ r ≡ (chargeOf operation) .valid (withList f (now (numbers .entry)) (now (rows .entry))) ⌝ }
 {
-    if !write_tests::parts_fine(f, currency, digits, operation) {
+    if !write_tests::parts_fine(figure, operation) {
         return false;
     }
     entries_fine(f, numbers, rows)
@@ -219,10 +219,10 @@ pub fn charge_size(f: Figure, numbers: &[u32; 32], rows: &[u8; 192], operation: 
     ensures few { λ r. ⌜ r ≤ 600 ⌝ }
 {
     let n = f.count as usize;
-    if f.kind == 3 {
+    if f.kind == charge_kind::UNITS {
         return write_figures::priced_size(f, operation, units_size(numbers, rows, n));
     }
-    if f.kind == 4 {
+    if f.kind == charge_kind::RATES {
         return write_figures::sized(write_rates::rates_size(numbers, rows, n));
     }
     write_figures::figure_size(f, operation)
@@ -265,10 +265,10 @@ pub fn put_charge(
     requires { ⌜ Room (now buf) at ((chargeOf operation) .write (withList f (now numbers) (now rows))) ⌝ }
     ensures { λ r. ⌜ Wrote (now (buf .entry)) (now (buf .exit)) at ((chargeOf operation) .write (withList f (now (numbers .entry)) (now (rows .entry)))) r ⌝ }
 {
-    if f.kind == 3 {
+    if f.kind == charge_kind::UNITS {
         return put_units_charge(buf, at, f, numbers, rows, operation);
     }
-    if f.kind == 4 {
+    if f.kind == charge_kind::RATES {
         return write_rates::put_rates_charge(buf, at, numbers, rows, f.count);
     }
     write_figures::put_figure(buf, at, f, operation)

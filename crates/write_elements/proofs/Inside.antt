@@ -1,6 +1,6 @@
 -- Where there is room for a lead or an identifier, its places are inside the buffer.
 use Rattle.prelude.proofs.Prelude.{ℕ, _+_, _≤_, _<_, arith, List, length}
-use Rattle.coding.{specs.Codec.prim, specs.Leaves.identifier, specs.Written.Room, specs.Written.lead, proofs.Small.id-two, proofs.Writing.lead-length, proofs.Writing.lead-long}
+use Rattle.coding.{specs.Codec.prim, specs.Leaves.identifier, specs.inner.Written.Room, specs.inner.Written.lead, proofs.Small.id-two, proofs.Writing.lead-length, proofs.Writing.lead-long}
 use Rattle.coding.{proofs.Writing.room-as}
 
 module _ {l : List ℕ} {a : ℕ} (tag n : ℕ) (h : Room l a (lead tag n)) where

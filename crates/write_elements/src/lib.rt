@@ -8,7 +8,7 @@ ghost use mathlib.Core.List.{[], _∷_, _++_};
 ghost use lib.ListN.{length, take};
 ghost use Rattle.coding.specs.Codec.{prim, lengthOctets};
 ghost use Rattle.coding.specs.Leaves.{identifier, width, digits};
-ghost use Rattle.coding.specs.Written.{Wrote, Room, lead, fullNumber};
+ghost use Rattle.coding.specs.inner.Written.{Wrote, Room, lead, fullNumber};
 
 // How many octets a shortest number has.
 pub fn width_of(n: u32) -> usize

@@ -4,7 +4,7 @@ use Rattle.prelude.proofs.Prelude.{length-append, length-take}
 use Rattle.prelude.proofs.Prelude.{length-take-le, ltb, leb, leb·zero, eqb, eq-eqb, ne-eqb, eqb-true, eqb-false, le-ltb, ltb-true, ltb-false}
 use Rattle.coding.{specs.Codec.canonical, specs.Codec.over, specs.Codec.shape, specs.Codec.prim, specs.Codec.pair, specs.Codec.sort, specs.Codec.nothing, specs.Codec.leafOver, specs.Codec.cons}
 use Rattle.coding.{specs.Codec.lengthOctets, specs.Codec.padded, specs.Leaves.number, specs.Leaves.string, specs.Leaves.identifier, specs.Leaves.only, specs.Leaves.width}
-use Rattle.coding.{specs.Written.Wrote, specs.Written.Room, specs.Written.lead, specs.Written.fullNumber, proofs.Basic.and-left, proofs.Basic.and-right, proofs.Basic.and-both, proofs.Basic.unpicked}
+use Rattle.coding.{specs.inner.Written.Wrote, specs.inner.Written.Room, specs.inner.Written.lead, specs.inner.Written.fullNumber, proofs.Basic.and-left, proofs.Basic.and-right, proofs.Basic.and-both, proofs.Basic.unpicked}
 use Rattle.coding.{proofs.Writing.number-write, proofs.Writing.number-length, proofs.Writing.cons-write, proofs.Writing.lead-length-short, proofs.Writing.width-range}
 use Rattle.coding.{proofs.Writing.wrote-as, proofs.Writing.wrote-both, proofs.Writing.wrote-next, proofs.Writing.wrote-none, proofs.Writing.room-as, proofs.Writing.room-head}
 use Rattle.coding.proofs.{Writing.room-tail, Small.small-length, Small.string-write, Small.string-length, Small.id-length}
@@ -12,8 +12,8 @@ use Rattle.prelude.proofs.Ways.{by-cases}
 use Rattle.types.specs.{declared.Money.Money, declared.Currency.Currency, declared.Association.Association, declared.Scaled.Scaled, Charges.zeroOctet, Charges.scaled, Charges.currencyLeaf}
 use Rattle.types.specs.{Charges.currency, Charges.money, Charges.isDigit, Charges.isPlan, Charges.digitsLeaf, Charges.digitsOf}
 use Rattle.types.specs.{Charges.identified, Charges.planned, Charges.partyNumber, Charges.plainParty, Charges.party, Charges.unassociated, Charges.association}
-use Rattle.write_figures.specs.Octets.{element, planTag}
-use Rattle.write_tests.{specs.Fine.digitsFine, specs.Fine.isPlanned, proofs.Truth.truth, proofs.Tests.scaled-is, proofs.Tests.money-is, proofs.Tests.planned-is, proofs.Tests.plain-is}
+use Rattle.write_figures.specs.inner.Octets.{element, planTag}
+use Rattle.write_tests.{specs.inner.Fine.digitsFine, specs.inner.Fine.isPlanned, proofs.Truth.truth, proofs.Tests.scaled-is, proofs.Tests.money-is, proofs.Tests.planned-is, proofs.Tests.plain-is}
 use Rattle.write_tests.{proofs.Tests.number-planned}
 use Rattle.write_tests.{proofs.Tests.number-plain, proofs.Tests.association-number}
 

@@ -2,7 +2,7 @@
 use Rattle.prelude.proofs.Prelude.{ℕ, _≡_, sym, subst, Bool, true, false, not, _&&_, or-false, eqb, ne-eqb, not-true, not-false}
 use Rattle.coding.{specs.Codec.oneOf, proofs.Tests.tests, proofs.Tests.and-assoc, proofs.Tests.eqb-self}
 use Rattle.types.specs.{Frames.frontBy, Frames.operations, declared.Front.Front}
-use Rattle.write_heads.specs.Fronts.{frontFine, called, problemFine}
+use Rattle.write_heads.specs.inner.Fronts.{frontFine, called, problemFine}
 
 -- by the frame
 pub by-frame : {r : Bool} (f : Front) (k : ℕ) → f .frame ≡ k

@@ -7,7 +7,7 @@ use Rattle.prelude.proofs.Ways.{by-cases}
 use Rattle.coding.{proofs.Writing.lead-length-short, proofs.Writing.lead-length-long}
 use Rattle.types.specs.{Frames.operations, Frames.errors, declared.Front.Front}
 use Rattle.read_heads.proofs.Codes.{has-below}
-use Rattle.write_heads.specs.Fronts.{frontFine, frontOctets, problemFine}
+use Rattle.write_heads.specs.inner.Fronts.{frontFine, frontOctets, problemFine}
 
 -- ---- what may be written is small
 

@@ -1,14 +1,17 @@
 // All of a record but its charge: whether it may be written, how many octets it takes, and its octets.
+use types::charging_case;
+use types::frame;
+use types::operation;
 ghost use mathlib.Core.Path.{_≡_};
 ghost use mathlib.Core.Bool.{true, false, cond};
 ghost use mathlib.Core.List.{[], _++_};
 ghost use Prim.Native.Nat.{_+_, _≤_, _<_};
 ghost use lib.ListN.{length};
 ghost use Rattle.coding.specs.Codec.{oneOf};
-ghost use Rattle.coding.specs.Written.{Wrote, Room, lead, fullNumber};
+ghost use Rattle.coding.specs.inner.Written.{Wrote, Room, lead, fullNumber};
 ghost use lib.Dec.{eqb};
 ghost use Rattle.types.specs.Frames.{operations};
-ghost use Rattle.write_heads.specs.Fronts.{frontFine, frontOctets, problemFine, charged, idOctets};
+ghost use Rattle.write_heads.specs.inner.Fronts.{frontFine, frontOctets, problemFine, charged, idOctets};
 
 // ---- which may be written
 
@@ -16,10 +19,10 @@ ghost use Rattle.write_heads.specs.Fronts.{frontFine, frontOctets, probl
 fn is_operation(n: u8) -> bool
     ensures { λ r. ⌜ r ≡ oneOf operations n ⌝ }
 {
-    if n < 30 {
+    if n < operation::CHARGING_REQUEST {
         return false;
     }
-    if 36 < n {
+    if operation::E_UNITS < n {
         return false;
     }
     true
@@ -57,7 +60,7 @@ fn request_fine(f: types::Front) -> bool
     if f.problem != 0 {
         return false;
     }
-    if 2 < f.detail {
+    if charging_case::E < f.detail {
         return false;
     }
     true
@@ -67,7 +70,7 @@ fn invoke_fine(f: types::Front) -> bool
     requires { ⌜ f .frame ≡ 1 ⌝ }
     ensures { λ r. ⌜ r ≡ frontFine f ⌝ }
 {
-    if f.operation == 30 {
+    if f.operation == operation::CHARGING_REQUEST {
         return request_fine(f);
     }
     if !is_operation(f.operation) {
@@ -92,7 +95,7 @@ fn result_fine(f: types::Front) -> bool
     requires { ⌜ f .frame ≡ 2 ⌝ }
     ensures { λ r. ⌜ r ≡ frontFine f ⌝ }
 {
-    if f.operation != 30 {
+    if f.operation != operation::CHARGING_REQUEST {
         return false;
     }
     if f.unnamed != 0 {
@@ -163,16 +166,16 @@ pub fn is_called(unnamed: u8, id: u16) -> bool
 pub fn front_fine(f: types::Front) -> bool
     ensures { λ r. ⌜ r ≡ frontFine f ⌝ }
 {
-    if f.frame == 1 {
+    if f.frame == frame::INVOKE {
         return invoke_fine(f);
     }
-    if f.frame == 2 {
+    if f.frame == frame::RESULT {
         return result_fine(f);
     }
-    if f.frame == 3 {
+    if f.frame == frame::ERROR {
         return error_fine(f);
     }
-    if f.frame == 4 {
+    if f.frame == frame::REJECT {
         return reject_fine(f);
     }
     false
@@ -182,13 +185,13 @@ pub fn front_fine(f: types::Front) -> bool
 pub fn is_charged(f: types::Front) -> bool
     ensures { λ r. ⌜ r ≡ charged f ⌝ }
 {
-    if f.frame == 1 {
-        if f.operation == 30 {
+    if f.frame == frame::INVOKE {
+        if f.operation == operation::CHARGING_REQUEST {
             return false;
         }
         return true;
     }
-    if f.frame == 2 {
+    if f.frame == frame::RESULT {
         return true;
     }
     false
@@ -203,19 +206,19 @@ pub fn front_size(f: types::Front, n: usize) -> usize
     ensures few { λ r. ⌜ (5 ≤ r) × (r ≤ 10) ⌝ }
 {
     let i = 2 + write_elements::id_width(f.id);
-    if f.frame == 1 {
-        if f.operation == 30 {
+    if f.frame == frame::INVOKE {
+        if f.operation == operation::CHARGING_REQUEST {
             return i + 6;
         }
         return i + 3;
     }
-    if f.frame == 2 {
+    if f.frame == frame::RESULT {
         if n + 3 < 128 {
             return i + 5;
         }
         return i + 6;
     }
-    if f.frame == 3 {
+    if f.frame == frame::ERROR {
         return i + 3;
     }
     if f.unnamed == 1 {
@@ -230,7 +233,7 @@ fn put_invoke(buf: &mut [u8], at: usize, f: types::Front) -> usize
 {
     let p = write_elements::put_id(buf, at, 0x02, f.id);
     let q = write_elements::put_small(buf, p, 0x02, f.operation);
-    if f.operation == 30 {
+    if f.operation == operation::CHARGING_REQUEST {
         return write_elements::put_small(buf, q, 0x0a, f.detail);
     }
     q
@@ -276,13 +279,13 @@ pub fn put_front(buf: &mut [u8], at: usize, f: types::Front, n: usize) -> usize
     requires { ⌜ (frontFine f ≡ true) × (n < 250) × Room (now buf) at (frontOctets f n) ⌝ }
     ensures { λ r. ⌜ Wrote (now (buf .entry)) (now (buf .exit)) at (frontOctets f n) r ⌝ }
 {
-    if f.frame == 1 {
+    if f.frame == frame::INVOKE {
         return put_invoke(buf, at, f);
     }
-    if f.frame == 2 {
+    if f.frame == frame::RESULT {
         return put_result(buf, at, f, n);
     }
-    if f.frame == 3 {
+    if f.frame == frame::ERROR {
         return put_error(buf, at, f);
     }
     put_reject(buf, at, f)

@@ -1,17 +1,17 @@
 -- The octets of a valid rate, part by part, and how many they are.
 use Rattle.prelude.proofs.Prelude.{ℕ, _+_, _≤_, _<_, _≡_, refl, sym, ap, ap₂, _∙_, List, [], _∷_, _++_, append-nil, Bool, true, false, cond, arith, length, length-append, leb, eqb, eqb-true, eq-eqb, ne-eqb, leb-true, le-leb}
 use Rattle.prelude.proofs.Prelude.{lt-leb}
-use Rattle.coding.{specs.Codec.pair, specs.Codec.sort, specs.Codec.maybe, specs.Codec.over, specs.Codec.canonical, specs.Leaves.number, specs.Written.lead, specs.Written.fullNumber}
-use Rattle.coding.{proofs.Small.small-length, specs.Written.Wrote, specs.Written.Room}
+use Rattle.coding.{specs.Codec.pair, specs.Codec.sort, specs.Codec.maybe, specs.Codec.over, specs.Codec.canonical, specs.Leaves.number, specs.inner.Written.lead, specs.inner.Written.fullNumber}
+use Rattle.coding.{proofs.Small.small-length, specs.inner.Written.Wrote, specs.inner.Written.Room}
 use Rattle.coding.specs.Codec.{pickRun, all, writeAll}
 use Rattle.coding.proofs.{Basic.and-right, Basic.and-both, Holds.and-iff, Holds.cond-iff, Holds.holds, Holds.cases, Writing.cons-write, Writing.number-write, Writing.lead-length-short, Small.null-write}
 use Rattle.prelude.proofs.Ways.{by-cases}
 use Rattle.types.specs.{declared.Scaled.Scaled, declared.Rate.Rate, declared.Money.Money, Charges.scaled, Charges.money, Rates.moneyOf, Rates.timeOf, Rates.stepOf, Rates.duration}
 use Rattle.types.specs.Rates.{isRate, flatRate, volume, coded, plainRate, price, itemised, rate}
-use Rattle.write_figures.specs.Octets.{element}
+use Rattle.write_figures.specs.inner.Octets.{element}
 use Rattle.write_figures.proofs.Sizes.{money-wider, money-same}
 use Rattle.write_tests.proofs.{Truth.kinds, Truth.other-kind, Tests.scaled-is}
-use Rattle.write_rate.specs.Prices.{lastKind, detailFine, stepFine, timesFine, amountFine, priceFine, stepOctets, termOctets, pricedOctets, priceOctets}
+use Rattle.write_rate.specs.inner.Prices.{lastKind, detailFine, stepFine, timesFine, amountFine, priceFine, stepOctets, termOctets, pricedOctets, priceOctets}
 use Rattle.write_rate.proofs.{Three.Three, Three.three-length, Three.room-1, Three.room-2, Three.room-3, Three.wrote-3, Prices.common-kind, Prices.rate-is}
 
 -- ---- what a valid rate holds

@@ -8,7 +8,7 @@ use Rattle.coding.proofs.Basic.{and-left, and-right, and-both}
 use Rattle.types.specs.{declared.Rate.Rate, Charges.flag, Charges.noMoney, Charges.scaled, Charges.money, Rates.scaledOr0, Rates.moneyOf, Rates.timeOf, Rates.stepOf, Rates.duration}
 use Rattle.types.specs.{Rates.isRate, Rates.flatRate, Rates.volume, Rates.coded, Rates.plainRate, Rates.price, Rates.itemised, Rates.rate, Arguments.sameMoney}
 use Rattle.write_tests.proofs.Truth.{same-truth, kinds, other-kind}
-use Rattle.write_rate.specs.Prices.{lastKind, detailFine, unstepped, stepFine, timesFine, amountFine, priceFine}
+use Rattle.write_rate.specs.inner.Prices.{lastKind, detailFine, unstepped, stepFine, timesFine, amountFine, priceFine}
 
 list-self : (xs : List ℕ) → sameList eqb xs xs ≡ true
 list-self xs = listEqual eqb eqbEqual .self xs

@@ -4,14 +4,15 @@
 use types::Money;
 use types::Rate;
 use types::Scaled;
+use types::rate_kind;
 ghost use mathlib.Core.Path.{_≡_};
 ghost use mathlib.Core.Bool.{true};
 ghost use lib.Dec.{leb};
 ghost use Prim.Native.Nat.{_≤_};
 ghost use lib.ListN.{length};
-ghost use Rattle.coding.specs.Written.{Wrote, Room};
+ghost use Rattle.coding.specs.inner.Written.{Wrote, Room};
 ghost use Rattle.types.specs.Rates.{moneyOf, rate};
-ghost use Rattle.write_rate.specs.Prices.{lastKind, detailFine, unstepped, stepFine, timesFine, amountFine, stepOctets, termOctets, pricedOctets, priceOctets};
+ghost use Rattle.write_rate.specs.inner.Prices.{lastKind, detailFine, unstepped, stepFine, timesFine, amountFine, stepOctets, termOctets, pricedOctets, priceOctets};
 
 // ---- which rates may be written
 
@@ -31,28 +32,28 @@ fn is_kind(kind: u8, trunk: bool) -> bool
     ensures { λ r. ⌜ r ≡ leb kind (lastKind trunk) ⌝ }
 {
     if trunk {
-        return kind <= 7;
+        return kind <= rate_kind::FREE_FROM_BEGINNING;
     }
-    kind <= 6
+    kind <= rate_kind::UNKNOWN
 }
 
 // The type of a duration, the unit of a volume, a code; no other kind has one.
 fn detail_fine(kind: u8, detail: u8, trunk: bool) -> bool
     ensures { λ r. ⌜ r ≡ detailFine trunk kind detail ⌝ }
 {
-    if kind == 1 {
+    if kind == rate_kind::DURATION {
         return detail <= 1;
     }
-    if kind == 3 {
+    if kind == rate_kind::VOLUME {
         return detail <= 2;
     }
-    if kind == 4 {
+    if kind == rate_kind::CODE {
         if detail < 1 {
             return false;
         }
         return detail <= 10;
     }
-    if kind < 2 {
+    if kind < rate_kind::FLAT {
         return false;
     }
     if !is_kind(kind, trunk) {
@@ -89,7 +90,7 @@ fn step_fine(r: Rate) -> bool
 fn times_fine(r: Rate) -> bool
     ensures { λ b. ⌜ b ≡ timesFine r ⌝ }
 {
-    if r.kind == 1 {
+    if r.kind == rate_kind::DURATION {
         if !write_tests::scaled_fine(Scaled {
             number: r.time,
             scale: r.scale,
@@ -114,7 +115,7 @@ fn amount_fine(r: Rate, trunk: bool) -> bool
     let m = money_of(r);
     let currency = m.currency;
     let octets = currency.octets;
-    if r.kind <= 3 {
+    if r.kind <= rate_kind::VOLUME {
         return write_tests::money_fine(m, trunk);
     }
     write_tests::no_money(m, &octets)
@@ -157,10 +158,10 @@ fn terms_size(r: Rate) -> usize
     ensures { λ n. ⌜ n ≡ length (termOctets r) ⌝ }
     ensures few { λ n. ⌜ n ≤ 25 ⌝ }
 {
-    if r.kind == 2 {
+    if r.kind == rate_kind::FLAT {
         return 0;
     }
-    if r.kind == 3 {
+    if r.kind == rate_kind::VOLUME {
         return 3;
     }
     let t = Scaled {
@@ -185,10 +186,10 @@ fn price_size(r: Rate) -> usize
     ensures { λ n. ⌜ n ≡ length (priceOctets r) ⌝ }
     ensures few { λ n. ⌜ n ≤ 50 ⌝ }
 {
-    if r.kind <= 3 {
+    if r.kind <= rate_kind::VOLUME {
         return 2 + priced_size(r);
     }
-    if r.kind == 4 {
+    if r.kind == rate_kind::CODE {
         return 3;
     }
     2
@@ -224,10 +225,10 @@ fn put_terms(buf: &mut [u8], at: usize, r: Rate) -> usize
         number: r.time,
         scale: r.scale,
     };
-    if r.kind == 2 {
+    if r.kind == rate_kind::FLAT {
         return at;
     }
-    if r.kind == 3 {
+    if r.kind == rate_kind::VOLUME {
         return write_elements::put_small(buf, at, 0x83, r.detail);
     }
     let p = write_elements::put_small(buf, at, 0x83, r.detail);
@@ -250,16 +251,16 @@ fn put_price(buf: &mut [u8], at: usize, r: Rate) -> usize
     requires { ⌜ ((rate true) .valid r ≡ true) × Room (now buf) at (priceOctets r) ⌝ }
     ensures { λ n. ⌜ Wrote (now (buf .entry)) (now (buf .exit)) at (priceOctets r) n ⌝ }
 {
-    if r.kind <= 3 {
+    if r.kind <= rate_kind::VOLUME {
         return put_priced(buf, at, r);
     }
-    if r.kind == 4 {
+    if r.kind == rate_kind::CODE {
         return write_elements::put_small(buf, at, 0x02, r.detail);
     }
-    if r.kind == 5 {
+    if r.kind == rate_kind::FREE {
         return write_elements::put_null(buf, at, 0x84);
     }
-    if r.kind == 6 {
+    if r.kind == rate_kind::UNKNOWN {
         return write_elements::put_null(buf, at, 0x85);
     }
     write_elements::put_null(buf, at, 0x86)

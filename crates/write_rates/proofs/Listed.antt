@@ -1,12 +1,12 @@
 -- Lists of rates: how many there are in a fine one, and its octets as they are put.
 use Rattle.prelude.proofs.Prelude.{ℕ, _+_, _≤_, _≡_, sym, ap, _∙_, Bool, true, false, List, _++_, arith, length, length-append, ltb, leb, leb-true}
-use Rattle.coding.{specs.Codec.Run, specs.Codec.all, specs.Codec.writeAll, specs.Codec.some·more, specs.Rows.table, specs.Written.Wrote, specs.Written.Room, specs.Written.lead}
+use Rattle.coding.{specs.Codec.Run, specs.Codec.all, specs.Codec.writeAll, specs.Codec.some·more, specs.Rows.table, specs.inner.Written.Wrote, specs.inner.Written.Room, specs.inner.Written.lead}
 use Rattle.coding.{proofs.Basic.and-left, proofs.Basic.and-right, proofs.Basic.and-both, proofs.Rows.table-length, proofs.Writing.Split, proofs.Writing.room-first}
 use Rattle.coding.{proofs.Writing.room-rest, proofs.Writing.wrote-parts}
 use Rattle.types.specs.{declared.Entries.Entries, Rates.rate, Rates.rateAt, Rates.rateRows, Rates.rateList, Arguments.sameEntries}
-use Rattle.write_tests.specs.Fine.{ratesFine}
+use Rattle.write_tests.specs.inner.Fine.{ratesFine}
 use Rattle.write_rate.proofs.Octets.{rates-wider}
-use Rattle.write_rates.specs.Arrays.{ratesCharge}
+use Rattle.write_rates.specs.inner.Arrays.{ratesCharge}
 
 -- how many entries a list has, and that they are valid
 pub few-valid : {A : Type 0} (f : Run A) (most n : ℕ) (g : ℕ → A) → (some·more 0x30 most f) .valid (table n g) ≡ true → (n ≤ most) × (all (f .valid) (table n g) ≡ true)

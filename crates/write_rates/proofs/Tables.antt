@@ -2,14 +2,14 @@
 use Rattle.prelude.proofs.Prelude.{ℕ, zero, suc, _+_, _-_, _*_, _≤_, _<_, _≡_, refl, sym, ap, ap₂, _∙_, List, [], _∷_, _++_, append-nil, append-assoc, Bool, true, false, not, _&&_, arith}
 use Rattle.prelude.proofs.Prelude.{mul-zero, mul-suc, add-one, length, getD, take, drop, replicate, length-append, length-drop, take-append-drop, take-add, drop-cons, drop-length}
 use Rattle.prelude.proofs.Prelude.{length-take-le, getD-drop, ltb, leb, eqb, eq-eqb, ne-eqb, leb-true, ltb-true, ltb-false, not-true, not-false}
-use Rattle.coding.{specs.Codec.Run, specs.Codec.all, specs.Codec.writeAll, specs.Codec.some·more, specs.Codec.sameList, specs.Codec.pad, specs.Written.Wrote, specs.Written.Room}
+use Rattle.coding.{specs.Codec.Run, specs.Codec.all, specs.Codec.writeAll, specs.Codec.some·more, specs.Codec.sameList, specs.Codec.pad, specs.inner.Written.Wrote, specs.inner.Written.Room}
 use Rattle.coding.{specs.Rows.rows, specs.Rows.table, proofs.Basic.and-left, proofs.Basic.and-right, proofs.Writing.wrote-as, proofs.Writing.wrote-both, proofs.Writing.wrote-next}
 use Rattle.coding.{proofs.Writing.wrote-none, proofs.Writing.Split, proofs.Writing.split, proofs.Writing.room-first, proofs.Writing.room-rest, proofs.Rows.table-length}
 use Rattle.coding.{proofs.Rows.table-more, proofs.Rows.rows-append, proofs.Tests.and-false}
 use Rattle.octets.proofs.Clear.{zeros-more, zeros-whole}
-use Rattle.write_tests.specs.Fine.{laid}
+use Rattle.write_tests.specs.inner.Fine.{laid}
 use Rattle.types.specs.Arguments.{sameEntries}
-use Rattle.write_rates.specs.Arrays.{zeroPast, unusedZero}
+use Rattle.write_rates.specs.inner.Arrays.{zeroPast, unusedZero}
 
 -- ---- the entries from i on
 

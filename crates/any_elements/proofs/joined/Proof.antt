@@ -1,5 +1,5 @@
 -- By whether the rest has a fault.
-use Rattle.prelude.proofs.Prelude.{arith, needs, le-leb, lt-leb}
+use Rattle.prelude.proofs.Prelude.{needs, le-leb, lt-leb}
 use Rattle.any_elements.proofs.joined.Statement.{statement}
 use Rattle.any_elements.proofs.joined.Tie as tie
 

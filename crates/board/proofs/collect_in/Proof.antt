@@ -18,7 +18,7 @@ use denote.{RattleType.owns, Laws.Is, Memory.mem, Memory.pointee, Array.arrayVal
 use denote.{Builtin.u16, Builtin.u32, Builtin.u64, Ref.RefT, Ref.ptr-vals, Ref.mut-tells, Signature.plain, Steps.owned, Steps.nothing, Exit.yes}
 use denote.{Triple.Statement.Contract, Triple.Statement.Triple, Triple.Entry.onEntry, Triple.Spec.tripleOf, Triple.Table.cited, Triple.Clauses.ensured, Triple.Clauses.lasts}
 use denote.Triple.Walked.{says, Stays, stay-ref, stay-none, walkOf, AllGo, goes-none, goes-ref, ends-at}
-use Rattle.board_rules.specs.{declared.Board.Board, declared.Collected.Collected, declared.Freed.Freed, Board.withSlot, Board.emptied, Board.collectOn, ByValue.freeOf}
+use Rattle.board_rules.specs.{declared.Board.Board, declared.Collected.Collected, declared.Freed.Freed, Board.withSlot, Board.emptied, Board.collectOn, inner.ByValue.freeOf}
 use Rattle.board_rules.proofs.ByValue.{off-thin}
 use Rattle.step.proofs.Machine.{vA}
 use Rattle.board.proofs.Lent.{boardTy}

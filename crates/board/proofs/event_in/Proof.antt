@@ -26,7 +26,7 @@ use denote.{Triple.Statement.Contract, Triple.Statement.Triple, Triple.Entry.onE
 use denote.Triple.Walked.{says, Stays, stay-ref, stay-none, stay-none-slice, walkOf, AllGo, goes-none, goes-none-slice, goes-ref, ends-at}
 use Rattle.account.specs.{declared.Account.Account, History.judged, History.accountBy, History.steppedBy, History.stepped, Step.steppedOf}
 use Rattle.phases.specs.{declared.Event.Event, declared.Outcome.Outcome, Phases.Given as Gave, Phases.event, Phases.noService}
-use Rattle.board_rules.specs.{declared.Board.Board, declared.Seat.Seat, declared.Held.Held, Board.withSlot, Board.boarded, Board.eventOn, ByValue.seatOf, ByValue.takenUp}
+use Rattle.board_rules.specs.{declared.Board.Board, declared.Seat.Seat, declared.Held.Held, Board.withSlot, Board.boarded, Board.eventOn, inner.ByValue.seatOf, inner.ByValue.takenUp}
 use Rattle.board_rules.proofs.ByValue.{lent-thin, refused-thin, taken-thin}
 use Rattle.step.proofs.Machine.{vA, vE, vO, tellsE}
 use Rattle.step.proofs.Lent.{Typed}

@@ -17,7 +17,7 @@ use denote.{RattleType.owns, Laws.Is, Laws.shows, Memory.partAt, Memory.pointee,
 use denote.{Builtin.u16, Builtin.u32, Builtin.u64, Ref.RefT, Ref.ptr-vals, Ref.shr-tells, Signature.plain, Steps.owned, Steps.peeks, Steps.nothing, Exit.yes}
 use denote.{Triple.Statement.Contract, Triple.Statement.Triple, Triple.Entry.onEntry, Triple.Spec.tripleOf, Triple.Table.cited, Triple.Clauses.ensured, Triple.Clauses.lasts}
 use denote.Triple.Walked.{says, Stays, stay-none-ref, stay-none, walkOf, AllGo, goes-none, goes-none-ref, ends-at}
-use Rattle.board_rules.specs.{declared.Board.Board, declared.Viewed.Viewed, Board.viewOn, ByValue.viewedOf}
+use Rattle.board_rules.specs.{declared.Board.Board, declared.Viewed.Viewed, Board.viewOn, inner.ByValue.viewedOf}
 use Rattle.board_rules.proofs.ByValue.{view-thin}
 use Rattle.step.proofs.Lent.{Typed}
 use Rattle.board.proofs.Lent.{boardTy}

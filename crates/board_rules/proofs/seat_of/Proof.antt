@@ -1,5 +1,5 @@
 use Rattle.prelude.proofs.Prelude.{arith, refl, eq-eqb, ne-eqb}
-use Rattle.board_rules.specs.{ByValue.seatOf}
+use Rattle.board_rules.specs.{inner.ByValue.seatOf}
 use Rattle.board_rules.proofs.seat_of.Statement.{statement}
 use Rattle.board_rules.proofs.seat_of.Tie as tie
 

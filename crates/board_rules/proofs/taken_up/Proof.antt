@@ -1,5 +1,5 @@
 use Rattle.prelude.proofs.Prelude.{arith, refl}
-use Rattle.board_rules.specs.ByValue.{takenUp}
+use Rattle.board_rules.specs.inner.ByValue.{takenUp}
 use Rattle.board_rules.proofs.taken_up.Statement.{statement}
 use Rattle.board_rules.proofs.taken_up.Tie as tie
 

@@ -1,5 +1,5 @@
 use Rattle.prelude.proofs.Prelude.{arith, refl, eq-eqb, ne-eqb}
-use Rattle.board_rules.specs.ByValue.{viewedOf}
+use Rattle.board_rules.specs.inner.ByValue.{viewedOf}
 use Rattle.board_rules.proofs.view.Statement.{statement}
 use Rattle.board_rules.proofs.view.Tie as tie
 

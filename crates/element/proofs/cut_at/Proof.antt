@@ -1,5 +1,5 @@
 use Rattle.prelude.proofs.Prelude.{arith, _≡_, refl, ap, _∙_, length}
-use Rattle.element.specs.{declared.Starts.Starts, Element.elementOf, Cut.startsOf, Places.afterIn}
+use Rattle.element.specs.{declared.Starts.Starts, Element.elementOf, Cut.startsOf, inner.Places.afterIn}
 use Rattle.element.proofs.cut_at.Statement.{statement}
 use Rattle.element.proofs.cut_at.Tie as tie
 

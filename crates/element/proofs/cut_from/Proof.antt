@@ -1,6 +1,6 @@
 use Rattle.prelude.proofs.Prelude.{ℕ, _-_, arith, _≡_, refl, ap, _∙_, List, [], _∷_, _++_, cond, eqb, length, length-append}
 use Rattle.coding.{specs.Codec.pad, proofs.Arrays.padded-more}
-use Rattle.element.specs.{declared.Cut.Cut, Places.afterIn}
+use Rattle.element.specs.{declared.Cut.Cut, inner.Places.afterIn}
 use Rattle.element.proofs.Tiling.{Laid, Tile-at, laid-start, laid-more, laid-done, laid-fault, tile-read, Below, below-more, after-more, starts-padded}
 use Rattle.element.proofs.cut_from.Statement.{statement}
 use Rattle.element.proofs.cut_from.Tie as tie
@@ -22,7 +22,7 @@ returns c =
     let d = c .before .before .before in
     let v = d .before .before .before .loop .inv in (
       ap (λ (r : Cut). r .tiles) (c .uncut .ensures)
-          ∙ laid-fault _ (v .0) _ (v .1) _ (d .before .before .loop-test .taken) (d .open-at .ensures .0) (c .before .if1 .taken),
+          ∙ laid-fault (v .1) _ (d .before .before .loop-test .taken) (d .open-at .ensures .0) (c .before .if1 .taken),
       rw (c .uncut .ensures) refl,
     )
 
@@ -42,7 +42,7 @@ loop-again c =
     let place = i .before .before .before .args .place in
     let v = l .inv in (
       v .0 ++ (l .at ∷ []),
-      laid-more _ (v .0) _ (v .1) (i .loop-test .taken) (tile e .0),
+      laid-more (v .1) (i .loop-test .taken) (tile e .0),
       rw (v .2) (padded-more 127 0 (v .0) (l .at) _ (v .3) (omega (arith, tile e, v .1 .few))),
       simp length-append (omega (arith, v .3)),
       c .settled .ensures ∙ ap (λ (x : ℕ). cond (eqb (l .at) place) (o .open-at .result .next) x) (v .4) ∙ after-more place (l .at) _ (v .0) (v .5),
@@ -54,7 +54,7 @@ returns-2 c =
     let l = c .before .loop in
     let v = l .inv in
     let e : l .at ≡ length (c .before .before .before .args .octets .now) = omega (arith, v .1 .inside, c .loop-test .left) in
-    (rw (v .2, ← v .3) (laid-done _ (v .0) _ (v .1) (c .loop-test .left)), rw (v .2, ← v .3, v .4, e, starts-padded (v .0)) refl)
+    (rw (v .2, ← v .3) (laid-done (v .1) (c .loop-test .left)), rw (v .2, ← v .3, v .4, e, starts-padded (v .0)) refl)
 
 pub cut-from-spec : {M : Type 1} → statement M
 cut-from-spec =

@@ -3,9 +3,5 @@ use Rattle.coding.specs.Codec.{pad}
 use Rattle.element.proofs.refused.Statement.{statement}
 use Rattle.element.proofs.refused.Tie as tie
 
-returns : tie.Need-returns
-unfolding pad
-returns c = refl
-
 pub refused-spec : {M : Type 1} → statement M
-refused-spec = tie.close (tie.spec returns)
+refused-spec = tie.close (tie.spec (λ c. unfold pad in refl))

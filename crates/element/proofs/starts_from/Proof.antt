@@ -19,7 +19,7 @@ returns : tie.Need-returns Inv-loop μ-loop
 returns c =
     let d = c .before .before .before in
     let v = d .before .before .before .loop .inv in
-    (c .refused .ensures ∙ laid-fault _ (v .0) _ (v .1) _ (d .before .before .loop-test .taken) (d .open-at .ensures .0) (c .before .if1 .taken), rw (c .refused .ensures) (omega arith))
+    (c .refused .ensures ∙ laid-fault (v .1) _ (d .before .before .loop-test .taken) (d .open-at .ensures .0) (c .before .if1 .taken), rw (c .refused .ensures) (omega arith))
 
 -- the component that is found
 tile : (c : tie.Else1 Inv-loop μ-loop) → let o = c .before .before in let l = o .before .before .before in
@@ -35,7 +35,7 @@ loop-again c =
     let l = i .before .loop in
     let v = l .inv in (
       v .0 ++ (l .at ∷ []),
-      laid-more _ (v .0) _ (v .1) (i .loop-test .taken) (tile c .0),
+      laid-more (v .1) (i .loop-test .taken) (tile c .0),
       rw (v .2) (padded-more 127 0 (v .0) (l .at) _ (v .3) (omega (arith, tile c, v .1 .few))),
       simp length-append (omega (arith, v .3)),
     )
@@ -43,7 +43,7 @@ loop-again c =
 returns-2 : tie.Need-returns-2 Inv-loop μ-loop
 returns-2 c =
     let v = c .before .loop .inv in
-    (rw (v .2, ← v .3) (laid-done _ (v .0) _ (v .1) (c .loop-test .left)), omega arith)
+    (rw (v .2, ← v .3) (laid-done (v .1) (c .loop-test .left)), omega arith)
 
 pub starts-from-spec : {M : Type 1} → statement M
 starts-from-spec =

@@ -1,67 +1,53 @@
-use Rattle.prelude.proofs.Prelude.{ℕ, _+_, _-_, _/_, _≤_, _≡_, sym, _∙_, ap, [], arith, length}
-use Rattle.account.specs.{History.judged, declared.Account.Account}
-use Rattle.events.{specs.Events.Going, specs.Events.countAt, specs.Prefix.placeAt, specs.Prefix.before, proofs.Laws.begins, proofs.Laws.inside, proofs.Laws.goes-on, proofs.Prefix.place-start, proofs.Prefix.place-next}
-use Rattle.fault.specs.Running.{progressBy}
-use Rattle.fault.proofs.{Running.run-starts, Running.run-next, Running.run-ends, judged_all.Statement.statement}
+use Rattle.prelude.proofs.Prelude.{_+_, _-_, _/_, _≤_, _≡_, refl, _∙_, arith, length}
+use Rattle.account.specs.History.{judged}
+use Rattle.events.{specs.inner.Prefix.placeAt, specs.inner.Prefix.before, proofs.Prefix.turn-inside, proofs.Prefix.next-place}
+use Rattle.fault.specs.inner.Running.{progressBy}
+use Rattle.fault.proofs.{Running.run-next, Running.run-ends, judged_all.Statement.statement}
 use Rattle.fault.proofs.judged_all.Tie as tie
 
 -- the state is that of the first i events
 abbrev Inv-loop : tie.InvT-loop
 Inv-loop rows octets n state₀ at₀ i₀ state at i =
-    Going rows octets i at × (at ≡ placeAt rows i) × (state ≡ progressBy (judged (before rows octets i)))
+    (i ≤ length rows / 6) × (at ≡ placeAt rows i) × (state ≡ progressBy (judged (before rows octets i)))
 
 abbrev μ-loop : tie.MeasureT-loop
 μ-loop rows octets n state₀ at₀ i₀ state at i = n - i
 
 begin : tie.Need-loop-holds Inv-loop μ-loop
-begin c =
-    let start = c .before .before .before in
-    let rows = start .args .rows .now in
-    let octets = start .args .octets .now in (
-      begins _ _ (start .pre),
-      sym (place-start rows octets),
-      ap (λ (a : Account). record { account = a; seen = progressBy [] .seen; latest = progressBy [] .latest; other = progressBy [] .other }) (c .fresh .ensures) ∙ run-starts rows octets,
-    )
+unfolding before placeAt
+begin c = (omega arith, refl, rw (c .fresh .ensures) refl)
 
--- the octets of the next event end inside
-ends : (c : tie.After-count-at Inv-loop μ-loop) → let at = c .before .before in let start = at .before .before .before .before in
-    at .loop .at + c .count-at .result ≤ length (start .args .octets .now)
-ends c =
-    let in-loop = c .before in
-    let at = in-loop .before in
-    let start = at .before .before .before .before in
-    let rows = start .args .rows .now in
-    let counted : c .count-at .result ≡ countAt rows (at .loop .i) = c .count-at .ensures in
-    rw counted (inside rows (start .args .octets .now) (at .loop .i) (at .loop .at) (at .loop .inv .0) (in-loop .loop-test .taken))
+-- event i is counted: the loop's place, the function's start; its octets end inside
+module _ (n : tie.After-count-at Inv-loop μ-loop) where
+  abbrev loop : tie.At-loop Inv-loop μ-loop
+  loop = n .before .before
+
+  abbrev start : tie.Start Inv-loop μ-loop
+  start = loop .before .before .before .before
+
+  ends : loop .loop .at + n .count-at .result ≤ length (start .args .octets .now)
+  ends =
+      turn-inside (start .args .rows .now) (start .args .octets .now) (loop .loop .i) (loop .loop .inv .1) (n .count-at .ensures) (start .pre)
+      (n .before .loop-test .taken)
 
 loop-again : tie.Need-loop-again Inv-loop μ-loop
 loop-again c =
     let rowed = c .before .before in
-    let counted = rowed .before in
-    let in-loop = counted .before in
-    let at = in-loop .before in
-    let loop = at .loop in
-    let call = at .before .before in
-    let start = call .before .before in
-    let rows = start .args .rows .now in
-    let octets = start .args .octets .now in
-    let count = counted .count-at in (
-      goes-on _ _ _ _ (loop .inv .0) (in-loop .loop-test .taken) (count .result) (count .ensures),
-      ap (λ (a : ℕ). a + count .result) (loop .inv .1) ∙ ap (λ (a : ℕ). placeAt rows (loop .i) + a) (count .ensures) ∙ sym (place-next rows octets (loop .i)),
-      run-next rows octets (loop .i) (loop .at) (count .result) (rowed .row-at .result) (loop .state) (c .next .result)
-          (loop .inv .1) (loop .inv .2) (count .ensures) (rowed .row-at .ensures) (c .next .ensures),
+    let n = rowed .before in
+    let rows = start n .args .rows .now in
+    let octets = start n .args .octets .now in
+    let l = loop n .loop in (
+      omega (arith, n .before .loop-test .taken),
+      next-place rows octets (l .i) (l .inv .1) (n .count-at .ensures),
+      run-next rows octets (l .i) (l .inv .1) (n .count-at .ensures) (rowed .row-at .ensures) (l .inv .2) (c .next .ensures),
     )
 
 returns : tie.Need-returns Inv-loop μ-loop
 returns c =
-    let over = c .before .before in
-    let at = over .before in
-    let call = at .before .before in
-    let start = call .before .before in
-    let rows = start .args .rows .now in
-    c .concluded .ensures
-    ∙ run-ends rows (start .args .octets .now) (at .loop .i) (at .loop .state)
-    (let e : at .loop .i ≡ length rows / 6 = omega (arith, at .loop .inv .0 .row, over .loop-test .left) in e) (at .loop .inv .2)
+    let l = c .before .before .before in
+    let x = l .before .before .before .before .args in
+    let e : l .loop .i ≡ length (x .rows .now) / 6 = omega (arith, l .loop .inv .0, c .before .before .loop-test .left) in
+    c .concluded .ensures ∙ run-ends (x .rows .now) (x .octets .now) (l .loop .i) (l .loop .state) e (l .loop .inv .2)
 
 pub judged-all-spec : {M : Type 1} → statement M
 judged-all-spec =

@@ -1,8 +1,28 @@
-use Rattle.prelude.proofs.Prelude.{arith, sym, _∙_, ap, not-true, not-false}
-use Rattle.types.specs.declared.Answer.{Answer}
-use Rattle.fault.proofs.Back.{last-other, last-elsewhere, last-here}
-use Rattle.fault.proofs.last_next.Statement.{statement}
+use Rattle.prelude.proofs.Prelude.{ℕ, _≡_, Bool, _&&_, cond, refl, sym, _∙_, ap, arith, not-true, not-false}
+use Rattle.types.specs.Thousandths.{thousandths}
+use Rattle.amounts.specs.Currency.{equalCurrency}
+use Rattle.fault.specs.{inner.Going.lastNext, inner.Going.judging}
+use Rattle.fault.proofs.{Back.last-by, last_next.Statement.statement}
 use Rattle.fault.proofs.last_next.Tie as tie
+
+-- what the event leaves, by whether it is counted money (b) and in an equal currency (s)
+module _ (m : tie.After-counted-money) where
+  abbrev read : tie.After-read
+  read = m .before .before .before .before .before
+
+  abbrev start : tie.Start
+  start = read .before .before
+
+  abbrev Leaves : Bool → Bool → Type 0
+  Leaves b s = lastNext (start .args .l) (start .args .c) (judging (start .args .e) (start .args .octets .now) (start .args .o))
+      ≡ cond (b && s) (record { found = 1; amount = thousandths (read .read .result .value .charge .figure .money) }) (start .args .l)
+
+  leaves : {b s : Bool} → b ≡ m .counted-money .result
+      → s ≡ equalCurrency (read .read .result .value .charge .figure .money .currency) (start .args .c) → Leaves b s
+  leaves e f =
+      last-by (start .args .l) (start .args .c) (start .args .e) (start .args .octets .now) (start .args .o) (read .read .ensures)
+      (m .before .invokes-d .ensures)
+      (e ∙ m .counted-money .ensures) f
 
 pub last-next-spec : {M : Type 1} → statement M
 last-next-spec =
@@ -11,17 +31,11 @@ last-next-spec =
     (omega arith)
     (omega arith)
     (omega arith)
-    (λ c. let m = c .before in let d = m .before in let k = d .before .before .before in let r = k .before in let s = r .before .before in
-    last-other (s .args .l) (s .args .c) (s .args .e) (s .args .octets .now) (s .args .o) (r .read .result .value) (ap (λ (a : Answer). a .value) (r .read .ensures)) (d .invokes-d .result)
-    (d .invokes-d .ensures) (sym (m .counted-money .ensures) ∙ not-true _ (c .if1 .taken)))
+    (λ c. sym (leaves (c .before) (sym (not-true _ (c .if1 .taken))) refl))
     (omega arith)
-    (λ c. let q = c .before in let e = q .before in let m = e .before in let d = m .before in let k = d .before .before .before in let r = k .before in let s = r .before .before in
-    last-elsewhere (s .args .l) (s .args .c) (s .args .e) (s .args .octets .now) (s .args .o) (r .read .result .value) (ap (λ (a : Answer). a .value) (r .read .ensures)) (d .invokes-d .result)
-    (d .invokes-d .ensures) (sym (m .counted-money .ensures) ∙ not-false _ (e .if1 .left))
-    (sym (q .same-currency .ensures) ∙ not-true _ (c .if2 .taken)))
+    (λ c. let e = c .before .before in
+    sym (leaves (e .before) (sym (not-false _ (e .if1 .left))) (sym (not-true _ (c .if2 .taken)) ∙ c .before .same-currency .ensures)))
     (omega arith)
-    (λ c. let f = c .before in let q = f .before in let e = q .before in let m = e .before in let d = m .before in let k = d .before .before .before in let r = k .before in
-    let s = r .before .before in
-    last-here (s .args .l) (s .args .c) (s .args .e) (s .args .octets .now) (s .args .o) (r .read .result .value) (ap (λ (a : Answer). a .value) (r .read .ensures)) (d .invokes-d .result)
-    (d .invokes-d .ensures) (sym (m .counted-money .ensures) ∙ not-false _ (e .if1 .left))
-    (c .thousandths .result) (c .thousandths .ensures .0) (sym (q .same-currency .ensures) ∙ not-false _ (f .if2 .left))))
+    (λ c. let q = c .before .before in let e = q .before in
+    ap (λ (n : ℕ). record { found = 1; amount = n }) (c .thousandths .ensures .0)
+    ∙ sym (leaves (e .before) (sym (not-false _ (e .if1 .left))) (sym (not-false _ (c .before .if2 .left)) ∙ q .same-currency .ensures))))

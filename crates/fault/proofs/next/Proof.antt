@@ -1,5 +1,5 @@
 use Rattle.prelude.proofs.Prelude.{arith, needs, refl}
-use Rattle.fault.specs.Running.{nextOf}
+use Rattle.fault.specs.inner.Running.{nextOf}
 use Rattle.fault.proofs.next.Statement.{statement}
 use Rattle.fault.proofs.next.Tie as tie
 

@@ -1,5 +1,5 @@
 use Rattle.prelude.proofs.Prelude.{arith, _≡_, sym, _∙_, true, _||_, length-take, eqb, lt-ltb, le-ltb, not-true, not-false}
-use Rattle.lines.specs.Machine.{answerText}
+use Rattle.lines_rules.specs.inner.Machine.{answerText}
 use Rattle.lines.proofs.answer.Statement.{statement}
 use Rattle.lines.proofs.answer.Tie as tie
 

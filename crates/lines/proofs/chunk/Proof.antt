@@ -1,8 +1,8 @@
 -- The loop's invariant: the characters passed have left what is at hand. The measure is what is left.
 use Rattle.prelude.proofs.Prelude.{arith, ℕ, _≤_, _-_, _≡_, sym, List, [], true≢false, length}
 use Rattle.coding.specs.Reader.{part}
-use Rattle.lines.specs.Machine.{state, turns}
-use Rattle.lines.proofs.{Steps.turns-none, Steps.turns-both, Steps.turns-all, chunk.Statement.statement}
+use Rattle.lines_rules.{specs.inner.Machine.state, specs.inner.Machine.turns, proofs.Steps.turns-none, proofs.Steps.turns-both, proofs.Steps.turns-all}
+use Rattle.lines.proofs.chunk.Statement.{statement}
 use Rattle.lines.proofs.chunk.Tie as tie
 
 abbrev Inv-loop : tie.InvT-loop

@@ -1,9 +1,9 @@
 -- The loop's invariant: the characters passed have left what is at hand, and the answers to the lines that ended are put. The measure is what is left.
 -- Where out has no more room, some answer was put, so some character was passed.
 use Rattle.prelude.proofs.Prelude.{arith, needs, ℕ, _≤_, _*_, _-_, _≡_, _∙_, List, [], _++_, append-nil, append-assoc, length, leb-true, leb-false}
-use Rattle.coding.{specs.Reader.part, specs.Written.Wrote, proofs.Writing.wrote-none, proofs.Writing.wrote-both}
-use Rattle.lines.specs.Machine.{state, turns}
-use Rattle.lines.proofs.{Steps.turns-none, Steps.turns-both, Steps.heard-open, Steps.heard-ended, run.Statement.statement}
+use Rattle.coding.{specs.Reader.part, specs.inner.Written.Wrote, proofs.Writing.wrote-none, proofs.Writing.wrote-both}
+use Rattle.lines_rules.{specs.inner.Machine.state, specs.inner.Machine.turns, proofs.Steps.turns-none, proofs.Steps.turns-both, proofs.Steps.heard-open, proofs.Steps.heard-ended}
+use Rattle.lines.proofs.run.Statement.{statement}
 use Rattle.lines.proofs.run.Tie as tie
 
 abbrev Inv-loop : tie.InvT-loop

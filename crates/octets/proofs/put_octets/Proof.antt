@@ -1,5 +1,5 @@
 use Rattle.prelude.proofs.Prelude.{_+_, _-_, _≤_, _≡_, arith, take, length-take-le}
-use Rattle.coding.{specs.Written.Wrote, proofs.Writing.wrote-none, proofs.Writing.wrote-octet}
+use Rattle.coding.{specs.inner.Written.Wrote, proofs.Writing.wrote-none, proofs.Writing.wrote-octet}
 use Rattle.octets.proofs.put_octets.Statement.{statement}
 use Rattle.octets.proofs.put_octets.Tie as tie
 

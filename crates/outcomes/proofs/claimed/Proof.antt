@@ -1,5 +1,5 @@
 use Rattle.prelude.proofs.Prelude.{eq-eqb, ne-eqb, arith}
-use Rattle.outcomes.specs.ByNumber.{claimRecord}
+use Rattle.outcomes.specs.inner.ByNumber.{claimRecord}
 use Rattle.outcomes.proofs.claimed.Statement.{statement}
 use Rattle.outcomes.proofs.claimed.Tie as tie
 

@@ -1,41 +1,45 @@
-use Rattle.prelude.proofs.Prelude.{arith, reverse}
+use Rattle.prelude.proofs.Prelude.{_∙_, refl, sym, arith, eq-eqb, ne-eqb, List, reverse}
+use Rattle.phases.specs.Phases.{Given}
 use Rattle.events.specs.Events.{eventsOf}
-use Rattle.plain.proofs.{Figures.closing-open, Figures.closing-e, Figures.closing-d, Figures.closing-none, closing_in.Statement.statement}
+use Rattle.plain.proofs.{Figures.closing-kept, closing_in.Statement.statement}
 use Rattle.plain.proofs.closing_in.Tie as tie
+
+module _ (p : tie.After-phase-in) where
+  abbrev start : tie.Start
+  start = p .before .before .before
+
+  abbrev events : List Given
+  events = reverse (eventsOf (start .args .rows .now) (start .args .octets .now))
 
 returns : tie.Need-returns
 returns c =
     let p = c .before .before in
-    let x = p .before .before .before .args in
-    closing-open (reverse (eventsOf (x .rows .now) (x .octets .now))) (p .phase-in .result) (p .phase-in .ensures) (c .before .if1 .taken) (c .no-charge .result) (c .no-charge .ensures)
+    rw (c .no-charge .ensures) (sym (rw (ne-eqb _ 4 (c .before .if1 .taken))) ∙ closing-kept (events p) (p .phase-in .ensures) refl refl)
 
 returns-2 : tie.Need-returns-2
 returns-2 c =
     let e = c .before .before in
     let p = e .before .before in
-    let x = p .before .before .before .args in
-    closing-e (reverse (eventsOf (x .rows .now) (x .octets .now))) (p .phase-in .result) (p .phase-in .ensures) (e .before .if1 .left) (e .last-kept .result) (e .last-kept .ensures) (c .if2 .taken)
+    sym (rw (eq-eqb _ 4 (e .before .if1 .left), ne-eqb _ 0 (c .if2 .taken))) ∙ closing-kept (events p) (p .phase-in .ensures) (e .last-kept .ensures) refl
 
 returns-3 : tie.Need-returns-3
 returns-3 c =
     let d = c .before .before in
     let e = d .before .before .before in
     let p = e .before .before in
-    let x = p .before .before .before .args in
-    closing-d (reverse (eventsOf (x .rows .now) (x .octets .now))) (p .phase-in .result) (p .phase-in .ensures) (e .before .if1 .left) (e .last-kept .result) (e .last-kept .ensures)
-    (d .before .if2 .left)
-    (d .last-kept2 .result) (d .last-kept2 .ensures) (c .if3 .taken)
+    sym (rw (eq-eqb _ 4 (e .before .if1 .left), eq-eqb _ 0 (d .before .if2 .left), ne-eqb _ 0 (c .if3 .taken)))
+    ∙ closing-kept (events p) (p .phase-in .ensures) (e .last-kept .ensures) (d .last-kept2 .ensures)
 
 returns-4 : tie.Need-returns-4
 returns-4 c =
     let d = c .before .before .before in
     let e = d .before .before .before in
     let p = e .before .before in
-    let x = p .before .before .before .args in
-    closing-none (reverse (eventsOf (x .rows .now) (x .octets .now))) (p .phase-in .result) (p .phase-in .ensures) (e .before .if1 .left) (e .last-kept .result) (e .last-kept .ensures)
-    (d .before .if2 .left)
-    (d .last-kept2 .result) (d .last-kept2 .ensures) (c .before .if3 .left) (c .no-charge2 .result) (c .no-charge2 .ensures)
+    rw (c .no-charge2 .ensures)
+    (sym (rw (eq-eqb _ 4 (e .before .if1 .left), eq-eqb _ 0 (d .before .if2 .left), eq-eqb _ 0 (c .before .if3 .left)))
+    ∙ closing-kept (events p) (p .phase-in .ensures) (e .last-kept .ensures) (d .last-kept2 .ensures))
 
 pub closing-in-spec : {M : Type 1} → statement M
-closing-in-spec = tie.close (tie.spec (λ c κs. c .before .before .pre) (omega arith) returns (λ c κs. let far = c .before .before .before in far .before .pre) returns-2
-    (λ c κs. let far = c .before .before .before in let far2 = far .before .before .before in far2 .before .pre) returns-3 (omega arith) returns-4)
+closing-in-spec =
+    tie.close (tie.spec (λ c κs. c .before .before .pre) (omega arith) returns (λ c κs. start (c .before) .pre) returns-2
+    (λ c κs. start (c .before .before .before .before) .pre) returns-3 (omega arith) returns-4)

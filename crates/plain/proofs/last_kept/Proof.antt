@@ -1,9 +1,9 @@
-use Rattle.prelude.proofs.Prelude.{_≤_, _/_, _-_, length, reverse, _≡_, sym, _∙_, arith, eqb, eq-eqb, ne-eqb}
+use Rattle.prelude.proofs.Prelude.{_≤_, _/_, _-_, length, reverse, _≡_, sym, _∙_, true, false, arith, eqb, eq-eqb, ne-eqb}
 use Rattle.outcomes.specs.Status.{placeOf}
 use Rattle.account.specs.History.{last, judged}
 use Rattle.events.specs.Events.{eventsOf}
-use Rattle.events.specs.Prefix.{before}
-use Rattle.plain.proofs.{Figures.whole, Figures.last-here, Figures.last-less, Figures.last-none, last_kept.Statement.statement}
+use Rattle.events.specs.inner.Prefix.{before}
+use Rattle.plain.proofs.{Figures.whole, Figures.last-step, Figures.nothing-left, last_kept.Statement.statement}
 use Rattle.plain.proofs.last_kept.Tie as tie
 
 abbrev Inv-loop : tie.InvT-loop
@@ -23,7 +23,7 @@ returns c =
     let l = o .before .before in
     let x = l .before .before .before .args in
     c .charge-at .ensures
-    ∙ sym (last-here (x .rows .now) (x .octets .now) (λ r. eqb (placeOf r) (x .place)) (l .loop .i) (o .before .loop-test .taken) (o .outcome-at .result) (o .outcome-at .ensures)
+    ∙ sym (last-step (x .rows .now) (x .octets .now) (λ r. eqb (placeOf r) (x .place)) (l .loop .i) (o .before .loop-test .taken) (o .outcome-at .ensures) true
     (eq-eqb _ _ (sym (p .place-of .ensures) ∙ c .before .if1 .taken)))
     ∙ l .loop .inv .1
 
@@ -34,7 +34,7 @@ loop-again c =
     let l = o .before .before in
     let x = l .before .before .before .args in (
       omega arith,
-      sym (last-less (x .rows .now) (x .octets .now) (λ r. eqb (placeOf r) (x .place)) (l .loop .i) (o .before .loop-test .taken) (o .outcome-at .result) (o .outcome-at .ensures)
+      sym (last-step (x .rows .now) (x .octets .now) (λ r. eqb (placeOf r) (x .place)) (l .loop .i) (o .before .loop-test .taken) (o .outcome-at .ensures) false
           (ne-eqb _ _ (λ e. c .if1 .left (p .place-of .ensures ∙ e))))
           ∙ l .loop .inv .1,
     )
@@ -43,7 +43,9 @@ returns-2 : tie.Need-returns-2 Inv-loop μ-loop
 returns-2 c =
     let l = c .before .before in
     let x = l .before .before .before .args in
-    c .no-charge .ensures ∙ sym (last-none (x .rows .now) (x .octets .now) (λ r. eqb (placeOf r) (x .place)) (l .loop .i) (c .before .loop-test .left)) ∙ l .loop .inv .1
+    c .no-charge .ensures
+    ∙ sym (nothing-left (x .rows .now) (x .octets .now) (last (λ j. eqb (placeOf (j .outcome)) (x .place))) (l .loop .i) (c .before .loop-test .left))
+    ∙ l .loop .inv .1
 
 pub last-kept-spec : {M : Type 1} → statement M
 last-kept-spec =

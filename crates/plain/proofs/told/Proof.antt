@@ -1,9 +1,9 @@
-use Rattle.prelude.proofs.Prelude.{_≤_, _/_, _-_, length, reverse, _≡_, sym, _∙_, arith}
+use Rattle.prelude.proofs.Prelude.{_≤_, _/_, _-_, length, reverse, _≡_, sym, _∙_, true, false, arith}
 use Rattle.outcomes.specs.Outcome.{its}
 use Rattle.account.specs.History.{any, judged}
 use Rattle.events.specs.Events.{eventsOf}
-use Rattle.events.specs.Prefix.{before}
-use Rattle.plain.proofs.{Figures.whole, Figures.any-here, Figures.any-less, Figures.any-none, told.Statement.statement}
+use Rattle.events.specs.inner.Prefix.{before}
+use Rattle.plain.proofs.{Figures.whole, Figures.any-step, Figures.nothing-left, told.Statement.statement}
 use Rattle.plain.proofs.told.Tie as tie
 
 abbrev Inv-loop : tie.InvT-loop
@@ -22,7 +22,7 @@ returns c =
     let o = p .before in
     let l = o .before .before in
     let x = l .before .before .before .args in
-    sym (any-here (x .rows .now) (x .octets .now) (its (x .service) (x .number)) (l .loop .i) (o .before .loop-test .taken) (o .outcome-at .result) (o .outcome-at .ensures)
+    sym (any-step (x .rows .now) (x .octets .now) (its (x .service) (x .number)) (l .loop .i) (o .before .loop-test .taken) (o .outcome-at .ensures) true
     (sym (p .is-its .ensures) ∙ c .if1 .taken))
     ∙ l .loop .inv .1
 
@@ -33,7 +33,7 @@ loop-again c =
     let l = o .before .before in
     let x = l .before .before .before .args in (
       omega arith,
-      sym (any-less (x .rows .now) (x .octets .now) (its (x .service) (x .number)) (l .loop .i) (o .before .loop-test .taken) (o .outcome-at .result) (o .outcome-at .ensures)
+      sym (any-step (x .rows .now) (x .octets .now) (its (x .service) (x .number)) (l .loop .i) (o .before .loop-test .taken) (o .outcome-at .ensures) false
           (sym (p .is-its .ensures) ∙ c .if1 .left))
           ∙ l .loop .inv .1,
     )
@@ -42,7 +42,8 @@ returns-2 : tie.Need-returns-2 Inv-loop μ-loop
 returns-2 c =
     let l = c .before in
     let x = l .before .before .before .args in
-    sym (any-none (x .rows .now) (x .octets .now) (its (x .service) (x .number)) (l .loop .i) (c .loop-test .left)) ∙ l .loop .inv .1
+    sym (nothing-left (x .rows .now) (x .octets .now) (any (λ j. its (x .service) (x .number) (j .outcome))) (l .loop .i) (c .loop-test .left))
+    ∙ l .loop .inv .1
 
 pub told-spec : {M : Type 1} → statement M
 told-spec =

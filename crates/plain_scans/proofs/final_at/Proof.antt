@@ -1,35 +1,34 @@
-use Rattle.prelude.proofs.Prelude.{arith}
-use Rattle.plain_scans.proofs.{Scans.final-first, Scans.final-same, Scans.final-other, final_at.Statement.statement}
+use Rattle.prelude.proofs.Prelude.{_≡_, Bool, true, false, cond, sym, _∙_, arith}
+use Rattle.phases.specs.Phases.{outcome}
+use Rattle.outcomes.specs.Outcome.{judgeFinal, firstFinal}
+use Rattle.account.specs.History.{known, judged}
+use Rattle.events.specs.inner.Prefix.{before}
+use Rattle.plain_scans.proofs.{Scans.final-first, Scans.final-again, final_at.Statement.statement}
 use Rattle.plain_scans.proofs.final_at.Tie as tie
 
 returns : tie.Need-returns
 returns c =
     let f = c .before in
     let s = f .before .before .before in
-    let x = s .args in
-    final-first (x .rows .now) (x .octets .now) (x .service) (s .pre .1) (s .pre .2) (x .k) (f .final-before .result) (f .final-before .ensures) (x .charge) (c .if1 .taken)
+    final-first (s .args .service) (s .pre .1) (s .pre .2) (f .final-before .ensures) (s .args .charge) (c .if1 .taken)
 
-returns-2 : tie.Need-returns-2
-returns-2 c =
-    let m = c .before in
-    let g = m .before in
-    let f = g .before .before in
-    let s = f .before .before .before in
-    let x = s .args in
-    final-same (x .rows .now) (x .octets .now) (x .service) (s .pre .1) (s .pre .2) (x .k) (f .final-before .result) (f .final-before .ensures) (x .charge) (g .before .if1 .left)
-    (g .charge-at .result) (g .charge-at .ensures) (m .same .result) (m .same .ensures) (c .if2 .taken)
+-- there is a final before it, with which it is compared
+module _ (m : tie.After-same) where
+  abbrev found : tie.After-final-before
+  found = m .before .before .before
 
-returns-3 : tie.Need-returns-3
-returns-3 c =
-    let m = c .before in
-    let g = m .before in
-    let f = g .before .before in
-    let s = f .before .before .before in
-    let x = s .args in
-    final-other (x .rows .now) (x .octets .now) (x .service) (s .pre .1) (s .pre .2) (x .k) (f .final-before .result) (f .final-before .ensures) (x .charge) (g .before .if1 .left)
-    (g .charge-at .result) (g .charge-at .ensures) (m .same .result) (m .same .ensures) (c .if2 .left)
+  abbrev start : tie.Start
+  start = found .before .before .before
+
+  again : (b : Bool) → m .same .result ≡ b → cond b (outcome 28 (start .args .service)) (outcome 29 (start .args .service))
+      ≡ judgeFinal (firstFinal (known (judged (before (start .args .rows .now) (start .args .octets .now) (start .args .k)))) (start .args .service))
+      (start .args .service) (start .args .charge)
+  again b e =
+      final-again (start .args .service) (start .pre .1) (start .pre .2) (found .final-before .ensures) (start .args .charge)
+      (m .before .before .if1 .left) (m .before .charge-at .ensures)
+      (sym e ∙ m .same .ensures)
 
 pub final-at-spec : {M : Type 1} → statement M
 final-at-spec =
     tie.close (tie.spec (λ c κs. c .before .before .pre) returns (λ c κs. let far = c .before .before .before in let s = far .before in (s .pre .0 .list, omega (arith, s .pre .0 .some, c .if1 .left)))
-    (omega arith) returns-2 returns-3)
+    (omega arith) (λ c. again (c .before) true (c .if2 .taken)) (λ c. again (c .before) false (c .if2 .left)))

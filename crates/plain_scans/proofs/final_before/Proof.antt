@@ -1,11 +1,9 @@
-use Rattle.prelude.proofs.Prelude.{_-_, _≡_, false, refl, sym, _∙_, ap, arith}
+use Rattle.prelude.proofs.Prelude.{_+_, _-_, _≤_, _≡_, false, refl, sym, _∙_, ap, arith, length}
 use Rattle.outcomes.specs.Outcome.{its}
-use Rattle.account.specs.History.{any, judged}
-use Rattle.events.specs.Prefix.{before}
-use Rattle.plain_scans.specs.Scan.{Here}
-use Rattle.plain_scans.specs.Claim.{requestOf}
-use Rattle.events.proofs.Prefix.{ends-inside}
-use Rattle.plain_scans.proofs.Scans.{names, scan-starts, scan-goes-on, tells-final, pending-at, found-here, none-yet, found-none}
+use Rattle.account.specs.History.{any, judged, named}
+use Rattle.events.specs.inner.Prefix.{before}
+use Rattle.plain_scans.specs.{inner.Scan.Here, inner.Claim.requestOf}
+use Rattle.plain_scans.proofs.Scans.{outcomeOf, names, scan-starts, scan-inside, scan-goes-on, tells-final, pending-at, found-here, none-yet, found-none}
 use Rattle.plain_scans.proofs.final_before.Statement.{statement}
 use Rattle.plain_scans.proofs.final_before.Tie as tie
 
@@ -16,91 +14,66 @@ Inv-loop rows octets k service q place phase₀ at₀ i₀ p at i =
 abbrev μ-loop : tie.MeasureT-loop
 μ-loop rows octets k service q place phase₀ at₀ i₀ p at i = k - i
 
-answer-before-requires : tie.Need-answer-before-requires Inv-loop μ-loop
-answer-before-requires c κs =
-    let setup = c .before in
-    let s = setup .before .before .before in
-    let x = s .args in
-    let named = names (x .rows .now) (x .octets .now) (x .service) (x .k) (setup .setup-before .result) (c .asked-for .result)
-    (setup .setup-before .ensures (x .octets .now)) (c .asked-for .ensures) in
-    (s .pre .0, omega (arith, s .pre .1), s .pre .2, named)
+-- what the Setup asks for is what was named
+module _ (g : tie.After-asked-for Inv-loop μ-loop) where
+  abbrev start : tie.Start Inv-loop μ-loop
+  start = g .before .before .before .before
+
+  named-it : named (start .args .service) (judged (before (start .args .rows .now) (start .args .octets .now) (start .args .k)))
+      ≡ requestOf (g .asked-for .result)
+  named-it = names _ _ _ (start .args .k) _ _ (g .before .setup-before .ensures (start .args .octets .now)) (g .asked-for .ensures)
 
 loop-holds : tie.Need-loop-holds Inv-loop μ-loop
 unfolding before
-loop-holds c = (scan-starts _ _ _, refl)
+loop-holds c = (scan-starts, refl)
 
-add-end : tie.Need-add-end Inv-loop μ-loop
-add-end c =
-    let l = c .before .before in
-    let far = l .before .before .before in
-    let s = far .before .before .before in
-    let h = l .loop .inv .0 in
-    omega (arith, c .count-at .ensures, h .place, ends-inside (s .args .rows .now) (s .args .octets .now) (s .pre .0 .list) (l .loop .i) (omega (arith, s .pre .0 .some, c .before .loop-test .taken)))
+-- the octets of event i end inside
+ends : (n : tie.After-count-at Inv-loop μ-loop) → let l = n .before .before in
+    l .loop .at + n .count-at .result ≤ length (start (l .before .before) .args .octets .now)
+ends n = let l = n .before .before in scan-inside (l .loop .inv .0) (n .count-at .ensures) (start (l .before .before) .pre .0) (n .before .loop-test .taken)
 
-part-claim-end : tie.Need-part-claim-end Inv-loop μ-loop
-part-claim-end c =
-    let n = c .before .before .before in
-    let l = n .before .before in
-    let far = l .before .before .before in
-    let s = far .before .before .before in
-    let h = l .loop .inv .0 in
-    omega (arith, n .count-at .ensures, h .place, ends-inside (s .args .rows .now) (s .args .octets .now) (s .pre .0 .list) (l .loop .i) (omega (arith, s .pre .0 .some, n .before .loop-test .taken)))
+-- event i is tested: its row, the loop's place and the function's arguments; it is the service's final where the outcome that is tested says so
+module _ (t : tie.After-is-its Inv-loop μ-loop) where
+  abbrev alone : tie.After-alone Inv-loop μ-loop
+  alone = t .before .before .before
+
+  abbrev row : tie.After-row-at Inv-loop μ-loop
+  row = alone .before .before
+
+  abbrev at : tie.At-loop Inv-loop μ-loop
+  at = row .before .before .before
+
+  abbrev begun : tie.Start Inv-loop μ-loop
+  begun = start (at .before .before)
+
+  told : its (begun .args .service) 22 (outcomeOf (begun .args .rows .now) (begun .args .octets .now) (at .loop .i)) ≡ t .is-its .result
+  told =
+      tells-final (at .loop .inv .0) (row .before .count-at .ensures) (row .row-at .ensures) (alone .alone .result) (begun .args .service)
+      (requestOf (alone .before .until .result))
+      (alone .alone .ensures) (t .before .claim .ensures) (omega (arith, begun .pre .1)) (begun .pre .2)
+      (λ busy. pending-at _ _ _ (begun .args .k) (at .loop .i) (at .loop .inv .0 .row) _ (named-it (at .before .before)) _
+      (at .before .answer-before .ensures) busy
+      ∙ sym (ap requestOf (alone .before .until .ensures)))
+      (at .loop .inv .1) (begun .pre .1)
+      ∙ sym (t .is-its .ensures)
 
 returns : tie.Need-returns Inv-loop μ-loop
 returns c =
     let t = c .before in
-    let o = t .before in
-    let a = o .before .before in
-    let u = a .before in
-    let r = u .before in
-    let n = r .before in
-    let l = n .before .before in
-    let f = l .before in
-    let g = f .before in
-    let b = g .before in
-    let s = b .before .before .before in
-    let x = s .args in
-    let named-it = names (x .rows .now) (x .octets .now) (x .service) (x .k) (b .setup-before .result) (g .asked-for .result) (b .setup-before .ensures (x .octets .now)) (g .asked-for .ensures) in
-    let told = tells-final (x .rows .now) (x .octets .now) (x .k) (l .loop .i) (l .loop .at) (l .loop .phase) (l .loop .inv .0) (n .count-at .result) (n .count-at .ensures)
-    (r .row-at .result) (r .row-at .ensures) (a .alone .result) (x .service) (requestOf (u .until .result)) (a .alone .ensures .0) (a .alone .ensures .1) (o .claim .result) (o .claim .ensures)
-    (omega (arith, s .pre .1)) (s .pre .2)
-    (λ busy. pending-at _ _ (x .service) (x .k) (l .loop .i) (l .loop .inv .0 .row) (requestOf (g .asked-for .result)) named-it (f .answer-before .result) (f .answer-before .ensures) busy
-    ∙ sym (ap requestOf (u .until .ensures)))
-    (l .loop .inv .1) (s .pre .1) in
-    found-here _ _ (its (x .service) 22) (x .k) (l .loop .i) (l .loop .inv .1) (n .before .loop-test .taken) (told ∙ sym (t .is-its .ensures) ∙ c .if1 .taken)
+    found-here _ _ (its (begun t .args .service) 22) (at t .loop .i) (at t .loop .inv .1) (row t .before .before .loop-test .taken) (told t ∙ c .if1 .taken)
 
 loop-again : tie.Need-loop-again Inv-loop μ-loop
 loop-again c =
-    let t = c .before .before in
-    let o = t .before in
-    let a = o .before .before in
-    let u = a .before in
-    let r = u .before in
-    let n = r .before in
-    let l = n .before .before in
-    let f = l .before in
-    let g = f .before in
-    let b = g .before in
-    let s = b .before .before .before in
-    let x = s .args in
-    let named-it = names (x .rows .now) (x .octets .now) (x .service) (x .k) (b .setup-before .result) (g .asked-for .result) (b .setup-before .ensures (x .octets .now)) (g .asked-for .ensures) in
-    let told = tells-final (x .rows .now) (x .octets .now) (x .k) (l .loop .i) (l .loop .at) (l .loop .phase) (l .loop .inv .0) (n .count-at .result) (n .count-at .ensures)
-    (r .row-at .result) (r .row-at .ensures) (a .alone .result) (x .service) (requestOf (u .until .result)) (a .alone .ensures .0) (a .alone .ensures .1) (o .claim .result) (o .claim .ensures)
-    (omega (arith, s .pre .1)) (s .pre .2)
-    (λ busy. pending-at _ _ (x .service) (x .k) (l .loop .i) (l .loop .inv .0 .row) (requestOf (g .asked-for .result)) named-it (f .answer-before .result) (f .answer-before .ensures) busy
-    ∙ sym (ap requestOf (u .until .ensures)))
-    (l .loop .inv .1) (s .pre .1) in (
-      scan-goes-on _ _ (x .k) (l .loop .i) (l .loop .at) (l .loop .phase) (l .loop .inv .0) (n .count-at .result) (n .count-at .ensures) (r .row-at .result) (r .row-at .ensures)
-          (n .before .loop-test .taken) (c .passed .result) (c .passed .ensures),
-      none-yet _ _ (its (x .service) 22) (x .k) (l .loop .i) (l .loop .inv .1) (told ∙ sym (t .is-its .ensures) ∙ c .before .if1 .left),
+    let t = c .before .before in (
+      scan-goes-on (at t .loop .inv .0) (row t .before .count-at .ensures) (row t .row-at .ensures) (row t .before .before .loop-test .taken)
+          (c .passed .ensures),
+      none-yet _ _ (its (begun t .args .service) 22) (at t .loop .i) (at t .loop .inv .1) (told t ∙ c .before .if1 .left),
     )
 
 returns-2 : tie.Need-returns-2 Inv-loop μ-loop
 returns-2 c =
     let l = c .before in
-    let far = l .before .before .before in
-    let x = far .before .before .before .args in
-    found-none _ _ (its (x .service) 22) (x .k) (l .loop .i) (l .loop .inv .1) (l .loop .inv .0 .row) (c .loop-test .left)
+    found-none _ _ (its (start (l .before .before) .args .service) 22) (l .loop .i) (l .loop .inv .1) (l .loop .inv .0 .row) (c .loop-test .left)
 
 pub final-before-spec : {M : Type 1} → statement M
 final-before-spec =
@@ -110,22 +83,21 @@ final-before-spec =
     μ-loop
     (λ c κs. c .before .before .pre .0 .some)
     (omega arith)
-    answer-before-requires
+    (λ c κs. (start c .pre .0, omega (arith, start c .pre .1), start c .pre .2, named-it c))
     loop-holds
-    (λ c κs. let far = c .before .before .before in let far2 = far .before .before .before in omega (arith, far2 .before .pre .0 .some))
-    add-end
-    (λ c κs. let far = c .before .before .before in let far2 = far .before .before .before in omega (arith, far2 .before .before .pre .0 .some))
+    (λ c κs. omega (arith, start (c .before .before .before) .pre .0 .some))
+    (λ c. omega (arith, ends c))
+    (λ c κs. let l = c .before .before in omega (arith, start (l .before .before) .pre .0 .some))
     (omega arith)
     (omega arith)
     (omega arith)
     (omega arith)
-    part-claim-end
+    (λ c. omega (arith, ends (c .before .before .before)))
     (omega arith)
     (omega arith)
     returns
     (omega arith)
-    (λ c. let far = c .before .before .before in let far2 = far .before .before .before in let t = far2 .before .before .before in let up = t .before .before .before in
-    let up2 = up .before .before .before in omega (arith, t .loop-test .taken, up2 .before .pre .0 .some))
+    (λ c. let t = c .before .before in omega (arith, row t .before .before .loop-test .taken, begun t .fits .k .fits))
     (omega arith)
     loop-again
     returns-2)

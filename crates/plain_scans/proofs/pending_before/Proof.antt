@@ -1,27 +1,25 @@
-use Rattle.prelude.proofs.Prelude.{sym, _∙_, ap, arith}
-use Rattle.plain_scans.specs.Claim.{askOf, requestOf}
+use Rattle.prelude.proofs.Prelude.{_≡_, sym, _∙_, ap, arith}
+use Rattle.account.specs.History.{named, judged}
+use Rattle.events.specs.inner.Prefix.{before}
+use Rattle.plain_scans.specs.inner.Claim.{askOf, requestOf}
 use Rattle.plain_scans.proofs.{Scans.names, Scans.pending-last, pending_before.Statement.statement}
 use Rattle.plain_scans.proofs.pending_before.Tie as tie
 
-answer-before-requires : tie.Need-answer-before-requires
-answer-before-requires c κs =
-    let setup = c .before in
-    let s = setup .before .before .before in
-    let x = s .args in
-    let named = names (x .rows .now) (x .octets .now) (x .service) (x .k) (setup .setup-before .result) (c .asked-for .result)
-    (setup .setup-before .ensures (x .octets .now)) (c .asked-for .ensures) in
-    (s .pre .0, s .pre .1, s .pre .2, named)
+-- what the Setup asks for is what was named
+module _ (g : tie.After-asked-for) where
+  abbrev start : tie.Start
+  start = g .before .before .before .before
+
+  named-it : named (start .args .service) (judged (before (start .args .rows .now) (start .args .octets .now) (start .args .k)))
+      ≡ requestOf (g .asked-for .result)
+  named-it = names _ _ _ (start .args .k) _ _ (g .before .setup-before .ensures (start .args .octets .now)) (g .asked-for .ensures)
 
 returns : tie.Need-returns
 returns c =
-    let found = c .before in
-    let asked = found .before in
-    let setup = asked .before in
-    let x = setup .before .before .before .args in
-    c .until .ensures
-    ∙ ap askOf (sym (pending-last (x .rows .now) (x .octets .now) (x .service) (x .k) (requestOf (asked .asked-for .result))
-    (names (x .rows .now) (x .octets .now) (x .service) (x .k) (setup .setup-before .result) (asked .asked-for .result) (setup .setup-before .ensures (x .octets .now)) (asked .asked-for .ensures))
-    (found .answer-before .result) (found .answer-before .ensures)))
+    let f = c .before in
+    c .until .ensures ∙ ap askOf (sym (pending-last _ _ _ (start (f .before) .args .k) _ (named-it (f .before)) _ (f .answer-before .ensures)))
 
 pub pending-before-spec : {M : Type 1} → statement M
-pending-before-spec = tie.close (tie.spec (λ c κs. c .before .before .pre .0 .some) (omega arith) answer-before-requires (omega arith) returns)
+pending-before-spec =
+    tie.close (tie.spec (λ c κs. c .before .before .pre .0 .some) (omega arith)
+    (λ c κs. (start c .pre .0, start c .pre .1, start c .pre .2, named-it c)) (omega arith) returns)

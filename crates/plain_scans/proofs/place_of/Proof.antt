@@ -1,6 +1,6 @@
-use Rattle.prelude.proofs.Prelude.{_≤_, _-_, _≡_, refl, sym, _∙_, ap, arith}
-use Rattle.events.specs.Prefix.{placeAt}
-use Rattle.events.proofs.Prefix.{place-next, place-fits}
+use Rattle.prelude.proofs.Prelude.{_≤_, _-_, _≡_, refl, _∙_, ap, arith}
+use Rattle.events.specs.inner.Prefix.{placeAt}
+use Rattle.events.proofs.Prefix.{next-place, place-fits}
 use Rattle.plain_scans.proofs.place_of.Statement.{statement}
 use Rattle.plain_scans.proofs.place_of.Tie as tie
 
@@ -24,7 +24,7 @@ loop-again : tie.Need-loop-again Inv-loop μ-loop
 loop-again c =
     let l = c .before .before in
     let s = l .before .before in
-    (omega arith, rw (l .loop .inv .1, c .count-at .ensures) (sym (place-next (s .args .rows .now) (s .args .rows .now) (l .loop .i))))
+    (omega arith, next-place _ (s .args .rows .now) (l .loop .i) (l .loop .inv .1) (c .count-at .ensures))
 
 returns : tie.Need-returns Inv-loop μ-loop
 returns c =

@@ -1,18 +1,16 @@
--- The record is handed over as it lies in the parts.
-use Rattle.prelude.proofs.Prelude.{arith}
-use Rattle.profile_write.proofs.{Handing.taken-out, write_line.Statement.statement}
+-- The record lies in the parts: its front is taken out of its octets, and the rest is lent on.
+use Rattle.prelude.proofs.Prelude.{arith, ap, needs}
+use Rattle.types.specs.{declared.Front.Front, Stored.storedCharge}
+use Rattle.write.{specs.inner.Halves.recordOf, proofs.Outcomes.of-same}
+use Rattle.profile_write.proofs.write_line.Statement.{statement}
 use Rattle.profile_write.proofs.write_line.Tie as tie
 
 returns : tie.Need-returns
 returns c =
     let w = c .before .before in
-    let lent = w .before .before .before in
-    let m = lent .before .before .before in
-    let g = m .before .before .before in
-    let f = g .before in
+    let f = w .before .before in
     let a = f .before .before .args in
-    rw (← taken-out (a .front .now) (a .figure .now) (a .numbers .now) (a .rows .now) (f .front-of .ensures) (g .figure-of .ensures))
-    (w .write-from .ensures .0, w .write-from .ensures .1)
+    of-same (a .buf .now) (ap (λ (x : Front). recordOf x (storedCharge (a .figure .now) (a .numbers .now) (a .rows .now))) (f .front-of .ensures)) (w .write-from .ensures)
 
 pub write-line-spec : {M : Type 1} → statement M
-write-line-spec = tie.close (tie.spec (omega arith) (omega arith) (omega arith) (omega arith) returns)
+write-line-spec = tie.close (tie.spec (λ c κs. search needs) (λ c κs. search needs) (omega arith) returns)

@@ -2,7 +2,7 @@
 use Rattle.prelude.proofs.Prelude.{arith, eq-eqb, ne-eqb, ap}
 use Rattle.types.specs.Frames.{answered}
 use Rattle.read_heads.proofs.Answers.{ends, leaves, twice, over-in}
-use Rattle.read.specs.Ways.{held, endOf}
+use Rattle.read.specs.inner.Ways.{held, endOf}
 use Rattle.read.proofs.{Tails.left-over, ended.Statement.statement, ended.Tie.close, ended.Tie.spec}
 
 pub ended-spec : {M : Type 1} → statement M

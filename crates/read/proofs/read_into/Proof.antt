@@ -2,8 +2,8 @@
 use Rattle.prelude.proofs.Prelude.{arith, needs, ap, _∙_, sym, eqb, ne-eqb, le-leb, lt-leb}
 use Rattle.coding.{specs.Reader.part, proofs.Basic.and-left, proofs.Basic.and-right}
 use Rattle.types.specs.{Stored.figureIn, Frames.argument, Frames.answered}
-use Rattle.read_heads.specs.Heads.{restOf}
-use Rattle.read.specs.Ways.{held}
+use Rattle.read_heads.specs.inner.Heads.{restOf}
+use Rattle.read.specs.inner.Ways.{held}
 use Rattle.read.proofs.{Tails.reads, Tails.reads-none, Tails.rest-carried, read_into.Statement.statement, read_into.Tie.close, read_into.Tie.spec}
 
 pub read-into-spec : {M : Type 1} → statement M

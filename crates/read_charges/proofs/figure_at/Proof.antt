@@ -1,10 +1,10 @@
 -- Each return by the answers that led to it.
 use Rattle.prelude.proofs.Prelude.{needs, arith, _≡_, refl, sym, _∙_}
-use Rattle.coding.{specs.Shown.shown, proofs.Reading.reading, proofs.Reading.step, proofs.Reading.shut}
+use Rattle.coding.{specs.inner.Shown.shown, proofs.Reading.reading, proofs.Reading.step, proofs.Reading.shut}
 use Rattle.types.specs.{Arguments.noCharge, Stored.storedCharge}
-use Rattle.read_figures.{specs.Beside.Unassociated, proofs.Answers.storing, proofs.Answers.goes}
-use Rattle.read_charges.specs.Readers.{figureOf}
-use Rattle.read_lengths.{specs.Bounds.Bounded, proofs.Answers.passed}
+use Rattle.read_figures.{specs.inner.Beside.Unassociated, proofs.Answers.storing, proofs.Answers.goes}
+use Rattle.read_charges.specs.inner.Readers.{figureOf}
+use Rattle.read_lengths.{specs.inner.Bounds.Bounded, proofs.Answers.passed}
 use Rattle.read_charges.proofs.{Stores.none-stored, Stores.association-stored, Steps.ended, Steps.parties, Steps.parties-none, Steps.figure-read, figure_at.Statement.statement}
 use Rattle.read_charges.proofs.figure_at.Tie as tie
 

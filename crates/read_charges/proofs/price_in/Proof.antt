@@ -3,7 +3,7 @@ use Rattle.prelude.proofs.Prelude.{needs, arith}
 use Rattle.coding.{specs.Codec.canonical, specs.Codec.over, proofs.Reading.reading}
 use Rattle.types.specs.Arguments.{inMoney}
 use Rattle.read_figures.proofs.Answers.{storing}
-use Rattle.read_charges.specs.Readers.{amountBy}
+use Rattle.read_charges.specs.inner.Readers.{amountBy}
 use Rattle.read_lengths.proofs.Answers.{when}
 use Rattle.read_lists.proofs.Clear.{clear}
 use Rattle.read_charges.proofs.{Stores.money-stored, Steps.pick-read, price_in.Statement.statement}

@@ -1,11 +1,11 @@
 -- Each return by the answers that led to it.
 use Rattle.prelude.proofs.Prelude.{needs, arith, _≡_, refl, _∙_}
-use Rattle.coding.{specs.Reader.after, specs.Reader.closed, specs.Shown.shown, proofs.Reading.reading, proofs.Reading.step, proofs.Reading.shut, proofs.Reading.remains}
+use Rattle.coding.{specs.Reader.after, specs.Reader.closed, specs.inner.Shown.shown, proofs.Reading.reading, proofs.Reading.step, proofs.Reading.shut, proofs.Reading.remains}
 use Rattle.types.specs.{Arguments.noCharge, Stored.storedCharge}
-use Rattle.read_lengths.specs.Bounds.{Bounded}
-use Rattle.read_unit.specs.Readers.{isSubtotal}
-use Rattle.read_lists.{specs.Answers.Clear, proofs.Clear.clear}
-use Rattle.read_charges.specs.Readers.{pricedOf}
+use Rattle.read_lengths.specs.inner.Bounds.{Bounded}
+use Rattle.read_unit.specs.inner.Readers.{isSubtotal}
+use Rattle.read_lists.{specs.inner.Answers.Clear, proofs.Clear.clear}
+use Rattle.read_charges.specs.inner.Readers.{pricedOf}
 use Rattle.read_figures.proofs.Answers.{storing, surplus, goes}
 use Rattle.read_charges.proofs.{Stores.totals-stored, Steps.inner, Steps.shut-in, Steps.totals, Steps.priced-read, priced_at.Statement.statement}
 use Rattle.read_charges.proofs.priced_at.Tie as tie

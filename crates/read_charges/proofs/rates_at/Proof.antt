@@ -2,7 +2,7 @@
 use Rattle.prelude.proofs.Prelude.{needs, arith}
 use Rattle.coding.{specs.Reader.constructed, specs.Codec.cons, specs.Codec.canonical, specs.Codec.over, specs.Codec.some·more, proofs.Reading.reading, proofs.Reading.step}
 use Rattle.coding.{proofs.Reading.shut}
-use Rattle.read_lists.specs.Answers.{inRates}
+use Rattle.read_lists.specs.inner.Answers.{inRates}
 use Rattle.types.specs.Arguments.{rates}
 use Rattle.read_figures.proofs.Answers.{storing, arrived, goes}
 use Rattle.read_charges.proofs.rates_at.Statement.{statement}

@@ -1,7 +1,7 @@
 use Rattle.prelude.proofs.Prelude.{arith, sym, _∙_}
 use Rattle.types.proofs.Theorems.{read-long}
 use Rattle.types.specs.Frames.{frame}
-use Rattle.read_heads.specs.Heads.{restOf}
+use Rattle.read_heads.specs.inner.Heads.{restOf}
 use Rattle.read_heads.proofs.{Entered.framing, head_of.Statement.statement}
 use Rattle.read_heads.proofs.head_of.Tie as tie
 

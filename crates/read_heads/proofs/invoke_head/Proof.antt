@@ -2,7 +2,7 @@
 use Rattle.prelude.proofs.Prelude.{arith}
 use Rattle.coding.{specs.Codec.leads, proofs.Reading.flat}
 use Rattle.types.specs.Frames.{invoke}
-use Rattle.read_heads.specs.Heads.{contentsOf, restOf}
+use Rattle.read_heads.specs.inner.Heads.{contentsOf, restOf}
 use Rattle.read_heads.proofs.{Answers.heading, Answers.tail-one, invoke_head.Statement.statement}
 use Rattle.read_heads.proofs.invoke_head.Tie as tie
 

@@ -1,6 +1,6 @@
 use Rattle.prelude.proofs.Prelude.{arith}
 use Rattle.coding.proofs.Reading.{reading}
-use Rattle.read_heads.specs.Heads.{problemIn}
+use Rattle.read_heads.specs.inner.Heads.{problemIn}
 use Rattle.read_heads.proofs.problem_at.Statement.{statement}
 use Rattle.read_heads.proofs.problem_at.Tie as tie
 

@@ -1,6 +1,6 @@
 use Rattle.prelude.proofs.Prelude.{arith}
 use Rattle.coding.proofs.Reading.{reading}
-use Rattle.read_heads.specs.Heads.{problemsIn}
+use Rattle.read_heads.specs.inner.Heads.{problemsIn}
 use Rattle.read_heads.proofs.problems_at.Statement.{statement}
 use Rattle.read_heads.proofs.problems_at.Tie as tie
 

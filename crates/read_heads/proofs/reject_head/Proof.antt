@@ -2,7 +2,7 @@
 use Rattle.prelude.proofs.Prelude.{arith, ℕ, _≡_, List, length}
 use Rattle.coding.{specs.Reader.after, specs.Reader.closed, specs.Codec.sort, specs.Codec.canonical, specs.Codec.over, specs.Codec.leads, proofs.Reading.flat}
 use Rattle.types.specs.Frames.{rejects, problem, problems, caller, reject}
-use Rattle.read_heads.specs.Heads.{problemIn, problemsIn, contentsOf, restOf}
+use Rattle.read_heads.specs.inner.Heads.{problemIn, problemsIn, contentsOf, restOf}
 use Rattle.read_heads.proofs.{Answers.heading, Answers.ends-with, reject_head.Statement.statement}
 use Rattle.read_heads.proofs.reject_head.Tie as tie
 

@@ -2,7 +2,7 @@
 use Rattle.prelude.proofs.Prelude.{arith}
 use Rattle.coding.{specs.Reader.constructed, specs.Codec.leads, specs.Codec.cons, proofs.Reading.flat}
 use Rattle.types.specs.Frames.{returnResult}
-use Rattle.read_heads.specs.Heads.{contentsOf, tailOf, restOf}
+use Rattle.read_heads.specs.inner.Heads.{contentsOf, tailOf, restOf}
 use Rattle.read_heads.proofs.{Answers.heading, result_head.Statement.statement}
 use Rattle.read_heads.proofs.result_head.Tie as tie
 

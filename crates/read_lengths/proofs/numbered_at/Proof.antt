@@ -1,5 +1,5 @@
 use Rattle.prelude.proofs.Prelude.{needs, arith, le-leb, lt-leb, lt-ltb, le-ltb, ne-eqb}
-use Rattle.coding.specs.{Reader.numberedAt, Shown.shown}
+use Rattle.coding.specs.{Reader.numberedAt, inner.Shown.shown}
 use Rattle.read_lengths.proofs.numbered_at.Statement.{statement}
 use Rattle.read_lengths.proofs.numbered_at.Tie as tie
 

@@ -1,5 +1,5 @@
 use Rattle.prelude.proofs.Prelude.{_+_, arith, le-leb, lt-leb}
-use Rattle.coding.specs.{Reader.extent, Shown.shown}
+use Rattle.coding.specs.{Reader.extent, inner.Shown.shown}
 use Rattle.read_lengths.proofs.within.Statement.{statement}
 use Rattle.read_lengths.proofs.within.Tie as tie
 

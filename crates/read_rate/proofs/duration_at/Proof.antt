@@ -1,9 +1,9 @@
 -- Each return by the answers that led to it.
 use Rattle.prelude.proofs.Prelude.{arith, _≡_, refl, _∙_}
-use Rattle.coding.{specs.Reader.after, specs.Reader.closed, specs.Shown.shown, proofs.Reading.reading, proofs.Reading.remains, proofs.Reading.shut, proofs.Reading.stay, proofs.Reading.step}
+use Rattle.coding.{specs.Reader.after, specs.Reader.closed, specs.inner.Shown.shown, proofs.Reading.reading, proofs.Reading.remains, proofs.Reading.shut, proofs.Reading.stay, proofs.Reading.step}
 use Rattle.types.specs.{Charges.scaled, Rates.noRate, Rates.duration}
-use Rattle.read_lengths.specs.Bounds.{Bounded}
-use Rattle.read_rate.specs.Readers.{stepTime, ratedAs}
+use Rattle.read_lengths.specs.inner.Bounds.{Bounded}
+use Rattle.read_rate.specs.inner.Readers.{stepTime, ratedAs}
 use Rattle.read_rate.proofs.{Steps.duration-read, duration_at.Statement.statement}
 use Rattle.read_rate.proofs.duration_at.Tie as tie
 

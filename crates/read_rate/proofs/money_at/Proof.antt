@@ -1,6 +1,6 @@
 -- The money that was stored, taken out again.
 use Rattle.prelude.proofs.Prelude.{ap, _∙_, needs}
-use Rattle.coding.{specs.Reader.Ans.got, specs.Shown.shown, proofs.Reading.stay, proofs.Reading.gives}
+use Rattle.coding.{specs.Reader.Ans.got, specs.inner.Shown.shown, proofs.Reading.stay, proofs.Reading.gives}
 use Rattle.types.specs.Charges.{noMoney}
 use Rattle.read_figures.proofs.{Answers.goes, Steps.after-same}
 use Rattle.read_rate.proofs.money_at.Statement.{statement}

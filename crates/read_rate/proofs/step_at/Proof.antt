@@ -1,7 +1,7 @@
 -- Each return by the answers that led to it.
 use Rattle.prelude.proofs.Prelude.{arith}
 use Rattle.coding.proofs.Reading.{gives, picks, skips, stay, step}
-use Rattle.read_rate.specs.Readers.{stepTime}
+use Rattle.read_rate.specs.inner.Readers.{stepTime}
 use Rattle.read_rate.proofs.step_at.Statement.{statement}
 use Rattle.read_rate.proofs.step_at.Tie as tie
 

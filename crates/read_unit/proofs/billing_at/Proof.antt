@@ -1,6 +1,6 @@
 use Rattle.prelude.proofs.Prelude.{needs, arith}
 use Rattle.read_lengths.proofs.Answers.{when}
-use Rattle.read_unit.specs.Readers.{billingBy}
+use Rattle.read_unit.specs.inner.Readers.{billingBy}
 use Rattle.read_unit.proofs.billing_at.Statement.{statement}
 use Rattle.read_unit.proofs.billing_at.Tie as tie
 

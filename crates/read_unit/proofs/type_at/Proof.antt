@@ -1,6 +1,6 @@
 use Rattle.prelude.proofs.Prelude.{needs, arith}
 use Rattle.read_lengths.proofs.Answers.{when}
-use Rattle.read_unit.specs.Readers.{typeBy}
+use Rattle.read_unit.specs.inner.Readers.{typeBy}
 use Rattle.read_unit.proofs.type_at.Statement.{statement}
 use Rattle.read_unit.proofs.type_at.Tie as tie
 

@@ -1,7 +1,7 @@
 -- Each return by the answers that led to it.
 use Rattle.prelude.proofs.Prelude.{needs, _∙_}
 use Rattle.coding.proofs.Reading.{reading}
-use Rattle.read_unit.specs.Readers.{unitNumber}
+use Rattle.read_unit.specs.inner.Readers.{unitNumber}
 use Rattle.read_unit.proofs.unit_number_at.Statement.{statement}
 use Rattle.read_unit.proofs.unit_number_at.Tie as tie
 

@@ -1,7 +1,7 @@
 -- Each need by the room for all, less what was put before.
-use Rattle.prelude.proofs.Prelude.{arith, suc, [], _∷_, _++_, List, length}
+use Rattle.prelude.proofs.Prelude.{arith, [], _∷_, _++_, List}
 use Rattle.phases.specs.Phases.{Given, Clear, Connect, Released}
-use Rattle.trace_messages.specs.Trace.{when, phaseEvent, componentEvents, componentsFrom}
+use Rattle.trace_messages.specs.Trace.{when, phaseEvent, componentEvents, componentsAfter}
 use Rattle.trace.proofs.{Laying.rooms-head, Laying.rooms-tail, Laying.rows-head, Laying.rows-whole, Laying.puts-both, put_all.Statement.statement}
 use Rattle.trace.proofs.put_all.Tie as tie
 
@@ -13,7 +13,7 @@ abbrev tail3 : tie.Start → List Given
 tail3 s = when (s .args .g .connect) (phaseEvent Connect ∷ []) ++ tail4 s
 
 abbrev tail2 : tie.Start → List Given
-tail2 s = when (s .args .g .components) (componentEvents (componentsFrom (suc (length (s .args .s .now))) (s .args .s .now) (s .args .start) 0)) ++ tail3 s
+tail2 s = when (s .args .g .components) (componentEvents (componentsAfter (s .args .s .now) (s .args .start))) ++ tail3 s
 
 abbrev tail1 : tie.Start → List Given
 tail1 s = when (s .args .g .clear) (phaseEvent Clear ∷ []) ++ tail2 s
@@ -21,25 +21,25 @@ tail1 s = when (s .args .g .clear) (phaseEvent Clear ∷ []) ++ tail2 s
 put-when-requires : tie.Need-put-when-requires
 put-when-requires c κs =
     let a = c .before .before .before in let s = a .before .before .before .before .before in
-    rows-head (tail2 s) (rooms-tail {m = tail1 s} (a .put-setup .ensures (s .args .out .now)) (s .pre .2))
+    rows-head (tail2 s) (rooms-tail {m = tail1 s} (a .put-setup .ensures (s .args .out .now)) (s .pre .1))
 
 put-given-requires : tie.Need-put-given-requires
 put-given-requires c κs =
     let w = c .before .before .before .before in let a = w .before .before .before .before in let s = a .before .before .before .before .before in let o = s .args .out .now in
-    (s .pre .0, s .pre .1, rooms-head (tail3 s) (rooms-tail {m = tail2 s} (w .put-when .ensures o) (rooms-tail {m = tail1 s} (a .put-setup .ensures o) (s .pre .2))))
+    (s .pre .0, rooms-head (tail3 s) (rooms-tail {m = tail2 s} (w .put-when .ensures o) (rooms-tail {m = tail1 s} (a .put-setup .ensures o) (s .pre .1))))
 
 put-when-requires-2 : tie.Need-put-when-requires-2
 put-when-requires-2 c κs =
     let d = c .before .before .before .before .before in let w = d .before .before .before .before .before in
     let a = w .before .before .before .before in let s = a .before .before .before .before .before in let o = s .args .out .now in
-    rows-head (tail4 s) (rooms-tail {m = tail3 s} (d .put-given .ensures) (rooms-tail {m = tail2 s} (w .put-when .ensures o) (rooms-tail {m = tail1 s} (a .put-setup .ensures o) (s .pre .2))))
+    rows-head (tail4 s) (rooms-tail {m = tail3 s} (d .put-given .ensures) (rooms-tail {m = tail2 s} (w .put-when .ensures o) (rooms-tail {m = tail1 s} (a .put-setup .ensures o) (s .pre .1))))
 
 put-when-requires-3 : tie.Need-put-when-requires-3
 put-when-requires-3 c κs =
     let v = c .before .before .before in let d = v .before .before .before .before .before .before in let w = d .before .before .before .before .before in
     let a = w .before .before .before .before in let s = a .before .before .before .before .before in let o = s .args .out .now in
     rows-whole (rooms-tail {m = tail4 s} (v .put-when2 .ensures _) (rooms-tail {m = tail3 s} (d .put-given .ensures) (rooms-tail {m = tail2 s} (w .put-when .ensures o)
-    (rooms-tail {m = tail1 s} (a .put-setup .ensures o) (s .pre .2)))))
+    (rooms-tail {m = tail1 s} (a .put-setup .ensures o) (s .pre .1)))))
 
 returns : tie.Need-returns
 returns c =
@@ -50,5 +50,5 @@ returns c =
 pub put-all-spec : {M : Type 1} → statement M
 put-all-spec =
     tie.close (tie.spec
-    (λ c κs. let s = c .before .before .before .before in (s .pre .0, s .pre .1, rows-head (tail1 s) (s .pre .2)))
+    (λ c κs. let s = c .before .before .before .before in (s .pre .0, rows-head (tail1 s) (s .pre .1)))
     put-when-requires put-given-requires put-when-requires-2 put-when-requires-3 (omega arith) (omega arith) returns)

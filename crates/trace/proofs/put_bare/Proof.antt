@@ -2,11 +2,7 @@ use Rattle.prelude.proofs.Prelude.{arith, refl}
 use Rattle.trace.proofs.{Laying.bare-put, put_bare.Statement.statement}
 use Rattle.trace.proofs.put_bare.Tie as tie
 
-returns : tie.Need-returns
-returns c =
-    let r = c .before .before in
-    let x = r .before .before .before .args in
-    λ out. bare-put (x .e) _ _ (x .p) _ (r .put-row .ensures) refl out
-
 pub put-bare-spec : {M : Type 1} → statement M
-put-bare-spec = tie.close (tie.spec (omega arith) (omega arith) returns)
+put-bare-spec =
+    tie.close (tie.spec (omega arith) (omega arith)
+    (λ c. let r = c .before .before in let x = r .before .before .before .args in λ out. bare-put (x .e) _ _ (x .p) _ (r .put-row .ensures) refl out))

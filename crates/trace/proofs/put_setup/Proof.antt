@@ -2,22 +2,20 @@ use Rattle.prelude.proofs.Prelude.{arith, not-true, not-false}
 use Rattle.trace.proofs.{Laying.puts-none, Laying.bare-room, put_setup.Statement.statement}
 use Rattle.trace.proofs.put_setup.Tie as tie
 
-returns : tie.Need-returns
-returns c = let x = c .before .before .before .args in λ out. rw (not-true (x .given) (c .if1 .taken)) (puts-none _ out _)
-
 put-bare-requires : tie.Need-put-bare-requires
 put-bare-requires c κs =
-    let far = c .before .before .before in
-    let s = far .before .before in
-    rw (c .before .setup-of .ensures) (bare-room _ (rw (not-false (s .args .given) (c .before .before .if1 .left)) at (s .pre .2)))
+    let s = c .before .before .before .before .before in
+    rw (c .before .setup-of .ensures) (bare-room _ (rw (not-false (s .args .given) (c .before .before .if1 .left)) at (s .pre .1)))
 
 returns-2 : tie.Need-returns-2
 returns-2 c =
     let p = c .before .before in
     let e = p .before .before in
-    let far = e .before .before .before in
-    let x = far .before .args in
+    let x = e .before .before .before .before .args in
     λ out. rw (not-false (x .given) (e .before .if1 .left)) (rw (e .setup-of .ensures) at (p .put-bare .ensures out))
 
 pub put-setup-spec : {M : Type 1} → statement M
-put-setup-spec = tie.close (tie.spec returns (λ c κs. let s = c .before .before .before in (s .pre .0, s .pre .1)) put-bare-requires (omega arith) returns-2)
+put-setup-spec =
+    tie.close
+    (tie.spec (λ c. let x = c .before .before .before .args in λ out. rw (not-true (x .given) (c .if1 .taken)) (puts-none _ out _))
+    (λ c κs. c .before .before .before .pre .0) put-bare-requires (omega arith) returns-2)

@@ -4,7 +4,7 @@ use Rattle.coding.{specs.Reader.part, proofs.Parts.part-length}
 use Rattle.element.specs.{Element.elementOf, Cut.startsOf, Cut.partsOf}
 use Rattle.element_pass.proofs.Going.{Goes, Here, goes-first, goes-on, goes-none}
 use Rattle.trace_messages.{specs.Trace.componentsIn, specs.Trace.componentEvents, proofs.Walk.in-other, proofs.Walk.in-parts}
-use Rattle.trace.specs.Putting.{Progress}
+use Rattle.trace.specs.inner.Putting.{Progress}
 use Rattle.trace.proofs.Laying.{puts-none, puts-as, rooms-head, rooms-as, progress-starts, progress-as, progress-more, progress-ends}
 use Rattle.trace.proofs.put_tiles.Statement.{statement}
 use Rattle.trace.proofs.put_tiles.Tie as tie
@@ -18,14 +18,14 @@ abbrev μ-loop : tie.MeasureT-loop
 
 -- the function's start, from the state after its first call
 abbrev start : tie.After-is-profiled Inv-loop μ-loop → tie.Start Inv-loop μ-loop
-start p = let k = p .before .before in k .before .before
+start p = p .before .before .before .before
 
 abbrev start-of : tie.At-loop Inv-loop μ-loop → tie.Start Inv-loop μ-loop
-start-of l = let e = l .before .before in start (e .before)
+start-of l = start (l .before .before .before)
 
 -- the component that is found at the loop's place, and the events that are left then
 here : (c : tie.Then2 Inv-loop μ-loop) → let l = c .before .before in Here (start-of l .args .s .now) (l .loop .place) (l .loop .found) (l .loop .inv .0)
-here c = let l = c .before .before in goes-on _ _ _ (l .loop .inv .0) (l .loop .inv .1) (c .if2 .taken)
+here c = let l = c .before .before in goes-on (l .loop .inv .1) (c .if2 .taken)
 
 returns : tie.Need-returns Inv-loop μ-loop
 returns c =
@@ -37,7 +37,7 @@ loop-holds c =
     let p = c .before .before in
     let s = start p .args .s .now in (
       startsOf (elementOf s),
-      goes-first s (c .first .result) (c .first .ensures),
+      goes-first s (c .first .ensures),
       progress-as (ap componentEvents (in-parts s (sym (p .is-profiled .ensures) ∙ not-false _ (c .before .if1 .left)))) (progress-starts (start p .pre .1)),
     )
 
@@ -51,10 +51,10 @@ put-component-requires c κs =
 
 -- the state after a component is laid, from the one at the turn's end
 abbrev laid : tie.After-slice-known4 Inv-loop μ-loop → tie.After-put-component Inv-loop μ-loop
-laid c = let o = c .before .before in o .before .before
+laid c = c .before .before .before .before
 
 abbrev turn : tie.After-slice-known4 Inv-loop μ-loop → tie.Then2 Inv-loop μ-loop
-turn c = let a = laid c .before .before in a .before .before
+turn c = laid c .before .before .before .before
 
 loop-again : tie.Need-loop-again Inv-loop μ-loop
 unfolding part
@@ -62,12 +62,12 @@ loop-again c =
     let t = turn (c .before) in
     let l = t .before .before in
     let h = here t in
-    (h .rest, h .onward (c .onward .result) (c .onward .ensures), progress-more _ (progress-as (ap componentEvents (h .parts)) (l .loop .inv .2)) (laid (c .before) .put-component .ensures))
+    (h .rest, h .onward (c .onward .ensures), progress-more _ (progress-as (ap componentEvents (h .parts)) (l .loop .inv .2)) (laid (c .before) .put-component .ensures))
 
 returns-2 : tie.Need-returns-2 Inv-loop μ-loop
 returns-2 c =
     let l = c .before .before in
-    let none = goes-none _ _ _ (l .loop .inv .0) (l .loop .inv .1) (c .if2 .left) in
+    let none = goes-none (l .loop .inv .1) (c .if2 .left) in
     progress-ends (progress-as (ap (λ (k : List ℕ). componentEvents (partsOf (start-of l .args .s .now) k)) none) (l .loop .inv .2))
 
 pub put-tiles-spec : {M : Type 1} → statement M

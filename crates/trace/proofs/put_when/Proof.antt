@@ -2,13 +2,9 @@ use Rattle.prelude.proofs.Prelude.{arith, not-true, not-false}
 use Rattle.trace.proofs.{Laying.puts-none, Laying.bare-room, put_when.Statement.statement}
 use Rattle.trace.proofs.put_when.Tie as tie
 
-returns : tie.Need-returns
-returns c = let x = c .before .before .args in λ out. rw (not-true (x .given) (c .if1 .taken)) (puts-none _ out _)
-
 put-bare-requires : tie.Need-put-bare-requires
 put-bare-requires c κs =
-    let far = c .before .before .before in
-    let s = far .before in
+    let s = c .before .before .before .before in
     rw (c .before .empty .ensures .0) (bare-room _ (rw (not-false (s .args .given) (c .before .before .if1 .left)) at (s .pre)))
 
 returns-2 : tie.Need-returns-2
@@ -19,4 +15,7 @@ returns-2 c =
     λ out. rw (not-false (x .given) (e .before .if1 .left)) (rw (e .empty .ensures .0) at (p .put-bare .ensures out))
 
 pub put-when-spec : {M : Type 1} → statement M
-put-when-spec = tie.close (tie.spec returns (omega arith) put-bare-requires (omega arith) returns-2)
+put-when-spec =
+    tie.close
+    (tie.spec (λ c. let x = c .before .before .args in λ out. rw (not-true (x .given) (c .if1 .taken)) (puts-none _ out _))
+    (omega arith) put-bare-requires (omega arith) returns-2)

@@ -3,15 +3,6 @@ use Rattle.trace_framing.proofs.Laws.{framed-head}
 use Rattle.trace_messages.proofs.reference_of.Statement.{statement}
 use Rattle.trace_messages.proofs.reference_of.Tie as tie
 
-read-if1 : tie.Need-shared-slice-read-if1
-read-if1 c = let s = c .before .before in omega (arith, framed-head (s .args .s .now) (s .pre) .0)
-
-read-wide : tie.Need-shared-slice-read-wide
-read-wide c = let far = c .before .before .before in let s = far .before in omega (arith, framed-head (s .args .s .now) (s .pre) .0)
-
-read-if2 : tie.Need-shared-slice-read-if2
-read-if2 c = let far = c .before .before .before in let s = far .before .before .before in omega (arith, framed-head (s .args .s .now) (s .pre) .0)
-
 returns-2 : tie.Need-returns-2
 returns-2 c =
     let w = c .before .before in
@@ -19,11 +10,10 @@ returns-2 c =
 
 read-wide-2 : tie.Need-shared-slice-read-wide-2
 read-wide-2 c =
-    let far = c .before .before .before in
-    let far2 = far .before .before .before in
-    let s = far2 .before .before in
+    let e = c .before .before .before .before .before in
+    let s = e .before .before .before in
     let h = framed-head (s .args .s .now) (s .pre) in
-    omega (arith, h .1, h .2, c .before .if2 .left, far .before .before .if1 .left)
+    omega (arith, h .1, h .2, c .before .if2 .left, e .if1 .left)
 
 returns-3 : tie.Need-returns-3
 returns-3 c =
@@ -34,4 +24,7 @@ returns-3 c =
 pub reference-of-spec : {M : Type 1} → statement M
 reference-of-spec =
     tie.close
-    (tie.spec read-if1 (λ c. sym (rw (eq-eqb _ _ (c .if1 .taken)))) read-wide (omega arith) read-if2 returns-2 (omega arith) read-wide-2 (omega arith) (omega arith) returns-3)
+    (tie.spec (λ c. let s = c .before .before in omega (arith, framed-head (s .args .s .now) (s .pre) .0)) (λ c. sym (rw (eq-eqb _ _ (c .if1 .taken))))
+    (λ c. let s = c .before .before .before .before in omega (arith, framed-head (s .args .s .now) (s .pre) .0)) (omega arith)
+    (λ c. let s = c .before .before .before .before .before .before in omega (arith, framed-head (s .args .s .now) (s .pre) .0)) returns-2
+    (omega arith) read-wide-2 (omega arith) (omega arith) returns-3)

@@ -1,67 +1,53 @@
 -- Each return by the answers that led to it.
-use Rattle.prelude.proofs.Prelude.{needs, refl, sym, _∙_, arith}
-use Rattle.coding.proofs.Reading.{stay, step}
+use Rattle.prelude.proofs.Prelude.{needs, arith, _≡_, refl, _∙_}
+use Rattle.coding.{specs.Reader.after, specs.Reader.blamed, specs.Reader.Ans.got, specs.inner.Shown.shown, proofs.Reading.step, proofs.Reading.stay, proofs.Reading.gives}
+use Rattle.types.specs.Frames.{inArgument}
 use Rattle.read_heads.proofs.Codes.{has-below}
 use Rattle.read_figures.proofs.Answers.{refused, arrived}
-use Rattle.trunk_types.specs.Components.{trunkOperations}
+use Rattle.trunk_types.specs.{Bodies.argumentOf, Components.trunkOperations, Components.noTrunk, Components.leadBy, Components.trunkBy, Components.trunkInvoke}
 use Rattle.trunk_read_fields.proofs.Stores.{zero-spare}
-use Rattle.trunk_read_frames.proofs.Marked.{stay-in, inner-some}
-use Rattle.trunk_read.proofs.{Frames.invoke-read, Frames.invoke-whole, invoke_at.Statement.statement}
+use Rattle.trunk_read_frames.proofs.Marked.{refused-in, goes-under}
+use Rattle.trunk_read.proofs.{Frames.invoke-read, invoke_at.Statement.statement}
 use Rattle.trunk_read.proofs.invoke_at.Tie as tie
+
+-- what is left to read where the operation is read
+led : (c : tie.Else2) →
+    let o = c .before .before in
+    let i = o .before .before .before in
+    let g = i .before .before .args in
+    let v = o .operation-at .result in
+    shown noTrunk (after (blamed inArgument ((argumentOf (v .value)) .read (g .s .now) (v .next) (g .end))) (λ b last.
+    got (trunkBy (leadBy 1 0 (i .identifier-at .result .value) 0 (v .value) 0) b) last))
+    ≡ shown noTrunk (trunkInvoke .read (g .s .now) (g .at) (g .end))
+led c = rw invoke-read (search (step, refl) depth 8)
+
+-- that place where the argument is read
+abbrev known : tie.After-argument-at → tie.Else2
+known b = b .before .before .before .before .before .before .before
 
 pub invoke-at-spec : {M : Type 1} → statement M
 invoke-at-spec =
     tie.close
-    (tie.spec (search needs) (search needs)
-    (λ c.
-    let i = c .before .before .before in (
-      rw invoke-read (refused _ _ (c .halted .ensures) (c .before .if1 .taken) (stay _ _ _ _ (i .identifier-at .ensures .0) (c .before .if1 .taken))),
-      zero-spare (i .before .before .pre .1 .front-bare),
-    )) (search needs) (search needs)
-    (λ c.
-    let o = c .before .before .before in
-    let e = o .before in
-    let i = e .before .before in (
-      rw invoke-read (refused _ _ (c .halted2 .ensures) (c .before .if2 .taken)
-          (step _ _ _ _ (i .identifier-at .ensures .0) (e .if1 .left) (stay _ _ _ _ (o .operation-at .ensures .0) (c .before .if2 .taken)))),
-      zero-spare (i .before .before .pre .1 .front-bare),
-    ))
-    (λ c. let f = c .before in let h = has-below 256 trunkOperations _ refl (f .before .before .operation-at .ensures .1 (f .if2 .left)) in omega (arith, h))
+    (tie.spec (search needs) (search needs) (λ c. (rw invoke-read (search (refused, stay)), search zero-spare)) (search needs) (search needs)
+    (λ c. (rw invoke-read (search (refused, step, stay)), search zero-spare))
+    (λ c. let f = c .before in omega (arith, has-below 256 trunkOperations _ refl (f .before .before .operation-at .ensures .1 (f .if2 .left))))
     (λ c κs.
-    let l = c .before .before in
-    let m = l .before .before .before in
-    let f = m .before in
+    let f = c .before .before .before .before .before .before in
     let o = f .before .before in
-    let e = o .before in
-    let i = e .before .before in
-    let p = i .before .before .pre in
+    let p = o .before .before .before .before .before .pre in
     ((p .0, o .operation-at .ensures .1 (f .if2 .left)), p .1)) (search needs) (search needs)
     (λ c.
     let t = c .before .before in
-    let b = t .before .before in
-    let l = b .before .before .before in
-    let m = l .before .before .before in
-    let f = m .before in
-    let o = f .before .before in
-    let e = o .before in
-    let i = e .before .before in
-    let told = c .before .inner .ensures in (
-      rw invoke-read (refused _ _ (c .halted3 .ensures) (λ z. inner-some _ (t .if3 .taken) (sym told ∙ z)) (rw told
-          (step _ _ _ _ (i .identifier-at .ensures .0) (e .if1 .left) (step _ _ _ _ (o .operation-at .ensures .0) (f .if2 .left) (stay-in _ _ _ _ (b .argument-at .ensures .0) (t .if3 .taken)))))),
+    let b = t .before .before in (
+      refused-in _ _ _ _ _ (c .halted3 .ensures) (c .before .inner .ensures) (t .if3 .taken) (b .argument-at .ensures .0) ∙ led (known b),
       b .argument-at .ensures .1,
     )) (search needs)
-    (λ c κs. let g = c .before .before in g .before .before .argument-at .ensures .1) (search needs)
+    (λ c κs. c .before .before .before .before .argument-at .ensures .1) (search needs)
     (λ c.
     let k = c .before in
     let g = k .before .before .before in
-    let b = g .before .before in
-    let l = b .before .before .before in
-    let m = l .before .before .before in
-    let f = m .before in
-    let o = f .before .before in
-    let e = o .before in
-    let i = e .before .before in (
+    let b = g .before .before in (
       arrived _ _ (c .reached .ensures)
-          (invoke-whole _ _ _ _ _ (i .identifier-at .ensures .0) (e .if1 .left) (o .operation-at .ensures .0) (f .if2 .left) (b .argument-at .ensures .0) (g .if3 .left) (k .keep-lead .ensures .0 _ _)),
+          (rw (k .keep-lead .ensures .0 _ _) (goes-under _ _ _ _ inArgument _ (b .argument-at .ensures .0) (g .if3 .left) (gives _ _ _))) ∙ led (known b),
       k .keep-lead .ensures .1,
     )))

@@ -9,11 +9,5 @@ pub dummy-at-spec : {M : Type 1} → statement M
 unfolding dummy sort canonical over
 dummy-at-spec =
     tie.close
-    (tie.spec (omega arith) (omega arith)
-    (λ c.
-    let t = c .before in
-    let g = t .before in
-    picks _ _ _ _ _ _ _ (g .is-tag .ensures) (t .if1 .taken) (nothing-there _ _ (g .before .before .pre .1) _ (c .null-at .ensures))) (λ c κs. search needs)
-    (λ c.
-    let e = c .before .before in
-    skips _ _ _ _ _ _ _ (e .before .is-tag .ensures) (e .if1 .left) (inner-on extending noExtension noBody _ _ _ (c .some-at .ensures))))
+    (tie.spec (omega arith) (omega arith) (λ c. search (picks, nothing-there)) (λ c κs. search needs)
+    (λ c. let found = inner-on extending noExtension noBody _ _ _ (c .some-at .ensures) in search skips))

@@ -1,71 +1,43 @@
 -- Each return by the answers that led to it.
-use Rattle.prelude.proofs.Prelude.{refl, arith}
-use Rattle.coding.proofs.Reading.{stay, step, remains, shut}
-use Rattle.read_figures.proofs.Answers.{storing, refused, surplus, arrived, goes}
-use Rattle.trunk_read_fields.proofs.Stores.{zero-spare}
+use Rattle.prelude.proofs.Prelude.{arith, needs, _≡_, refl, _∙_, replicate}
+use Rattle.coding.{specs.Reader.after, specs.Reader.closed, specs.inner.Shown.shown, proofs.Reading.reading, proofs.Reading.step}
+use Rattle.types.specs.Stored.{storedCharge}
+use Rattle.read_lengths.specs.inner.Bounds.{Bounded}
+use Rattle.read_figures.proofs.Answers.{storing, goes}
+use Rattle.trunk_types.specs.{Extensions.anyExtension, Bodies.noBody, Bodies.withExtension, Bodies.extended, Stored.Spare}
+use Rattle.trunk_read_fields.{specs.inner.Fields.innerIn, proofs.Stores.zero-spare}
+use Rattle.trunk_read_bodies.specs.inner.Bodied.{innerOf}
 use Rattle.trunk_read_bodies.proofs.{Stores.extended-read, Stores.body-stored, extended_at.Statement.statement}
 use Rattle.trunk_read_bodies.proofs.extended_at.Tie as tie
+
+-- what is left to read where the body is read, and what is known there
+bodied : (c : tie.Else2) →
+    let b = c .before .before in
+    let o = b .before .before .before .before .before .before .before in
+    let g = o .before .before .args in
+    let e = o .open-at .result in
+    let w = b .inner-at .last .1 .1 .1 .1 in
+    (shown noBody (after (anyExtension .read (g .s .now) (b .inner-at .result .next) (e .value .stop)) (λ y n.
+    closed (withExtension y (innerIn (w .0) (storedCharge (w .1 .0) (w .1 .1 .0) (w .1 .1 .1 .0)))) n (e .value .stop) (e .next)))
+    ≡ shown noBody ((extended (innerOf (g .form))) .read (g .s .now) (g .at) (g .end)))
+    × Spare (w .0) × Bounded (g .s .now) (e .value .stop) × (g .extension .now ≡ replicate 244 0)
+bodied c =
+    let b = c .before .before in
+    let o = b .before .before .before .before .before .before .before in
+    let p = o .before .before .pre in
+    (rw extended-read (search (goes, step, refl) depth 8), b .inner-at .ensures .1, omega (arith, o .open-at .ensures .1 .1, p .0), p .1 .extension-bare)
 
 pub extended-at-spec : {M : Type 1} → statement M
 extended-at-spec =
     tie.close
-    (tie.spec (omega arith) (omega arith)
-    (λ c. let o = c .before .before .before in (rw extended-read (search (storing, stay)), zero-spare (o .before .before .pre .1 .front-bare)))
-    (λ c κs.
-    let a = c .before .before .before in
-    let o = a .before .before .before in
-    let p = o .before .before .pre in
-    (omega (arith, o .open-at .ensures .1 .1, p .0), (p .1 .front-bare, p .1 .charge-bare))) (omega arith)
+    (tie.spec (omega arith) (omega arith) (λ c. (rw extended-read (search (storing, reading)), search zero-spare)) (λ c κs. search needs) (omega arith)
+    (λ c. (rw extended-read (search (storing, reading) depth 8), search)) (λ c κs. let m = bodied (c .before) in (m .2, m .3)) (omega arith)
+    (λ c. let m = bodied (c .before .before .before .before .before) in (search (storing, reading) ∙ m .0, m .1)) (omega arith)
     (λ c.
-    let b = c .before .before .before in
-    let l = b .before .before .before in
-    let f = l .before .before in
-    let o = f .before .before in (
-      rw extended-read (refused _ _ (c .halted2 .ensures) (c .before .if2 .taken)
-          (step _ _ _ _ (o .open-at .ensures .0) (f .if1 .left) (stay _ _ _ _ (b .inner-at .ensures .0) (c .before .if2 .taken)))),
-      b .inner-at .ensures .1,
-    ))
-    (λ c κs.
-    let b = c .before .before .before in
-    let l = b .before .before .before in
-    let f = l .before .before in
-    let o = f .before .before in
-    let p = o .before .before .pre in
-    (omega (arith, o .open-at .ensures .1 .1, p .0), p .1 .extension-bare)) (omega arith)
+    let x = c .before .before .before .before .before .before in
+    let m = bodied (x .before .before) in
+    (search (storing, reading) ∙ m .0, m .1)) (omega arith)
     (λ c.
-    let x = c .before .before .before in
-    let g = x .before .before in
-    let b = g .before .before in
-    let l = b .before .before .before in
-    let f = l .before .before in
-    let o = f .before .before in (
-      rw extended-read (refused _ _ (c .halted3 .ensures) (c .before .if3 .taken) (step _ _ _ _ (o .open-at .ensures .0) (f .if1 .left)
-          (goes _ _ _ _ _ (b .inner-at .ensures .0) (g .if2 .left) (stay _ _ _ _ (x .extension-if .ensures) (c .before .if3 .taken))))),
-      b .inner-at .ensures .1,
-    )) (omega arith)
-    (λ c.
-    let k = c .before .before in
-    let h = k .before .before in
-    let x = h .before .before in
-    let g = x .before .before in
-    let b = g .before .before in
-    let l = b .before .before .before in
-    let f = l .before .before in
-    let o = f .before .before in (
-      rw extended-read (surplus _ _ (c .halted4 .ensures) refl (step _ _ _ _ (o .open-at .ensures .0) (f .if1 .left)
-          (goes _ _ _ _ _ (b .inner-at .ensures .0) (g .if2 .left) (goes _ _ _ _ _ (x .extension-if .ensures) (h .if3 .left) (remains _ _ _ _ _ (c .before .if4 .taken)))))),
-      b .inner-at .ensures .1,
-    )) (omega arith)
-    (λ c.
-    let k = c .before .before in
-    let h = k .before .before in
-    let x = h .before .before in
-    let g = x .before .before in
-    let b = g .before .before in
-    let l = b .before .before .before in
-    let f = l .before .before in
-    let o = f .before .before in (
-      rw (extended-read, body-stored) (arrived _ _ (c .reached .ensures) (step _ _ _ _ (o .open-at .ensures .0) (f .if1 .left)
-          (goes _ _ _ _ _ (b .inner-at .ensures .0) (g .if2 .left) (goes _ _ _ _ _ (x .extension-if .ensures) (h .if3 .left) (shut _ _ _ _ _ (c .before .if4 .left)))))),
-      b .inner-at .ensures .1,
-    )))
+    let x = c .before .before .before .before .before .before in
+    let m = bodied (x .before .before) in
+    (rw body-stored (search (storing, reading) ∙ m .0), m .1)))

@@ -8,10 +8,8 @@ result-at-spec =
     tie.close
     (tie.spec (λ c κs. search needs)
     (λ c.
-    let a = c .before .before .before in
-    let t = a .before .before .before in
+    let t = c .before .before .before .before .before .before in
     (rw (result-59 _ _ _ _ (t .if1 .taken)) (c .extended-at .ensures .0), c .extended-at .ensures .1)) (λ c κs. search needs)
     (λ c.
-    let a = c .before .before .before in
-    let e = a .before .before .before in
+    let e = c .before .before .before .before .before .before in
     (rw (result-64 _ _ _ _ (e .if1 .left)) (c .extended-at2 .ensures .0), c .extended-at2 .ensures .1)))

@@ -15,23 +15,7 @@ pub arcs-in-spec : {M : Type 1} → statement M
 arcs-in-spec =
     tie.close
     (tie.spec Inv-loop μ-loop (λ c. (omega arith, omega arith, refl)) (omega arith) (omega arith)
-    (λ c.
-    let e = c .before .before in
-    let w = e .before .before in
-    let l = w .loop in
-    let a = w .before .before .args in
-    rw (l .inv .2) (arcs-stop (a .s .now) (l .fresh) (l .i) (a .stop) (omega arith) (omega arith) (c .before .begins-badly .ensures) (c .if1 .taken))) (omega arith) (omega arith)
-    (λ c.
-    let e = c .before .before in
-    let w = e .before .before in
-    let l = w .loop in
-    let a = w .before .before .args in
-    (omega arith, omega arith, l .inv .2 ∙ arcs-step (a .s .now) (l .fresh) (l .i) (a .stop) (omega arith) (omega arith) (c .before .begins-badly .ensures) (c .if1 .left)))
-    (λ c.
-    let l = c .before .before .loop in
-    let a = c .before .before .before .before .args in
-    rw (l .inv .2) (arcs-whole (a .s .now) (l .fresh) (l .i) (a .stop) (omega arith) (c .if2 .taken)))
-    (λ c.
-    let l = c .before .before .loop in
-    let a = c .before .before .before .before .args in
-    rw (l .inv .2) (arcs-cut (a .s .now) (l .fresh) (l .i) (a .stop) (omega arith) (c .if2 .left))))
+    (λ c. let l = c .before .before .before .before .loop in rw (l .inv .2) (search (arcs-stop, arith))) (omega arith) (omega arith)
+    (λ c. let l = c .before .before .before .before .loop in (omega arith, omega arith, l .inv .2 ∙ search (arcs-step, arith)))
+    (λ c. rw (c .before .before .loop .inv .2) (search (arcs-whole, arith)))
+    (λ c. rw (c .before .before .loop .inv .2) (search (arcs-cut, arith))))

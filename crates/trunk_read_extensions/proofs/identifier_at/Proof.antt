@@ -9,12 +9,4 @@ unfolding primitive
 identifier-at-spec =
     tie.close
     (tie.spec (omega arith) (omega arith) (λ c. rw (c .halted .ensures) (search reading)) (omega arith) (omega arith)
-    (λ c.
-    let i = c .before .before in
-    let e = i .before in
-    rw (c .halted2 .ensures) (step _ _ _ _ (e .before .before .open-at .ensures .0) (e .if1 .left) (fails tt _ _ _ (i .identifier-in .ensures) (c .before .if2 .taken))))
-    (omega arith)
-    (λ c.
-    let i = c .before .before in
-    let e = i .before in
-    rw (c .reached .ensures) (step _ _ _ _ (e .before .before .open-at .ensures .0) (e .if1 .left) (passes tt _ _ _ (i .identifier-in .ensures) (c .before .if2 .left)))))
+    (λ c. rw (c .halted2 .ensures) (search (step, fails (tt {0})))) (omega arith) (λ c. rw (c .reached .ensures) (search (step, passes (tt {0})))))

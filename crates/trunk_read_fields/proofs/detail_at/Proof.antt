@@ -1,8 +1,8 @@
 -- Each return by the answers that led to it.
 use Rattle.prelude.proofs.Prelude.{arith}
-use Rattle.coding.{specs.Codec.canonical, specs.Codec.over, proofs.Reading.reading, proofs.Reading.step, proofs.Reading.gives}
+use Rattle.coding.{specs.Codec.canonical, specs.Codec.over, proofs.Reading.reading}
 use Rattle.trunk_types.specs.Bodies.{detail}
-use Rattle.read_figures.proofs.Answers.{storing, arrived}
+use Rattle.read_figures.proofs.Answers.{storing}
 use Rattle.trunk_read_fields.proofs.{Stores.detail-stored, Stores.detail-spare, Stores.zero-spare, detail_at.Statement.statement}
 use Rattle.trunk_read_fields.proofs.detail_at.Tie as tie
 
@@ -10,10 +10,8 @@ pub detail-at-spec : {M : Type 1} → statement M
 unfolding detail canonical over
 detail-at-spec =
     tie.close
-    (tie.spec (omega arith) (omega arith)
-    (λ c. let n = c .before .before .before in (search (storing, reading), zero-spare (n .before .before .pre .1))) (omega arith) (omega arith) (omega arith)
+    (tie.spec (omega arith) (omega arith) (λ c. (search (storing, reading), search zero-spare)) (omega arith) (omega arith) (omega arith)
     (λ c.
-    let e = c .before .before in
-    let n = e .before .before in
+    let n = c .before .before .before .before in
     let z = n .before .before .pre .1 in
-    (rw (z, detail-stored) (arrived _ _ (c .reached .ensures) (step _ _ _ _ (n .natural-at .ensures .0) (e .if1 .left) (gives _ _ _))), rw z (detail-spare (n .natural-at .result .value)))))
+    (rw (z, detail-stored) (search (storing, reading)), rw z (detail-spare (n .natural-at .result .value)))))

@@ -1,6 +1,6 @@
 -- Each return by the answers that led to it.
 use Rattle.prelude.proofs.Prelude.{arith, needs, true, _≡_, refl, _∙_, replicate}
-use Rattle.coding.{specs.Reader.after, specs.Reader.Ans.got, specs.Shown.shown, proofs.Reading.reading, proofs.Reading.gives}
+use Rattle.coding.{specs.Reader.after, specs.Reader.Ans.got, specs.inner.Shown.shown, proofs.Reading.reading, proofs.Reading.gives}
 use Rattle.types.specs.{Charges.association, Arguments.plain, Arguments.noCharge, Arguments.associated, Arguments.withAssociation, Stored.figureIn}
 use Rattle.read_figures.proofs.Answers.{storing, goes}
 use Rattle.read_charges.proofs.Stores.{association-stored}

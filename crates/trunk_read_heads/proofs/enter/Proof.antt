@@ -1,6 +1,6 @@
 use Rattle.prelude.proofs.Prelude.{arith, sym, _∙_, not-true, not-false}
 use Rattle.coding.proofs.{Reading.gives, Frames.any-told, Frames.any-lacks, Frames.any-strange, Frames.any-over, Frames.any-enters}
-use Rattle.read_heads.{specs.Heads.outsideCode, proofs.Codes.outside-code, proofs.Entered.by-lengths, proofs.Entered.alone}
+use Rattle.read_heads.{specs.inner.Heads.outsideCode, proofs.Codes.outside-code, proofs.Entered.by-lengths, proofs.Entered.alone}
 use Rattle.trunk_read_heads.proofs.{Entered.refused, enter.Statement.statement}
 use Rattle.trunk_read_heads.proofs.enter.Tie as tie
 

@@ -1,6 +1,6 @@
 use Rattle.prelude.proofs.Prelude.{sym, _∙_, arith, needs, not-false}
 use Rattle.trunk_types.specs.{declared.Trunk.Trunk, Stored.trunkIn}
-use Rattle.trunk_write_frames.{specs.Octets.given, proofs.Frames.known-frame}
+use Rattle.trunk_write_frames.{specs.inner.Octets.given, proofs.Frames.known-frame}
 use Rattle.trunk_write.specs.Outcome.{spareZero}
 use Rattle.trunk_write.proofs.{Outcomes.Sized, Outcomes.Whole, Outcomes.not-spare, Outcomes.not-fine, Outcomes.too-long, Outcomes.no-room, Outcomes.lead-room, Outcomes.contents-room}
 use Rattle.trunk_write.proofs.{Outcomes.written, Outcomes.written-few, write_from.Statement.statement}
@@ -9,7 +9,7 @@ use Rattle.trunk_write.proofs.write_from.Tie as tie
 -- ---- what is known on the way
 
 abbrev held : tie.Start → Trunk
-held s = let a = s .args in given (a .front .now) (a .lent .now) (a .figure .now) (a .numbers .now) (a .rows .now)
+held s = let a = s .args in given (a .front .now) (a .extension .now) (a .figure .now) (a .numbers .now) (a .rows .now)
 
 -- the four octets are zero
 abbrev tested : tie.After-contents-size → tie.After-trunk-fine
@@ -55,7 +55,7 @@ add-put-lead : tie.Need-add-put-lead
 add-put-lead c =
     let m = measured (c .before .before .before) in
     let a = start m .args in
-    omega (arith, known-frame (a .front .now) (a .lent .now) (a .figure .now) (a .numbers .now) (a .rows .now) (sized m .fine))
+    omega (arith, known-frame (a .front .now) (a .extension .now) (a .figure .now) (a .numbers .now) (a .rows .now) (sized m .fine))
 
 put-lead-requires : tie.Need-put-lead-requires
 unfolding trunkIn

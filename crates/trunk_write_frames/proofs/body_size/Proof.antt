@@ -1,37 +1,25 @@
 use Rattle.prelude.proofs.Prelude.{sym, ap, _∙_, arith, length}
-use Rattle.trunk_types.specs.Stored.{extensionIn}
 use Rattle.coding.proofs.Small.{null-length}
-use Rattle.trunk_write_frames.proofs.{Given.Parts, Extensions.extension-counted, Bodies.extended-valid, Bodies.extended-counted, Bodies.extended-length, Bodies.body-extended, Bodies.body-valid}
-use Rattle.trunk_write_frames.proofs.{Bodies.asked-plain, Bodies.asked-valid, Bodies.asked-length, body_size.Statement.statement}
+use Rattle.trunk_write_frames.proofs.{Dispatch.form-size, Extensions.extension-counted, Extensions.extension-length, Bodies.extended-valid, Bodies.extended-counted, Bodies.extended-length}
+use Rattle.trunk_write_frames.proofs.{Bodies.asked-plain, Bodies.form-asked, Bodies.form-extended, body_size.Statement.statement}
 use Rattle.trunk_write_frames.proofs.body_size.Tie as tie
-
-abbrev parts : tie.Start → Parts
-parts s = record { front = s .args .front .now; lent = s .args .lent .now; figure = s .args .figure .now; numbers = s .args .numbers .now; rows = s .args .rows .now }
-
-returns-3 : tie.Need-returns-3
-returns-3 c =
-    let n = c .before .before .inner-size .ensures in
-    let x = c .before .extension-size2 .ensures in
-    let t = c .before .before .before in
-    let s = t .before in
-    let v = body-valid (s .args .form) (parts s) (t .if1 .left) (s .pre) in
-    let e = extended-length (s .args .form) (parts s) v (n .0) (x .0) ∙ sym (ap length (body-extended (s .args .form) (parts s) (t .if1 .left))) in
-    (c .sized .ensures .0 0x30 ∙ e, omega (arith, c .sized .ensures .1, n .1, x .1))
 
 pub body-size-spec : {M : Type 1} → statement M
 body-size-spec =
     tie.close
-    (tie.spec (λ c. omega arith) (λ c.
-    let s = c .before .before .before in
-    (sym (ap length (asked-plain (s .args .form) (parts s) (c .before .before .if1 .taken) (c .if2 .taken)) ∙ null-length 0x05), omega arith))
-    (λ c κs.
-    let s = c .before .before .before in
-    extension-counted (extensionIn (s .args .lent .now)) (asked-valid (s .args .form) (parts s) (c .before .before .if1 .taken) (c .if2 .left) (s .pre)))
+    (tie.spec (λ c. omega arith)
+    (λ c. (sym (ap length (asked-plain _ _ (c .before .before .if1 .taken) (c .if2 .taken)) ∙ null-length 0x05), omega arith))
+    (λ c κs. let t = c .before .before in extension-counted _ (form-asked _ _ (t .before .pre) (t .if1 .taken) (c .if2 .left) .asked))
     (λ c.
-    let t = c .before .before .before in
-    let s = t .before in
-    (asked-length (s .args .form) (parts s) (t .if1 .taken) (c .before .if2 .left) (s .pre) (c .extension-size .ensures .0), omega (arith, c .extension-size .ensures .1)))
-    (λ c κs. let s = c .before in extended-valid (s .args .form) (parts s) (body-valid (s .args .form)
-    (parts s) (c .if1 .left) (s .pre)) .0)
-    (λ c κs. let s = c .before .before in extended-counted (s .args .form) (parts s) (body-valid (s .args .form) (parts s) (c .before .if1 .left) (s .pre)))
-    (λ c. omega arith) (λ c κs. omega arith) returns-3)
+    let z = c .before in let t = z .before .before in
+    let f = form-asked _ _ (t .before .pre) (t .if1 .taken) (z .if2 .left) in
+    (form-size f (extension-length _ (c .extension-size .ensures .0) (f .asked)), omega (arith, c .extension-size .ensures .1)))
+    (λ c κs. extended-valid _ _ (form-extended _ _ (c .before .pre) (c .if1 .left) .asked) .0)
+    (λ c κs. let e = c .before in extended-counted _ _ (form-extended _ _ (e .before .pre) (e .if1 .left) .asked))
+    (λ c. omega arith) (λ c κs. omega arith)
+    (λ c.
+    let x = c .before in let n = x .before in let e = n .before in
+    let f = form-extended _ _ (e .before .pre) (e .if1 .left) in (
+      form-size f (c .sized .ensures .0 0x30 ∙ extended-length _ _ (f .asked) (n .inner-size .ensures .0) (x .extension-size2 .ensures .0)),
+      omega (arith, c .sized .ensures .1, n .inner-size .ensures .1, x .extension-size2 .ensures .1),
+    )))

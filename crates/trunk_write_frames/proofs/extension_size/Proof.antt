@@ -7,9 +7,9 @@ pub extension-size-spec : {M : Type 1} → statement M
 extension-size-spec =
     tie.close
     (tie.spec (λ c. omega arith)
-    (λ c. let s = c .before .before in (size-none (extensionIn (s .args .lent .now)) (c .if1 .taken), omega arith)) (λ c. omega arith) (λ c κs. omega arith)
+    (λ c. let s = c .before .before in (size-none (extensionIn (s .args .extension .now)) (c .if1 .taken), omega arith)) (λ c. omega arith) (λ c κs. omega arith)
     (λ c κs. omega (arith, c .wide .ensures))
     (λ c.
     let c3 = c .before .before .before in let s = c3 .before .before in
     let w = c .before .wide .ensures in
-    (size-kept (extensionIn (s .args .lent .now)) (s .pre) (c3 .if1 .left) (w .0) (c .sized .ensures .0), omega (arith, c .sized .ensures .1, w .1))))
+    (size-kept (extensionIn (s .args .extension .now)) (s .pre) (c3 .if1 .left) (w .0) (c .sized .ensures .0), omega (arith, c .sized .ensures .1, w .1))))

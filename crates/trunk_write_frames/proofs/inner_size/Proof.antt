@@ -1,45 +1,42 @@
-use Rattle.prelude.proofs.Prelude.{[], _≡_, sym, ap, _∙_, arith, length}
-use Rattle.trunk_write_frames.proofs.{Sizes.size-1, Sizes.size-2, Sizes.asking, Sizes.size-59, Sizes.size-64, Sizes.size-65, Forms.users-64, Forms.users-65, Forms.inner-charge}
-use Rattle.trunk_write_frames.proofs.{Given.Parts, inner_size.Statement.statement}
+-- One line for a form.
+use Rattle.prelude.proofs.Prelude.{_≡_, arith, length}
+use Rattle.trunk_write_frames.proofs.{Dispatch.form-size, Forms.form-1, Forms.form-2, Forms.form-59, Forms.form-64, Forms.form-65, Forms.form-charge}
+use Rattle.trunk_write_frames.proofs.{Forms.size-detail, Forms.size-59, Forms.size-65, inner_size.Statement.statement}
 use Rattle.trunk_write_frames.proofs.inner_size.Tie as tie
 
-abbrev parts : tie.Start → Parts
-parts s = record { front = s .args .front .now; lent = []; figure = s .args .figure .now; numbers = s .args .numbers .now; rows = s .args .rows .now }
+abbrev start : tie.Else1 → tie.Start
+start e = e .before .before .before
 
-returns-3 : tie.Need-returns-3
-returns-3 c =
-    let c3 = c .before .before .before in let c6 = c3 .before .before .before in let s = c6 .before in
-    let t = c .before .before .if3 .taken in
-    let l : length (s .args .front .now) ≡ 48 = omega arith in
-    (size-59 (parts s) (s .pre) l t (c .wide .ensures .0), omega (arith, c .wide .ensures .0, asking (parts s) (s .pre) l t .few))
-
-charge-size-requires : tie.Need-charge-size-requires
-charge-size-requires c κs =
-    let t = c .before .before .before in let c6 = t .before .before .before in let s = c6 .before .before in
-    let e = inner-charge (parts s) (c .figure-of .ensures) (t .before .before .if1 .left) (t .before .if2 .left) (t .if3 .left) (c .before .before .if4 .left) (c .before .if5 .left) in
-    (omega arith, e .1 (s .pre))
-
-returns-6 : tie.Need-returns-6
-returns-6 c =
-    let c3 = c .before .before .before in let t = c3 .before in let c7 = t .before .before .before in let s = c7 .before .before in
-    let e = inner-charge (parts s) (c .before .figure-of .ensures) (t .before .before .if1 .left) (t .before .if2 .left) (t .if3 .left)
-    (c3 .if4 .left) (c .before .before .if5 .left) in
-    (c .charge-size .ensures .0 ∙ sym (ap length (e .0)), c .charge-size .ensures .1)
+abbrev third : tie.Else3 → tie.Start
+third e = start (e .before .before)
 
 pub inner-size-spec : {M : Type 1} → statement M
 inner-size-spec =
     tie.close
-    (tie.spec (λ c. let s = c .before .before .before in (size-1 (parts s) (s .pre) (c .if1 .taken), omega arith))
-    (λ c. let c3 = c .before .before .before in let s = c3 .before in (size-2 (parts s) (s .pre) (c .if2 .taken), omega arith)) (λ c. omega arith) (λ c κs. omega arith)
+    (tie.spec (λ c. (size-detail (form-1 _ (c .before .before .before .pre) (c .if1 .taken)), omega arith))
+    (λ c. (size-detail (form-2 _ (start (c .before) .pre) (c .if2 .taken)), omega arith)) (λ c. omega arith) (λ c κs. omega arith)
     (λ c. omega (arith, c .wide .ensures))
     (λ c. omega (arith, c .wide .ensures))
-    returns-3
-    (λ c κs. let c3 = c .before .before .before in let s = c3 .before .before .before in users-64 (parts s) (c .if4 .taken) (s .pre))
     (λ c.
-    let c3 = c .before .before .before in let c6 = c3 .before .before .before in let s = c6 .before in
-    (size-64 (parts s) (s .pre) (c .before .if4 .taken) (c .users-size .ensures .0), omega (arith, c .users-size .ensures .1)))
-    (λ c κs. let c3 = c .before .before .before in let c6 = c3 .before .before .before in let s = c6 .before in users-65 (parts s) (c .if5 .taken) (s .pre) .0) (λ c. omega arith)
+    let t = c .before .before in let s = start (t .before .before) in
+    let l : length (s .args .front .now) ≡ 48 = omega arith in
+    let f = form-59 _ (s .pre) l (t .if3 .taken) in
+    (size-59 _ f (c .wide .ensures .0), omega (arith, c .wide .ensures .0, f .asked .0)))
+    (λ c κs. form-64 _ (third (c .before) .pre) (c .if4 .taken) .asked)
+    (λ c. let t = c .before in
+    (form-size (form-64 _ (third (t .before) .pre) (t .if4 .taken)) (c .users-size .ensures .0), omega (arith, c .users-size .ensures .1)))
+    (λ c κs. form-65 _ (third (c .before .before) .pre) (c .if5 .taken) .asked .0) (λ c. omega arith)
+    (λ c. let t = c .before in
+    (size-65 _ (third (t .before .before) .pre) (t .if5 .taken) (c .users-size2 .ensures .0), omega (arith, c .users-size2 .ensures .1)))
+    (λ c κs. omega arith)
+    (λ c κs.
+    let d = c .before .before in let b = d .before in (
+      omega arith,
+      form-charge _ (third b .pre) (c .figure-of .ensures)
+          (b .before .before .if1 .left) (b .before .if2 .left) (b .if3 .left) (d .if4 .left) (c .before .if5 .left) .asked,
+    ))
     (λ c.
-    let c3 = c .before .before .before in let c6 = c3 .before .before .before in let s = c6 .before .before in
-    (size-65 (parts s) (s .pre) (c .before .if5 .taken) (c .users-size2 .ensures .0), omega (arith, c .users-size2 .ensures .1)))
-    (λ c κs. omega arith) charge-size-requires returns-6)
+    let g = c .before in let d = g .before .before in let b = d .before in
+    let f = form-charge _ (third b .pre) (g .figure-of .ensures)
+    (b .before .before .if1 .left) (b .before .if2 .left) (b .if3 .left) (d .if4 .left) (g .before .if5 .left) in
+    (form-size f (c .charge-size .ensures .0), c .charge-size .ensures .1)))

@@ -1,58 +1,41 @@
-use Rattle.prelude.proofs.Prelude.{ap, _∙_, arith, length}
-use Rattle.coding.proofs.Writing.{room-as}
-use Rattle.write_figures.proofs.Sizes.{wrote-is}
-use Rattle.trunk_write_frames.proofs.{Given.Parts, Frames.holds-1, Frames.holds-2, Frames.holds-3, Frames.holds-4, Frames.holds-10, Frames.error-parameter, Frames.error-octets, Frames.reject-detail}
-use Rattle.trunk_write_frames.proofs.{Frames.reject-octets, Frames.network-fine, Frames.network-octets, put_contents.Statement.statement}
+-- One line for a frame with its room, and one with what is put of it.
+use Rattle.prelude.proofs.Prelude.{arith}
+use Rattle.trunk_write_frames.proofs.{Dispatch.form-room, Dispatch.form-fits, Dispatch.form-wrote, Frames.holds-1, Frames.holds-2, Frames.holds-3, Frames.holds-4, Frames.holds-10}
+use Rattle.trunk_write_frames.proofs.put_contents.Statement.{statement}
 use Rattle.trunk_write_frames.proofs.put_contents.Tie as tie
 
-abbrev parts : tie.Start → Parts
-parts s = record { front = s .args .front .now; lent = s .args .lent .now; figure = s .args .figure .now; numbers = s .args .numbers .now; rows = s .args .rows .now }
+abbrev start : tie.Else1 → tie.Start
+start e = e .before .before .before
 
-put-network-requires : tie.Need-put-network-requires
-put-network-requires c κs =
-    let c3 = c .before .before .before in let c5 = c3 .before .before in let c8 = c5 .before .before .before in let s = c8 .before .before in
-    let h = holds-10 (parts s) (s .pre .0) (c5 .before .before .if1 .left) (c5 .if2 .left) (c3 .if3 .left) (c .before .if4 .left) in
-    (network-fine (parts s) (h .0), room-as (s .pre .1 .1) (h .1 ∙ network-octets (parts s) (h .0)))
+abbrev second : tie.Else2 → tie.Start
+second e = start (e .before .before)
 
-returns-5 : tie.Need-returns-5
-returns-5 c =
-    let c3 = c .before .before .before in let c6 = c3 .before .before .before in let c9 = c6 .before .before .before in let c12 = c9 .before .before .before in
-    let s = c12 .before in
-    let h = holds-10 (parts s) (s .pre .0) (c9 .before .if1 .left) (c6 .before .before .if2 .left) (c6 .if3 .left) (c3 .before .if4 .left) in
-    wrote-is (h .1 ∙ network-octets (parts s) (h .0)) (c .before .before .put-network .ensures)
+abbrev third : tie.Else3 → tie.Start
+third e = second (e .before .before)
 
 pub put-contents-spec : {M : Type 1} → statement M
 put-contents-spec =
     tie.close
-    (tie.spec (λ c. omega arith) (λ c κs.
-    let c3 = c .before .before .before in let s = c3 .before in
-    let h = holds-1 (parts s) (s .pre .0) (c .before .if1 .taken) in
-    (h .0, (omega (arith, ap length (h .1), s .pre .1 .0), room-as (s .pre .1 .1) (h .1)))) (λ c. omega arith)
-    (λ c.
-    let c3 = c .before .before .before in let c6 = c3 .before .before .before in let s = c6 .before in
-    wrote-is ((holds-1 (parts s) (s .pre .0) (c3 .before .if1 .taken)) .1) (c .before .before .put-invoke .ensures)) (λ c. omega arith)
+    (tie.spec (λ c. omega arith)
+    (λ c κs. let t = c .before in let p = t .before .before .before .pre in form-fits (holds-1 _ (p .0) (t .if1 .taken)) (p .1 .0) (p .1 .1)) (λ c. omega arith)
+    (λ c. let w = c .before .before in let t = w .before .before in
+    form-wrote (holds-1 _ (t .before .before .before .pre .0) (t .if1 .taken)) (w .put-invoke .ensures))
+    (λ c. omega arith)
+    (λ c κs. let t = c .before in let p = start (t .before .before) .pre in form-fits (holds-2 _ (p .0) (t .if2 .taken)) (p .1 .0) (p .1 .1)) (λ c. omega arith)
+    (λ c. let w = c .before .before in let t = w .before .before in
+    form-wrote (holds-2 _ (start (t .before .before) .pre .0) (t .if2 .taken)) (w .put-result .ensures))
+    (λ c. omega arith)
+    (λ c κs. let t = c .before in let p = second (t .before .before) .pre in form-room (holds-3 _ (p .0) (t .if3 .taken)) (p .1 .1)) (λ c. omega arith)
+    (λ c. let w = c .before .before in let t = w .before .before in
+    form-wrote (holds-3 _ (second (t .before .before) .pre .0) (t .if3 .taken)) (w .put-error .ensures))
+    (λ c. omega arith)
+    (λ c κs. let t = c .before in let p = third (t .before .before) .pre in form-room (holds-4 _ (p .0) (t .if4 .taken)) (p .1 .1)) (λ c. omega arith)
+    (λ c. let w = c .before .before in let t = w .before .before in
+    form-wrote (holds-4 _ (third (t .before .before) .pre .0) (t .if4 .taken)) (w .put-reject .ensures))
     (λ c κs.
-    let c3 = c .before .before .before in let s = c3 .before .before .before in
-    let h = holds-2 (parts s) (s .pre .0) (c .before .if2 .taken) in
-    (h .0, (omega (arith, ap length (h .1), s .pre .1 .0), room-as (s .pre .1 .1) (h .1)))) (λ c. omega arith)
+    let d = c .before in let b = d .before .before in let a = b .before .before in
+    form-room (holds-10 _ (third b .pre .0) (a .before .before .if1 .left) (a .if2 .left) (b .if3 .left) (d .if4 .left)) (third b .pre .1 .1))
+    (λ c. omega arith)
     (λ c.
-    let c3 = c .before .before .before in let c6 = c3 .before .before .before in let s = c6 .before .before .before in
-    wrote-is ((holds-2 (parts s) (s .pre .0) (c3 .before .if2 .taken)) .1) (c .before .before .put-result .ensures)) (λ c. omega arith)
-    (λ c κs.
-    let c3 = c .before .before .before in let c6 = c3 .before .before .before in let s = c6 .before .before in
-    let h = holds-3 (parts s) (s .pre .0) (c .before .if3 .taken) in
-    (error-parameter (parts s) (h .0), room-as (s .pre .1 .1) (h .1 ∙ error-octets (parts s) (h .0)))) (λ c. omega arith)
-    (λ c.
-    let c3 = c .before .before .before in let c6 = c3 .before .before .before in let c9 = c6 .before .before .before in let s = c9 .before .before in
-    let h = holds-3 (parts s) (s .pre .0) (c3 .before .if3 .taken) in
-    wrote-is (h .1 ∙ error-octets (parts s) (h .0)) (c .before .before .put-error .ensures)) (λ c. omega arith)
-    (λ c κs.
-    let c3 = c .before .before .before in let c6 = c3 .before .before .before in let c9 = c6 .before .before .before in let s = c9 .before in
-    let h = holds-4 (parts s) (s .pre .0) (c .before .if4 .taken) in
-    (reject-detail (parts s) (h .0), room-as (s .pre .1 .1) (h .1 ∙ reject-octets (parts s) (h .0)))) (λ c. omega arith)
-    (λ c.
-    let c3 = c .before .before .before in let c6 = c3 .before .before .before in let c9 = c6 .before .before .before in let c12 = c9 .before .before .before in
-    let s = c12 .before in
-    let h = holds-4 (parts s) (s .pre .0) (c3 .before .if4 .taken) in
-    wrote-is (h .1 ∙ reject-octets (parts s) (h .0)) (c .before .before .put-reject .ensures))
-    put-network-requires (λ c. omega arith) returns-5)
+    let w = c .before .before in let d = w .before .before in let b = d .before .before in let a = b .before .before in
+    form-wrote (holds-10 _ (third b .pre .0) (a .before .before .if1 .left) (a .if2 .left) (b .if3 .left) (d .if4 .left)) (w .put-network .ensures)))

@@ -1,66 +1,55 @@
-use Rattle.prelude.proofs.Prelude.{[], _≡_, ap, arith, length}
-use Rattle.coding.proofs.Writing.{room-as}
-use Rattle.write_figures.proofs.Sizes.{wrote-is}
-use Rattle.trunk_write_frames.proofs.{Sizes.asking, Sizes.inner-modes, Forms.inner-1, Forms.inner-2, Forms.low-1, Forms.low-2, Forms.inner-64, Forms.inner-65, Forms.users-64, Forms.users-65}
-use Rattle.trunk_write_frames.proofs.{Forms.inner-charge, Given.Parts, put_inner.Statement.statement}
+-- One line for a form with its room, and one with what is put of it.
+use Rattle.prelude.proofs.Prelude.{_≡_, ap, arith, length}
+use Rattle.trunk_write_frames.proofs.{Dispatch.form-room, Dispatch.form-wrote, Forms.form-1, Forms.form-2, Forms.form-59, Forms.form-64, Forms.form-65, Forms.form-charge}
+use Rattle.trunk_write_frames.proofs.put_inner.Statement.{statement}
 use Rattle.trunk_write_frames.proofs.put_inner.Tie as tie
 
-abbrev parts : tie.Start → Parts
-parts s = record { front = s .args .front .now; lent = []; figure = s .args .figure .now; numbers = s .args .numbers .now; rows = s .args .rows .now }
+abbrev start : tie.After-octets → tie.Start
+start o = o .before .before .before
 
-put-modes-requires : tie.Need-put-modes-requires
-put-modes-requires c κs =
-    let c3 = c .before .before .before in let c6 = c3 .before .before .before in let s = c6 .before in
-    let l : length (s .args .front .now) ≡ 48 = omega arith in
-    let m = asking (parts s) (s .pre .0) l (c .before .if3 .taken) in
-    ((m .few, m .fine), room-as (s .pre .1 .1) (inner-modes (parts s) (s .pre .0) l (c .before .if3 .taken)))
+abbrev second : tie.Else2 → tie.Start
+second e = start (e .before .before)
 
-put-charge-requires : tie.Need-put-charge-requires
-put-charge-requires c κs =
-    let c3 = c .before .before .before in let t = c3 .before in let c7 = t .before .before .before in let s = c7 .before .before .before in
-    let e = inner-charge (parts s) (c .before .figure-of .ensures) (t .before .before .if1 .left) (t .before .if2 .left) (t .if3 .left)
-    (c3 .if4 .left) (c .before .before .if5 .left) in
-    (omega arith, (e .1 (s .pre .0), (omega (arith, ap length (e .0), s .pre .1 .0), room-as (s .pre .1 .1) (e .0))))
+abbrev fourth : tie.Else4 → tie.Start
+fourth e = second (e .before .before)
 
-returns-6 : tie.Need-returns-6
-returns-6 c =
-    let c3 = c .before .before .before in let c6 = c3 .before .before .before in let t = c6 .before in let c10 = t .before .before .before in
-    let s = c10 .before .before .before in
-    let e = inner-charge (parts s) (c3 .before .figure-of .ensures) (t .before .before .if1 .left) (t .before .if2 .left) (t .if3 .left)
-    (c6 .if4 .left) (c3 .before .before .if5 .left) in
-    wrote-is (e .0) (c .before .before .put-charge .ensures)
+long : (e : tie.Else2) → length (second e .args .front .now) ≡ 48
+long e = omega arith
 
 pub put-inner-spec : {M : Type 1} → statement M
 put-inner-spec =
     tie.close
-    (tie.spec (λ c. omega arith) (λ c κs.
-    let c3 = c .before .before .before in let s = c3 .before .before .before in
-    (low-1 (parts s) (c .before .before .if1 .taken) (s .pre .0), room-as (s .pre .1 .1) (inner-1 (parts s) (c .before .before .if1 .taken)))) (λ c. omega arith)
+    (tie.spec (λ c. omega arith)
+    (λ c κs. let t = c .before .before in let s = start (t .before) in form-room (form-1 _ (s .pre .valid) (t .if1 .taken)) (s .pre .room)) (λ c. omega arith)
+    (λ c. let w = c .before .before in let t = w .before .before .before in
+    form-wrote (form-1 _ (start (t .before) .pre .valid) (t .if1 .taken)) (w .put-small .ensures))
+    (λ c. omega arith)
+    (λ c κs. let t = c .before .before in let s = start (t .before .before) in
+    form-room (form-2 _ (s .pre .valid) (t .if2 .taken)) (s .pre .room)) (λ c. omega arith)
+    (λ c. let w = c .before .before in let t = w .before .before .before in
+    form-wrote (form-2 _ (start (t .before .before) .pre .valid) (t .if2 .taken)) (w .put-small2 .ensures))
+    (λ c κs. let t = c .before in let s = second (t .before) in
+    form-room (form-59 _ (s .pre .valid) (long (t .before)) (t .if3 .taken)) (s .pre .room)) (λ c. omega arith)
     (λ c.
-    let c3 = c .before .before .before in let c5 = c3 .before .before in let c8 = c5 .before .before .before in let s = c8 .before in
-    wrote-is (inner-1 (parts s) (c5 .if1 .taken)) (c .before .before .put-small .ensures)) (λ c. omega arith)
+    let w = c .before .before in let t = w .before .before in
+    form-wrote (form-59 _ (second (t .before) .pre .valid) (long (t .before)) (t .if3 .taken)) (w .put-modes .ensures))
+    (λ c κs. let t = c .before in let s = second (t .before .before) in form-room (form-64 _ (s .pre .valid) (t .if4 .taken)) (s .pre .room)) (λ c. omega arith)
+    (λ c. let w = c .before .before in let t = w .before .before in
+    form-wrote (form-64 _ (second (t .before .before) .pre .valid) (t .if4 .taken)) (w .put-users .ensures))
     (λ c κs.
-    let c3 = c .before .before .before in let c6 = c3 .before .before .before in let s = c6 .before in
-    (low-2 (parts s) (c .before .before .if2 .taken) (s .pre .0), room-as (s .pre .1 .1) (inner-2 (parts s) (c .before .before .if2 .taken)))) (λ c. omega arith)
-    (λ c.
-    let c3 = c .before .before .before in let c5 = c3 .before .before in let c8 = c5 .before .before .before in let s = c8 .before .before in
-    wrote-is (inner-2 (parts s) (c5 .if2 .taken)) (c .before .before .put-small2 .ensures))
-    put-modes-requires (λ c. omega arith)
-    (λ c.
-    let c3 = c .before .before .before in let c6 = c3 .before .before .before in let c9 = c6 .before .before .before in let s = c9 .before in
-    let l : length (s .args .front .now) ≡ 48 = omega arith in
-    wrote-is (inner-modes (parts s) (s .pre .0) l (c3 .before .if3 .taken)) (c .before .before .put-modes .ensures))
+    let t = c .before in let s = fourth (t .before) in
+    let f = form-room (form-65 _ (s .pre .valid) (t .if5 .taken)) (s .pre .room) in (f .0 .0, (f .0 .1, f .1))) (λ c. omega arith)
+    (λ c. let w = c .before .before in let t = w .before .before in
+    form-wrote (form-65 _ (fourth (t .before) .pre .valid) (t .if5 .taken)) (w .put-diverting .ensures))
+    (λ c κs. omega arith)
     (λ c κs.
-    let c3 = c .before .before .before in let c6 = c3 .before .before .before in let s = c6 .before .before in
-    (users-64 (parts s) (c .before .if4 .taken) (s .pre .0), room-as (s .pre .1 .1) (inner-64 (parts s) (c .before .if4 .taken)))) (λ c. omega arith)
+    let g = c .before in let d = g .before .before in let b = d .before .before in let s = fourth d in
+    let f = form-charge _ (s .pre .valid) (g .figure-of .ensures)
+    (b .before .if1 .left) (b .if2 .left) (d .before .if3 .left) (d .if4 .left) (g .before .if5 .left) in
+    let r = form-room f (s .pre .room) in
+    (omega arith, (r .0, (omega (arith, ap length (f .octets), s .pre .few), r .1))))
+    (λ c. omega arith)
     (λ c.
-    let c3 = c .before .before .before in let c6 = c3 .before .before .before in let c9 = c6 .before .before .before in let s = c9 .before .before in
-    wrote-is (inner-64 (parts s) (c3 .before .if4 .taken)) (c .before .before .put-users .ensures))
-    (λ c κs.
-    let c3 = c .before .before .before in let c6 = c3 .before .before .before in let s = c6 .before .before .before in
-    let u = users-65 (parts s) (c .before .if5 .taken) (s .pre .0) in
-    (u .0, (u .1, room-as (s .pre .1 .1) (inner-65 (parts s) (c .before .if5 .taken))))) (λ c. omega arith)
-    (λ c.
-    let c3 = c .before .before .before in let c6 = c3 .before .before .before in let c9 = c6 .before .before .before in let s = c9 .before .before .before in
-    wrote-is (inner-65 (parts s) (c3 .before .if5 .taken)) (c .before .before .put-diverting .ensures))
-    (λ c κs. omega arith) put-charge-requires (λ c. omega arith) returns-6)
+    let w = c .before .before in let g = w .before .before in let d = g .before .before in let b = d .before .before in
+    form-wrote (form-charge _ (fourth d .pre .valid) (g .figure-of .ensures)
+    (b .before .if1 .left) (b .if2 .left) (d .before .if3 .left) (d .if4 .left) (g .before .if5 .left)) (w .put-charge .ensures)))

@@ -4,18 +4,8 @@ use Rattle.write_figures.proofs.Sizes.{room-2, wrote-two}
 use Rattle.trunk_write_frames.proofs.{Sizes.modes-split, Sizes.modes-fine, put_modes.Statement.statement}
 use Rattle.trunk_write_frames.proofs.put_modes.Tie as tie
 
-put-places-requires : tie.Need-put-places-requires
-put-places-requires c κs =
-    let c3 = c .before .before .before in let c6 = c3 .before .before .before in let s = c6 .before .before in
-    let n = c3 .before .before .wide .ensures .0 in
-    let r = room-2 (modes-split (s .args .front .now) n) (s .pre .1) (c3 .put-lead .ensures) in
-    ((omega (arith, n, s .pre .0 .0), modes-fine (s .args .front .now) n (s .pre .0 .1)), r)
-
-returns : tie.Need-returns
-returns c =
-    let c3 = c .before .before .before in let c6 = c3 .before .before .before in let c9 = c6 .before .before .before in let s = c9 .before .before in
-    let o = modes-split (s .args .front .now) (c6 .before .before .wide .ensures .0) in
-    wrote-two o (c6 .put-lead .ensures) (c .before .before .put-places .ensures)
+abbrev start : tie.After-wide → tie.Start
+start w = w .before .before .before
 
 pub put-modes-spec : {M : Type 1} → statement M
 put-modes-spec =
@@ -23,7 +13,13 @@ put-modes-spec =
     (tie.spec (λ c. omega arith) (λ c κs. omega arith)
     (λ c. omega (arith, c .before .wide .ensures))
     (λ c κs.
-    let c3 = c .before .before .before in let s = c3 .before in
-    let o = modes-split (s .args .front .now) (c .before .wide .ensures .0) in
-    (omega (arith, c .before .wide .ensures, s .pre .0 .0), room-head _ (room-as (s .pre .1) o)))
-    put-places-requires (λ c. omega arith) returns)
+    let w = c .before in let p = start w .pre in
+    (omega (arith, w .wide .ensures, p .0 .0), room-head _ (room-as (p .1) (modes-split _ (w .wide .ensures .0)))))
+    (λ c κs.
+    let l = c .before .before .before in let w = l .before .before in let p = start w .pre in
+    let n = w .wide .ensures .0 in
+    ((omega (arith, n, p .0 .0), modes-fine (start w .args .front .now) n (p .0 .1)), room-2 (modes-split _ n) (p .1) (l .put-lead .ensures)))
+    (λ c. omega arith)
+    (λ c.
+    let q = c .before .before in let l = q .before .before .before .before in
+    wrote-two (modes-split _ (l .before .before .wide .ensures .0)) (l .put-lead .ensures) (q .put-places .ensures)))

@@ -7,8 +7,6 @@ pub put-reject-spec : {M : Type 1} → statement M
 put-reject-spec =
     tie.close
     (tie.spec (λ c κs. room-head _ (c .before .before .pre .1)) (λ c. omega arith) (λ c. omega arith)
-    (λ c κs.
-    let c3 = c .before .before .before in let c5 = c3 .before .before in let s = c5 .before .before .before in
-    (s .pre .0, room-tail (c5 .put-caller .ensures) (s .pre .1)))
+    (λ c κs. let w = c .before .before .before .before .before in let p = w .before .before .before .pre in (p .0, room-tail (w .put-caller .ensures) (p .1)))
     (λ c. omega arith)
-    (λ c. let c3 = c .before .before .before in let c6 = c3 .before .before .before in wrote-both (c6 .before .before .put-caller .ensures) (c .before .before .put-small .ensures)))
+    (λ c. let w = c .before .before in wrote-both (w .before .before .before .before .before .before .put-caller .ensures) (w .put-small .ensures)))

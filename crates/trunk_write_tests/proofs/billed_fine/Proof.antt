@@ -1,6 +1,6 @@
 use Rattle.prelude.proofs.Prelude.{arith}
 use Rattle.coding.proofs.Tests.{tests}
-use Rattle.trunk_write_tests.specs.Fine.{billedFine}
+use Rattle.trunk_write_tests.specs.inner.Fine.{billedFine}
 use Rattle.trunk_write_tests.proofs.billed_fine.Statement.{statement}
 use Rattle.trunk_write_tests.proofs.billed_fine.Tie as tie
 

@@ -1,6 +1,6 @@
 use Rattle.prelude.proofs.Prelude.{arith}
 use Rattle.coding.proofs.Tests.{tests}
-use Rattle.trunk_write_tests.specs.Fine.{detailFine}
+use Rattle.trunk_write_tests.specs.inner.Fine.{detailFine}
 use Rattle.trunk_write_tests.proofs.detail_fine.Statement.{statement}
 use Rattle.trunk_write_tests.proofs.detail_fine.Tie as tie
 

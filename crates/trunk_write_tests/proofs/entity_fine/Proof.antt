@@ -1,5 +1,5 @@
 use Rattle.coding.proofs.Tests.{tests}
-use Rattle.trunk_write_tests.specs.Fine.{entityFine}
+use Rattle.trunk_write_tests.specs.inner.Fine.{entityFine}
 use Rattle.trunk_write_tests.proofs.entity_fine.Statement.{statement}
 use Rattle.trunk_write_tests.proofs.entity_fine.Tie as tie
 

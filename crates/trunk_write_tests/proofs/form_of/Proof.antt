@@ -1,5 +1,5 @@
 use Rattle.coding.proofs.Tests.{tests}
-use Rattle.trunk_write_tests.specs.Fine.{formOf}
+use Rattle.trunk_write_tests.specs.inner.Fine.{formOf}
 use Rattle.trunk_write_tests.proofs.form_of.Statement.{statement}
 use Rattle.trunk_write_tests.proofs.form_of.Tie as tie
 

@@ -1,5 +1,5 @@
 use Rattle.coding.proofs.Tests.{tests}
-use Rattle.trunk_write_tests.specs.Fine.{isBilling}
+use Rattle.trunk_write_tests.specs.inner.Fine.{isBilling}
 use Rattle.trunk_write_tests.proofs.is_billing.Statement.{statement}
 use Rattle.trunk_write_tests.proofs.is_billing.Tie as tie
 

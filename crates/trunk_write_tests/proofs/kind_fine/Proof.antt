@@ -1,6 +1,6 @@
 use Rattle.prelude.proofs.Prelude.{ℕ, _≤_, _≡_, false, arith, or-false, eqb, ne-eqb}
 use Rattle.coding.proofs.Tests.{tests}
-use Rattle.trunk_write_tests.specs.Fine.{kindFine}
+use Rattle.trunk_write_tests.specs.inner.Fine.{kindFine}
 use Rattle.trunk_write_tests.proofs.kind_fine.Statement.{statement}
 use Rattle.trunk_write_tests.proofs.kind_fine.Tie as tie
 

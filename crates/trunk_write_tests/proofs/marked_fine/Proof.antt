@@ -1,7 +1,7 @@
 use Rattle.prelude.proofs.Prelude.{arith}
 use Rattle.coding.proofs.Tests.{tests}
 use Rattle.write_tests.proofs.Truth.{answered}
-use Rattle.trunk_write_tests.specs.Fine.{markedFine}
+use Rattle.trunk_write_tests.specs.inner.Fine.{markedFine}
 use Rattle.trunk_write_tests.proofs.marked_fine.Statement.{statement}
 use Rattle.trunk_write_tests.proofs.marked_fine.Tie as tie
 

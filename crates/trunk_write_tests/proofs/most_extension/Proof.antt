@@ -1,5 +1,5 @@
 use Rattle.coding.proofs.Tests.{tests}
-use Rattle.trunk_write_tests.specs.Fine.{mostExtension}
+use Rattle.trunk_write_tests.specs.inner.Fine.{mostExtension}
 use Rattle.trunk_write_tests.proofs.most_extension.Statement.{statement}
 use Rattle.trunk_write_tests.proofs.most_extension.Tie as tie
 

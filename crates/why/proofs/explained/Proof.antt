@@ -1,7 +1,7 @@
 use Rattle.prelude.proofs.Prelude.{_-_, _/_, _≡_, sym, _∙_, arith, length}
 use Rattle.events.{specs.Events.eventsFrom, specs.Events.eventsOf, specs.Events.Going, proofs.Laws.begins, proofs.Laws.inside, proofs.Laws.goes-on}
 use Rattle.why_rules.specs.Reasons.{reasonOf}
-use Rattle.why.specs.Seeing.{runFrom}
+use Rattle.why.specs.inner.Seeing.{runFrom}
 use Rattle.why.proofs.{Seeing.run-start, Seeing.run-next, Seeing.run-end, explained.Statement.statement}
 use Rattle.why.proofs.explained.Tie as tie
 

@@ -1,5 +1,5 @@
 use Rattle.prelude.proofs.Prelude.{arith}
-use Rattle.why.specs.Seeing.{turnOf}
+use Rattle.why.specs.inner.Seeing.{turnOf}
 use Rattle.why.proofs.turn.Statement.{statement}
 use Rattle.why.proofs.turn.Tie as tie
 

@@ -1,12 +1,16 @@
-use Rattle.prelude.proofs.Prelude.{needs}
+use Rattle.prelude.proofs.Prelude.{_≡_, sym, ap, _∙_, needs}
 use Rattle.coding.proofs.Tests.{tests}
 use Rattle.write_rate.proofs.Prices.{was-true, was-false}
-use Rattle.write_tests.proofs.Valid.{charge-fine}
+use Rattle.write_tests.{specs.inner.Fine.figureFine, proofs.Valid.charge-fine}
 use Rattle.write_charges.proofs.charge_fine.Statement.{statement}
 use Rattle.write_charges.proofs.charge_fine.Tie as tie
+
+-- the figure is the one that lies in the octets
+tested : (c : tie.After-parts-fine) → let a = c .before .args in c .parts-fine .result ≡ figureFine (a .operation) (a .f)
+tested c = c .parts-fine .ensures ∙ ap (figureFine (c .before .args .operation)) (sym (c .before .pre .1 .0))
 
 pub charge-fine-spec : {M : Type 1} → statement M
 charge-fine-spec =
     tie.close
-    (tie.spec (λ c κs. search needs) (λ c. search (tests, charge-fine, was-false (c .before .parts-fine .ensures) (c .if1 .taken))) (λ c κs. search needs)
-    (λ c. search (tests, charge-fine, was-true (c .before .before .parts-fine .ensures) (c .before .if1 .left))))
+    (tie.spec (λ c κs. search needs) (λ c. search (tests, charge-fine, was-false (tested (c .before)) (c .if1 .taken))) (λ c κs. search needs)
+    (λ c. search (tests, charge-fine, was-true (tested (c .before .before)) (c .before .if1 .left))))

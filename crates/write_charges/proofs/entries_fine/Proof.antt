@@ -1,6 +1,6 @@
 use Rattle.prelude.proofs.Prelude.{needs}
 use Rattle.coding.proofs.Tests.{tests}
-use Rattle.write_tests.specs.Fine.{entriesFine}
+use Rattle.write_tests.specs.inner.Fine.{entriesFine}
 use Rattle.write_charges.proofs.entries_fine.Statement.{statement}
 use Rattle.write_charges.proofs.entries_fine.Tie as tie
 

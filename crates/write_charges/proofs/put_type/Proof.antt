@@ -1,7 +1,7 @@
 use Rattle.prelude.proofs.Prelude.{needs}
 use Rattle.coding.proofs.Tests.{tests}
 use Rattle.write_rate.proofs.Three.{named}
-use Rattle.write_charges.specs.Octets.{typeOctets}
+use Rattle.write_charges.specs.inner.Octets.{typeOctets}
 use Rattle.write_charges.proofs.put_type.Statement.{statement}
 use Rattle.write_charges.proofs.put_type.Tie as tie
 

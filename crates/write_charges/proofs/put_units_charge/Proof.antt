@@ -1,5 +1,5 @@
 use Rattle.prelude.proofs.Prelude.{arith, needs}
-use Rattle.write_tests.specs.Fine.{laid}
+use Rattle.write_tests.specs.inner.Fine.{laid}
 use Rattle.write_charges.proofs.Charged.{units-valid, units-length, put-units-1, put-units-2, put-units-3, put-units-4}
 use Rattle.write_charges.proofs.put_units_charge.Statement.{statement}
 use Rattle.write_charges.proofs.put_units_charge.Tie as tie

@@ -1,6 +1,6 @@
 use Rattle.prelude.proofs.Prelude.{arith, eq-eqb, ne-eqb}
 use Rattle.coding.proofs.Small.{small-length}
-use Rattle.write_charges.specs.Octets.{typeOctets}
+use Rattle.write_charges.specs.inner.Octets.{typeOctets}
 use Rattle.write_charges.proofs.type_size.Statement.{statement}
 use Rattle.write_charges.proofs.type_size.Tie as tie
 

@@ -1,5 +1,5 @@
 use Rattle.prelude.proofs.Prelude.{arith}
-use Rattle.write_heads.specs.Fronts.{frontFine}
+use Rattle.write_heads.specs.inner.Fronts.{frontFine}
 use Rattle.write_heads.proofs.{Fine.fine, error_fine.Statement.statement}
 use Rattle.write_heads.proofs.error_fine.Tie as tie
 

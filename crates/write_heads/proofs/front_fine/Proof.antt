@@ -1,6 +1,6 @@
 use Rattle.prelude.proofs.Prelude.{arith}
 use Rattle.coding.proofs.Tests.{tests}
-use Rattle.write_heads.specs.Fronts.{frontFine}
+use Rattle.write_heads.specs.inner.Fronts.{frontFine}
 use Rattle.write_heads.proofs.front_fine.Statement.{statement}
 use Rattle.write_heads.proofs.front_fine.Tie as tie
 

@@ -1,5 +1,5 @@
 use Rattle.prelude.proofs.Prelude.{arith, needs}
-use Rattle.write_heads.specs.Fronts.{frontFine}
+use Rattle.write_heads.specs.inner.Fronts.{frontFine}
 use Rattle.write_heads.proofs.{Fine.fine, Fine.told-no, Fine.invoke-yes, invoke_fine.Statement.statement}
 use Rattle.write_heads.proofs.invoke_fine.Tie as tie
 

@@ -1,6 +1,6 @@
 use Rattle.prelude.proofs.Prelude.{ap, _∙_, arith, needs, le-leb, lt-leb}
 use Rattle.types.specs.{Charges.noMoney, Charges.money, Arguments.sameMoney}
-use Rattle.write_rate.specs.Prices.{amountFine}
+use Rattle.write_rate.specs.inner.Prices.{amountFine}
 use Rattle.write_rate.proofs.amount_fine.Statement.{statement}
 use Rattle.write_rate.proofs.amount_fine.Tie as tie
 

@@ -1,6 +1,6 @@
 use Rattle.prelude.proofs.Prelude.{arith, needs}
 use Rattle.coding.proofs.Tests.{tests}
-use Rattle.write_rate.specs.Prices.{termOctets}
+use Rattle.write_rate.specs.inner.Prices.{termOctets}
 use Rattle.write_rate.proofs.{Three.named, Octets.rate-parts, Octets.put-terms-1, Octets.put-terms-2, Octets.put-terms-3, Octets.put-terms-4, put_terms.Statement.statement}
 use Rattle.write_rate.proofs.put_terms.Tie as tie
 

@@ -1,6 +1,6 @@
 use Rattle.prelude.proofs.Prelude.{arith, eq-eqb, ne-eqb}
 use Rattle.coding.specs.Codec.{maybe}
-use Rattle.write_rate.specs.Prices.{stepOctets}
+use Rattle.write_rate.specs.inner.Prices.{stepOctets}
 use Rattle.write_rate.proofs.{Octets.rate-parts, step_size.Statement.statement}
 use Rattle.write_rate.proofs.step_size.Tie as tie
 

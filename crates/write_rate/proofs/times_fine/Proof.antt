@@ -1,6 +1,6 @@
 use Rattle.prelude.proofs.Prelude.{needs}
 use Rattle.coding.proofs.Tests.{tests}
-use Rattle.write_rate.specs.Prices.{timesFine}
+use Rattle.write_rate.specs.inner.Prices.{timesFine}
 use Rattle.write_rate.proofs.{Prices.zero-first, Prices.was-true, Prices.was-false, times_fine.Statement.statement}
 use Rattle.write_rate.proofs.times_fine.Tie as tie
 

@@ -1,5 +1,5 @@
 use Rattle.coding.proofs.Tests.{tests}
-use Rattle.write_tests.specs.Fine.{associationFine}
+use Rattle.write_tests.specs.inner.Fine.{associationFine}
 use Rattle.write_tests.proofs.association_by_kind.Statement.{statement}
 use Rattle.write_tests.proofs.association_by_kind.Tie as tie
 

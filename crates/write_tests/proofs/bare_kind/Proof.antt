@@ -1,5 +1,5 @@
 use Rattle.coding.proofs.Tests.{tests}
-use Rattle.write_tests.specs.Fine.{bareKind}
+use Rattle.write_tests.specs.inner.Fine.{bareKind}
 use Rattle.write_tests.proofs.bare_kind.Statement.{statement}
 use Rattle.write_tests.proofs.bare_kind.Tie as tie
 

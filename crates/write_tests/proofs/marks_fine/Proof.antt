@@ -1,6 +1,6 @@
 use Rattle.prelude.proofs.Prelude.{arith}
 use Rattle.coding.proofs.Tests.{tests}
-use Rattle.write_tests.specs.Fine.{marksFine}
+use Rattle.write_tests.specs.inner.Fine.{marksFine}
 use Rattle.write_tests.proofs.{Truth.answered, marks_fine.Statement.statement}
 use Rattle.write_tests.proofs.marks_fine.Tie as tie
 

@@ -1,6 +1,6 @@
 use Rattle.prelude.proofs.Prelude.{arith}
 use Rattle.coding.proofs.Tests.{tests}
-use Rattle.write_tests.specs.Fine.{moneyFine}
+use Rattle.write_tests.specs.inner.Fine.{moneyFine}
 use Rattle.write_tests.proofs.money_by_kind.Statement.{statement}
 use Rattle.write_tests.proofs.money_by_kind.Tie as tie
 

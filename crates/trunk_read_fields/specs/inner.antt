@@ -1,0 +1,3 @@
+-- Definitions that only inner functions and lemmas cite.
+pub mod Fields
+pub mod Readers

@@ -1,0 +1,17 @@
+use Rattle.prelude.proofs.Prelude.{needs, length-unmapped}
+use Rattle.write.proofs.{Laid.figure-laid, octets_of.Statement.statement}
+use Rattle.write.proofs.octets_of.Tie as tie
+
+returns : tie.Need-returns
+returns c = figure-laid _ (search (length-unmapped, needs)) (search (length-unmapped, needs))
+
+pub octets-of-spec : {M : Type 1} → statement M
+octets-of-spec =
+    tie.close
+    (tie.spec (λ c. search needs) (λ c. search needs) (λ c. search needs) (λ c. search needs) (λ c. search needs) (λ c. search needs) (λ c. search needs)
+    (λ c. search needs) (λ c. search needs) (λ c. search needs) (λ c. search needs) (λ c. search needs) (λ c. search needs) (λ c. search needs)
+    (λ c. search needs) (λ c. search needs) (λ c. search needs) (λ c. search needs) (λ c. search needs) (λ c. search needs) (λ c. search needs)
+    (λ c. search needs) (λ c. search needs) (λ c. search needs) (λ c. search needs) (λ c. search needs) (λ c. search needs) (λ c. search needs)
+    (λ c. search needs) (λ c. search needs) (λ c. search needs) (λ c. search needs) (λ c. search needs) (λ c. search needs) (λ c. search needs)
+    (λ c. search needs) (λ c. search needs) (λ c. search needs)
+    returns)

@@ -1,0 +1,66 @@
+-- The octets of a figure that its kind uses. All others must be zero, which is one test for each kind.
+use Prim.Native.Nat.{ℕ}
+use mathlib.Core.Bool.{Bool, false, not, _&&_, _||_, cond}
+use mathlib.Core.List.{List, [], _∷_, _++_}
+use lib.ListN.{length, getD, replicate}
+use lib.Dec.{leb, eqb}
+use Rattle.coding.specs.Codec.{sameList}
+use Rattle.types.specs.declared.Figure.{Figure}
+use Rattle.types.specs.Charges.{money}
+use Rattle.types.specs.Stored.{moneyIn}
+use Rattle.write_tests.specs.inner.Fine.{bareKind}
+
+-- A mask is text, an x for an octet that is used and a point for one that must be zero: 16 of money, 26 of an association, then the small fields.
+-- The last is the count, which goes with the list.
+abbrev pub isUsed : ℕ → List ℕ
+isUsed n = replicate n 0x78
+
+abbrev pub isZero : ℕ → List ℕ
+isZero n = replicate n 0x2e
+
+abbrev pub moneyMask : List ℕ
+moneyMask = isUsed 16 ++ (isZero 26 ++ (isUsed 4 ++ (isZero 1 ++ isUsed 1)))
+
+abbrev pub unitsMask : List ℕ
+unitsMask = isZero 16 ++ (isZero 26 ++ (isUsed 4 ++ (isZero 1 ++ isUsed 1)))
+
+abbrev pub arrangedMask : List ℕ
+arrangedMask = isZero 16 ++ (isZero 26 ++ (isUsed 1 ++ (isZero 3 ++ isUsed 2)))
+
+-- not available, free and rates
+abbrev pub bareMask : List ℕ
+bareMask = isZero 16 ++ (isZero 26 ++ (isUsed 1 ++ (isZero 4 ++ isUsed 1)))
+
+-- what must be zero of octets
+abbrev pub masked : List ℕ → List ℕ → List ℕ
+masked [] s = []
+masked (u ∷ us) [] = []
+masked (u ∷ us) (x ∷ xs) = cond (eqb u 0x2e) x 0 ∷ masked us xs
+
+unfoldable pub clearBut : List ℕ → List ℕ → Bool
+clearBut used s = sameList eqb (replicate 48 0) (masked used s)
+
+-- ---- the ranges of what is used
+
+abbrev pub billedFine : ℕ → ℕ → ℕ → Bool
+billedFine most billed billing = cond (eqb billed 1) (leb billing most) (eqb 0 billed && eqb 0 billing)
+
+abbrev pub pricedFine : ℕ → ℕ → ℕ → ℕ → ℕ → ℕ → Bool
+pricedFine during ending o total billed billing =
+    cond (eqb o during) (leb total 1 && billedFine 2 billed billing) (cond (eqb o ending) (eqb 0 total && billedFine 7 billed billing) false)
+
+abbrev pub arrangedFine : ℕ → ℕ → Bool
+arrangedFine o arrangement = (eqb o 30 || eqb o 32) && (leb 1 arrangement && leb arrangement 10)
+
+-- ---- a figure's octets, tested by its kind's mask and by the ranges of what is used
+
+-- an association may stand there, and does
+abbrev pub associated : ℕ → Figure → Bool
+associated o f = leb 35 o && (not (eqb (f .kind) 0) && not (eqb (f .association .kind) 0))
+
+unfoldable pub maskedFine : ℕ → List ℕ → Bool
+maskedFine o s =
+    cond (eqb (getD s 42 0) 2) (clearBut moneyMask s && (pricedFine 33 35 o (getD s 43 0) (getD s 44 0) (getD s 45 0) && (money false) .valid (moneyIn s)))
+    (cond (eqb (getD s 42 0) 3) (clearBut unitsMask s && pricedFine 34 36 o (getD s 43 0) (getD s 44 0) (getD s 45 0))
+    (cond (eqb (getD s 42 0) 5) (clearBut arrangedMask s && arrangedFine o (getD s 46 0))
+    (clearBut bareMask s && bareKind o (getD s 42 0))))
