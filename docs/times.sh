@@ -1,10 +1,10 @@
 #!/bin/sh
 # sh docs/times.sh COMMIT...
-#     proves each commit from nothing, one check at a time, and prints one line for each: the commit, its crates, whether
-#     all were proved with this machine's kit, and the CPU seconds (user and system) that `rt prove` took.
+#     proves each commit from nothing and prints one line for each: the commit, its crates, whether all were proved with
+#     this machine's kit, and the CPU seconds (user and system) that `rt prove` took.
 #
-# The times of the landing notes are made with it. Run it where nothing else uses the processor (`taskset -c 0 sh
-# docs/times.sh ...` keeps it on one). Each commit is proved in a new clone, which is removed afterwards.
+# The times of the landing notes are made with it. Run it on a machine that does nothing else. RT_JOBS is the number of
+# checks at a time, two if it is not set. Each commit is proved in a new clone, which is removed afterwards.
 set -u
 cd "$(dirname "$0")/.." || exit 2
 [ $# -gt 0 ] || { echo "usage: sh docs/times.sh COMMIT..." >&2; exit 2; }
@@ -14,7 +14,7 @@ trap 'exit 2' HUP INT TERM
 rt version
 for commit in "$@"; do
     git clone -q . "$work/tree" && git -C "$work/tree" checkout -q "$commit" || exit 2
-    RT_JOBS=1 python3 - "$work/tree" "$commit" <<'PYTHON'
+    RT_JOBS=${RT_JOBS:-2} python3 - "$work/tree" "$commit" <<'PYTHON'
 import os, resource, subprocess, sys
 
 tree, commit = sys.argv[1:]

@@ -132,7 +132,7 @@ aoc_next_by_answer aoc_next_by_into(const uint8_t *octets, size_t length, size_t
                                     uint32_t (*numbers)[32], uint8_t (*rows)[192], uint8_t (*trunk_front)[48], uint8_t (*extension)[244],
                                     uint8_t (*trunk_figure)[48], uint32_t (*trunk_numbers)[32], uint8_t (*trunk_rows)[192]);
 
-/* writeProfile */
+/* writeBy */
 /*@ requires parts: LINE_FROM && TRUNK_FROM;
     requires buffer: LENT_TO(buffer, room);
     requires apart: room == 0 || \separated(buffer + (0 .. room - 1), LINE_PARTS, TRUNK_PARTS);

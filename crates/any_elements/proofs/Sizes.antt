@@ -256,11 +256,10 @@ module _ {s : List ℕ} {a e : ℕ} {x : Extent} {n : ℕ} (i : Element s a e x 
     pub leaf-length : length (part s (x .start) (x .stop)) ≡ x .stop - x .start
     leaf-length = part-length s (x .start) (x .stop) (inner-limit .inside)
 
-    pub leaf-joined : {k r : ℕ} → k ≡ sized (severalAt s n e)
-        → r ≡ cond (leb 1000 k) k (length (lead 0 (x .stop - x .start)) + (x .stop - x .start) + k) → r ≡ sized (severalAt s a e)
-    leaf-joined q d =
-        d
-        ∙ rest-joined (ofOctets (getD s a 0) (part s (x .start) (x .stop))) (x .stop - x .start)
+    pub leaf-joined : {k : ℕ} → k ≡ sized (severalAt s n e)
+        → cond (leb 1000 k) k (length (lead 0 (x .stop - x .start)) + (x .stop - x .start) + k) ≡ sized (severalAt s a e)
+    leaf-joined q =
+        rest-joined (ofOctets (getD s a 0) (part s (x .start) (x .stop))) (x .stop - x .start)
         (wrapped-length (getD s a 0) (part s (x .start) (x .stop)) ∙ ap (λ (i : ℕ). length (lead 0 i) + i) leaf-length) (severalAt s n e) few-left q
         ∙ sym (ap sized leaf-is)
 
@@ -284,10 +283,9 @@ module _ {s : List ℕ} {a e : ℕ} {x : Extent} {n : ℕ} (i : Element s a e x 
         let r : severalAt s a e ≡ halt (f .0) (f .1) = rw (node-is, f .2) in
         f .3 ∙ sym (ap sized r)
 
-    pub node-joined : {j k r : ℕ} → j ≡ sized (severalAt s (x .start) (x .stop)) → j < 1000 → k ≡ sized (severalAt s n e)
-        → r ≡ cond (leb 1000 k) k (length (lead 0 j) + j + k) → r ≡ sized (severalAt s a e)
-    node-joined {j} q h p d =
+    pub node-joined : {j k : ℕ} → j ≡ sized (severalAt s (x .start) (x .stop)) → j < 1000 → k ≡ sized (severalAt s n e)
+        → cond (leb 1000 k) k (length (lead 0 j) + j + k) ≡ sized (severalAt s a e)
+    node-joined {j} q h p =
         let w = sized-got inner-limit (goes i .1) q h in
-        d
-        ∙ rest-joined (ofElements (getD s a 0) (w .0)) j (wrapped-length (getD s a 0) (writeSeveral (w .0)) ∙ ap (λ (i : ℕ). length (lead 0 i) + i) (w .2)) (severalAt s n e) few-left p
+        rest-joined (ofElements (getD s a 0) (w .0)) j (wrapped-length (getD s a 0) (writeSeveral (w .0)) ∙ ap (λ (i : ℕ). length (lead 0 i) + i) (w .2)) (severalAt s n e) few-left p
         ∙ sym (ap sized (node-read (w .0) (w .1)))

@@ -21,8 +21,8 @@ use Rattle.requests.specs.{declared.Services.Services, declared.Three.Three}
 use Rattle.account.specs.{declared.Account.Account, History.stepped}
 use Rattle.phases.specs.declared.{Event.Event, Outcome.Outcome}
 use Rattle.account.specs.Events.{plainEvent, setupEvent, Took}
-use Rattle.aoc.proofs.{Walk.Coded, Walk.by-walk, Passed.Callee, Passed.tokens, Passed.to-callee, Passed.goes-in, Passed.came-back, Passed.came, Passed.retold}
-use Rattle.aoc.proofs.{Passed.G, Passed.known-step}
+use Rattle.prelude.proofs.Walk.{Coded, by-walk}
+use Rattle.aoc.proofs.Passed.{Callee, tokens, to-callee, goes-in, came-back, came, retold, G, known-step}
 use denote.Struct.Laws as LL
 use Rattle.account.proofs.Account as T
 use Rattle.phases.proofs.Event as E

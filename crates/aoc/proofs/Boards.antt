@@ -19,7 +19,7 @@ use denote.{Triple.Walked.goes-gave-ref, Triple.Walked.goes-dropped, Triple.Walk
 use Rattle.phases.specs.declared.{Event.Event, Outcome.Outcome}
 use Rattle.board_rules.specs.declared.{Board.Board, Collected.Collected, Viewed.Viewed}
 use Rattle.step.proofs.Machine.{vE, tellsE}
-use Rattle.aoc.proofs.Walk.{Coded, by-walk}
+use Rattle.prelude.proofs.Walk.{Coded, by-walk}
 use denote.Struct.Laws as LL
 use Rattle.board_rules.proofs.Board as T
 use Rattle.board_rules.proofs.Collected as K

@@ -1,4 +1,3 @@
-pub mod Walk
 pub mod Passed
 pub mod Alone
 pub mod Readers

@@ -20,7 +20,7 @@ use Rattle.account.specs.declared.{Account.Account, Stepped.Stepped}
 use Rattle.phases.specs.declared.{Event.Event, Outcome.Outcome}
 use Rattle.step.proofs.Machine.{vE, tellsE}
 use Rattle.account.specs.Events.{plainEvent, Took}
-use Rattle.aoc.proofs.Walk.{Coded, by-walk}
+use Rattle.prelude.proofs.Walk.{Coded, by-walk}
 use denote.Struct.Laws as LL
 use Rattle.account.proofs.Account as T
 use Rattle.phases.proofs.Event as E

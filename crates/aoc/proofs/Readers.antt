@@ -20,7 +20,7 @@ use denote.{Triple.Clauses.lasts, Triple.Clauses.closing}
 use Rattle.account.specs.{declared.Account.Account, History.Judged, History.judged, History.accountBy}
 use Rattle.phases.specs.Phases.{Given as Past}
 use Rattle.step.proofs.Machine.{vA, tellsA}
-use Rattle.aoc.proofs.Walk.{Coded, by-walk}
+use Rattle.prelude.proofs.Walk.{Coded, by-walk}
 use denote.Struct.Laws as LL
 use Rattle.account.proofs.Account as T
 

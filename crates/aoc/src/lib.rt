@@ -15,13 +15,12 @@ ghost use Rattle.write.specs.Outcome.{writeOf, leftOf};
 ghost use Rattle.reply.specs.Reply.{replyOf, replyLeft};
 ghost use Rattle.element_pass.specs.Pass.{passWith, passOf, wholeNext};
 ghost use Rattle.trunk_types.specs.Stored.{Spare};
-ghost use Rattle.profile_read.specs.Profile.{readBy, eitherIn};
+ghost use Rattle.profile_read.specs.Profile.{readBy, leftLine, leftTrunk, eitherIn};
 ghost use Rattle.profile_pass.specs.Passing.{families, nextIn};
 ghost use Rattle.profile_reply.specs.Replies.{replyProfile, leftProfile};
-ghost use Rattle.types.specs.Stored.{recordIn, storedCharge};
-ghost use Rattle.trunk_types.specs.Stored.{trunkIn};
-ghost use Rattle.trunk_write.specs.Outcome.{spareZero};
-ghost use Rattle.profile_write.specs.Writes.{writeProfile, writeProfileLeft};
+ghost use Rattle.types.specs.Stored.{storedCharge};
+ghost use Rattle.trunk_write.specs.Outcome.{lentTrunk};
+ghost use Rattle.profile_write.specs.Writes.{lentLine, writeBy, leftBy};
 ghost use Rattle.types.specs.Thousandths.{powers};
 ghost use Rattle.requests.specs.Identifiers.{nextOf, oneUp};
 ghost use Rattle.requests.specs.Sets.{emptySet, isService, has, with};
@@ -129,7 +128,7 @@ pub extern "C" fn aoc_read_by_into(
     trunk_numbers: &mut [u32; 32],
     trunk_rows: &mut [u8; 192],
 ) -> profile_read::Judged
-    ensures { λ r. ⌜ eitherIn r (now (front .exit)) (now (figure .exit)) (now (numbers .exit)) (now (rows .exit)) (now («trunk_front» .exit)) (now (extension .exit)) (now («trunk_figure» .exit)) (now («trunk_numbers» .exit)) (now («trunk_rows» .exit)) ≡ readBy profile (now (octets .entry)) ⌝ }
+    ensures { λ r. ⌜ eitherIn r (leftLine front figure numbers rows) (leftTrunk «trunk_front» extension «trunk_figure» «trunk_numbers» «trunk_rows») ≡ readBy profile (now (octets .entry)) ⌝ }
     ensures spare { λ _. ⌜ Spare (now («trunk_front» .exit)) ⌝ }
 {
     profile_read::read_by(
@@ -161,7 +160,7 @@ pub extern "C" fn aoc_next_by_into(
     trunk_numbers: &mut [u32; 32],
     trunk_rows: &mut [u8; 192],
 ) -> profile_pass::NextBy
-    ensures { λ r. ⌜ nextIn r (now (front .exit)) (now (figure .exit)) (now (numbers .exit)) (now (rows .exit)) (now («trunk_front» .exit)) (now (extension .exit)) (now («trunk_figure» .exit)) (now («trunk_numbers» .exit)) (now («trunk_rows» .exit)) ≡ passWith families (now (octets .entry)) place ⌝ }
+    ensures { λ r. ⌜ nextIn r (leftLine front figure numbers rows) (leftTrunk «trunk_front» extension «trunk_figure» «trunk_numbers» «trunk_rows») ≡ passWith families (now (octets .entry)) place ⌝ }
     ensures spare { λ _. ⌜ Spare (now («trunk_front» .exit)) ⌝ }
 {
     profile_pass::next_by(
@@ -193,8 +192,8 @@ pub extern "C" fn aoc_write_by_from(
     trunk_rows: &[u8; 192],
     buf: &mut [u8],
 ) -> write::Written
-    ensures { λ w. ⌜ w ≡ writeProfile profile (recordIn (now (front .entry)) (now (figure .entry)) (now (numbers .entry)) (now (rows .entry))) (spareZero (now («trunk_front» .entry))) (trunkIn (now («trunk_front» .entry)) (now (extension .entry)) (storedCharge (now («trunk_figure» .entry)) (now («trunk_numbers» .entry)) (now («trunk_rows» .entry)))) (length (now (buf .entry))) ⌝ }
-    ensures left { λ w. ⌜ now (buf .exit) ≡ writeProfileLeft profile (recordIn (now (front .entry)) (now (figure .entry)) (now (numbers .entry)) (now (rows .entry))) (spareZero (now («trunk_front» .entry))) (trunkIn (now («trunk_front» .entry)) (now (extension .entry)) (storedCharge (now («trunk_figure» .entry)) (now («trunk_numbers» .entry)) (now («trunk_rows» .entry)))) (now (buf .entry)) ⌝ }
+    ensures { λ w. ⌜ w ≡ writeBy profile (lentLine front figure numbers rows) (lentTrunk «trunk_front» extension «trunk_figure» «trunk_numbers» «trunk_rows») (length (now (buf .entry))) ⌝ }
+    ensures left { λ w. ⌜ now (buf .exit) ≡ leftBy profile (lentLine front figure numbers rows) (lentTrunk «trunk_front» extension «trunk_figure» «trunk_numbers» «trunk_rows») (now (buf .entry)) ⌝ }
 {
     profile_write::write_by(
         profile,

@@ -1,7 +1,7 @@
 -- The walk of a collection on the lent table, at any types, as that of an event (Lent.antt): the account and the key in the slot are copied out, changed by value and stored back.
 use mathlib.Core.Path.{_≡_, refl}
 use mathlib.Core.Option.{some as just}
-use Prim.Native.Nat.{ℕ, zero, _+_, _*_, _%_, _<_}
+use Prim.Native.Nat.{ℕ, zero, _%_, _<_}
 use native.Mathlib.Omega.{arith}
 use mathlib.Core.List.{List, [], _∷_}
 use lib.ListN.{length, getD, set}
@@ -10,23 +10,23 @@ use mir.Syntax.{Ty, Sym, Name, tyInt, tyPtr, tyRef, tyArray, mut, w16, w32, w64,
 use mir.Syntax.{place, deref, field, copy, int, intBig, unsigned, rvOpd, op2, addrOf, mul, rem, offset}
 use mir.Syntax.{seq, assign, call, return}
 use mir.Val.{Val, vptr, vint, vunit}
-use base.Logic.{SProp, ent, emp, guard}
+use base.Logic.{SProp, ent}
 use base.Fml.{GName, Lft, Share, Fml, ftrue, flft, fobs, fbor, fat, fsep}
 use prog.Memory.{size, fieldAt}
 use prog.Wp.{Heap, Calls, Loops, WpFn}
 use ghost.Atoms.{Atoms, sem}
-use contract.Monad.{fact}
-use types.Kit.{Given, ‵, raw, _⊛_, given, mean, ⋆, some, later, _$_, _∵_, !, qed, by, move, keep, drop, use0, use1, split, learn, pick, fsplit, fsplit3, await, rewrite}
+use types.Kit.{Given, ‵, _⊛_, ⋆, _$_, _∵_, !, qed, by, move, keep, drop, use1, split, fsplit, fsplit3, rewrite}
 use types.Part.{whole, sub, look-in, store-in}
 use types.Run.{look, init, store, forget, stop, hop, fld, from, load, lit, of-opd, bin, addr, and-then, no-more, assigns, returns, land, enter, alloc1, alloc0, params1, pass1, pass0, free1, free0}
 use types.SemTy.{Body}
 use sound.WpLaws.{FmC}
 use denote.{RattleType.RattleType, Laws.Is, Laws.Makes, Laws.shows, Memory.mem, Memory.cellAt, Steps.opens, Steps.closes, Steps.owned}
-use denote.{Steps.peeks, Steps.heard, Array.arrayVal, Triple.Call.calls-from}
+use denote.{Steps.peeks, Array.arrayVal}
 use Rattle.step.proofs.Lent.{Typed}
-use Rattle.board.proofs.Item.{item, big-lit}
+use Rattle.board.proofs.Item.{big-lit, copied, sets}
 use Rattle.board.proofs.Cells.{boardVal}
-use Rattle.board.proofs.Lent.{boardTys, boardTy, heldTy, Held-so}
+use Rattle.board.proofs.Calls.{Gives, calls-value}
+use Rattle.board.proofs.Lent.{boardTys, boardTy, heldTy, heldVal, Held-typed, account-at, key-at}
 
 abbrev pub lentFn : (τA τW τO τR τB : Ty) (f g : Name) → Fn
 lentFn τA τW τO τR τB f g = record {
@@ -77,45 +77,24 @@ module _ {M : Type 1} (𝓤 : URA M) (H : Heap 𝓤) (A : Atoms 𝓤) (W : Given
     (typed-old : (vs : List Val) (is : Is R h vs) (i : ℕ) → Typed τA (getD (us vs is) (i % 64) vunit))
     (typed-key : (vs : List Val) (is : Is R h vs) (i : ℕ) → Typed (tyInt w32) (getD (ks vs is) (i % 64) vunit))
     -- the slot
-    (OwnP : ℕ → Val → Fml) (FineP : ℕ → Type 0)
-    (pre₁ : (vs : List Val) → Is R h vs → SProp 𝓤) (post₁ : (vs : List Val) → Is R h vs → Val → SProp 𝓤)
-    (met₁ : (vs : List Val) (is : Is R h vs) → ent 𝓤 (pre₁ vs is) (C f (arrayVal (ks vs is) ∷ vint w16 key ∷ []) (post₁ vs is)))
-    (asked₁ : (vs : List Val) (is : Is R h vs) → ent 𝓤 (emp 𝓤) (pre₁ vs is))
-    (Ens₁ : (vs : List Val) → Is R h vs → ℕ → SProp 𝓤) (Said₁ : (vs : List Val) → Is R h vs → ℕ → Type 0)
-    (posts₁ : (vs : List Val) (is : Is R h vs) (v : Val) → ent 𝓤 (post₁ vs is v) (mean 𝓤 H A (later (some (λ (r : ℕ). (‵ ftrue ⊛ ‵ (OwnP r v)) ⊛ raw (Ens₁ vs is r))))))
-    (said₁ : (vs : List Val) (is : Is R h vs) (r : ℕ) → ent 𝓤 (Ens₁ vs is r) (fact 𝓤 (Said₁ vs is r)))
-    (opened₁ : (r : ℕ) (v : Val) → ent 𝓤 (sem 𝓤 H A (OwnP r v)) (guard 𝓤 ((v ≡ vint w64 r) × Typed (tyInt w64) v × FineP r) (sem 𝓤 H A ftrue)))
+    (FineP : ℕ → Type 0) (Said₁ : (vs : List Val) → Is R h vs → ℕ → Type 0)
+    (finds : (vs : List Val) (is : Is R h vs)
+    → Gives 𝓤 H A C f (arrayVal (ks vs is) ∷ vint w16 key ∷ []) ℕ (vint w64) (λ r. (Typed (tyInt w64) (vint w64 r) × FineP r) × Said₁ vs is r))
     -- what the slot holds after the collection
-    (X : Type 0) (ov av : X → Val) (kv : X → ℕ) (OwnX : X → Val → Fml) (FineX : X → Type 0)
-    (pre₂ : (vs : List Val) → Is R h vs → (r : ℕ) → FineP r → SProp 𝓤) (post₂ : (vs : List Val) → Is R h vs → (r : ℕ) → FineP r → Val → SProp 𝓤)
-    (met₂ : (vs : List Val) (is : Is R h vs) (r : ℕ) (n : FineP r)
-    → ent 𝓤 (pre₂ vs is r n) (C g (getD (us vs is) (r % 64) vunit ∷ getD (ks vs is) (r % 64) vunit ∷ vint w64 r ∷ []) (post₂ vs is r n)))
-    (asked₂ : (vs : List Val) (is : Is R h vs) (r : ℕ) (n : FineP r) → ent 𝓤 (emp 𝓤) (pre₂ vs is r n))
-    (Ens₂ : (vs : List Val) → Is R h vs → (r : ℕ) → FineP r → X → SProp 𝓤) (Said₂ : (vs : List Val) → Is R h vs → (r : ℕ) → FineP r → X → Type 0)
-    (posts₂ : (vs : List Val) (is : Is R h vs) (r : ℕ) (n : FineP r) (v : Val)
-    → ent 𝓤 (post₂ vs is r n v) (mean 𝓤 H A (later (some (λ (w : X). (‵ ftrue ⊛ ‵ (OwnX w v)) ⊛ raw (Ens₂ vs is r n w))))))
-    (said₂ : (vs : List Val) (is : Is R h vs) (r : ℕ) (n : FineP r) (w : X) → ent 𝓤 (Ens₂ vs is r n w) (fact 𝓤 (Said₂ vs is r n w)))
-    (opened₂ : (w : X) (v : Val) → ent 𝓤 (sem 𝓤 H A (OwnX w v)) (guard 𝓤 (Held-so τO τA νW (ov w) (kv w) (av w) v × FineX w) (sem 𝓤 H A ftrue)))
+    (X : Type 0) (ov av : X → Val) (kv : X → ℕ) (FineX : X → Type 0) (Said₂ : (vs : List Val) → Is R h vs → ℕ → X → Type 0)
+    (frees : (vs : List Val) (is : Is R h vs) (r : ℕ) → FineP r
+    → Gives 𝓤 H A C g (getD (us vs is) (r % 64) vunit ∷ getD (ks vs is) (r % 64) vunit ∷ vint w64 r ∷ []) X
+    (λ w. heldVal (ov w) (kv w) (av w)) (λ w. (Held-typed τO τA νW (ov w) (kv w) (av w) × FineX w) × Said₂ vs is r w))
     (last : ℕ → X → R .Denot)
     (is-last : (vs : List Val) (is : Is R h vs) (i : ℕ) (w : X) → FineX w → Is R (last i w) (boardVal (set (ks vs is) (i % 64) (vint w32 (kv w))) (set (us vs is) (i % 64) (av w)) ∷ []))
     (End : Val → SProp 𝓤)
-    (exits : (vs : List Val) (is : Is R h vs) (r : ℕ) (n : FineP r) (w : X) → Said₁ vs is r → Said₂ vs is r n w → FineX w
+    (exits : (vs : List Val) (is : Is R h vs) (r : ℕ) (w : X) → Said₁ vs is r → Said₂ vs is r w → FineX w
     → ent 𝓤 (⋆ 𝓤 H A (‵ (fobs γ (R .coded .code (last r w))) ∷ ‵ (fbor κ (Body (mem R) b o γ)) ∷ ‵ (flft κ q) ∷ [])) (End (ov w))) where
   abbrev τB : Ty
   τB = boardTy τA νB
 
   abbrev τW : Ty
   τW = heldTy τO τA νW
-
-  -- where the account of a slot lies
-  abbrev spot : ℕ → ℕ
-  spot i = i % 64 * 1488 + (o + 256)
-
-  far : (i : ℕ) → i * 1488 + (o + 256) ≡ o + 256 + i * size τA
-  far i = rw size-A (omega arith)
-
-  index : (l : List Val) (i : ℕ) → length l ≡ 64 → i % 64 < length l
-  index l i e = omega (arith, e)
 
   abbrev lastVal : (vs : List Val) → Is R h vs → ℕ → X → Val
   lastVal vs is i w = boardVal (set (ks vs is) (i % 64) (vint w32 (kv w))) (set (us vs is) (i % 64) (av w))
@@ -135,52 +114,42 @@ module _ {M : Type 1} (𝓤 : URA M) (H : Heap 𝓤) (A : Atoms 𝓤) (W : Given
       use1 W (‵ (fat fullShare τB b o (boardVal (ks vs is) (us vs is)))) (cell-out (boardVal (ks vs is) (us vs is))) $
       move ! (4 ∷ 5 ∷ []) $ drop ! $ drop ! $
       -- [the table's cell; the open borrow; obs; auth; _18; ..; _0]: local i at 4 + 2 * (18 - i)
-      assigns ! (of-opd ! (load ! (from ! (hop ! (look ! 38 refl) (fld ! refl (stop !)))) (look-in ! 0 (sub ! 0 refl (whole !))))) (from ! (stop !)) (init ! 28 refl (typed-keys vs is)) $
-      use0 W (raw (pre₁ vs is)) (asked₁ vs is) $
-      calls-from ! fm (raw (pre₁ vs is)) (arrayVal (ks vs is) ∷ vint w16 key ∷ []) (post₁ vs is) (met₁ vs is)
-      (and-then ! (load ! (from ! (stop !)) (look ! 29 refl)) (and-then ! (load ! (from ! (stop !)) (look ! 37 refl)) (no-more !))) (λ v.
-      use1 W (later (some (λ (r : ℕ). (‵ ftrue ⊛ ‵ (OwnP r v)) ⊛ raw (Ens₁ vs is r)))) (posts₁ vs is v) $ await ! tt $ pick ! (λ r.
-      split ! $ move ! (1 ∷ []) $ use1 W (raw (fact 𝓤 (Said₁ vs is r))) (said₁ vs is r) $ heard ! (Said₁ vs is r) (λ e₁. split ! $ drop ! $
-      use1 W (given ((v ≡ vint w64 r) × Typed (tyInt w64) v × FineP r) (‵ ftrue)) (opened₁ r v) $ learn ! (λ n. drop ! $
-      land ! (from ! (stop !)) (init ! 34 refl (n .1)) $ rewrite ! 34 (λ (u : Val). ‵ (fat fullShare (tyInt w64) l₃ 0 u)) (n .0) refl $
+      sets ! (of-opd ! (load ! (from ! (hop ! (look ! 38 refl) (fld ! refl (stop !)))) (look-in ! 0 (sub ! 0 refl (whole !)))))
+      (init ! 28 refl (typed-keys vs is)) $
+      calls-value ! fm (finds vs is) (and-then ! (copied ! 28 refl) (and-then ! (copied ! 36 refl) (no-more !))) (λ r n.
+      land ! (from ! (stop !)) (init ! 34 refl (n .0 .0)) $
       -- the account and the key at the seat are copied out
-      assigns ! (bin ! (load ! (from ! (stop !)) (look ! 34 refl)) (lit ! tt) (let z : 0 < 64 = omega arith in z)) (from ! (stop !)) (init ! 32 refl (tt, (record { fits = omega arith }))) $
-      assigns ! (bin ! (load ! (from ! (stop !)) (look ! 32 refl)) (big-lit ! (record { fits = omega arith })) (record { fits = omega arith })) (from ! (stop !))
+      sets ! (bin ! (copied ! 34 refl) (lit ! tt) (let z : 0 < 64 = omega arith in z)) (init ! 32 refl (tt, (record { fits = omega arith }))) $
+      sets ! (bin ! (copied ! 32 refl) (big-lit ! (record { fits = omega arith })) (record { fits = omega arith }))
       (init ! 26 refl (tt, (record { fits = omega arith }))) $
-      assigns ! (addr ! (from ! (hop ! (look ! 38 refl) (fld ! at-calls (stop !))))) (from ! (stop !)) (init ! 24 refl (tt, tt)) $
-      assigns ! (bin ! (load ! (from ! (stop !)) (look ! 24 refl)) (load ! (from ! (stop !)) (look ! 26 refl)) tt) (from ! (stop !)) (init ! 22 refl (tt, tt)) $
-      assigns ! (of-opd ! (load ! (from ! (hop ! (look ! 22 refl) (stop !)))
-      (look-in ! 0 (item ! (us vs is) (r % 64) (spot r) (index (us vs is) r (us-length vs is)) (us-length vs is) (far (r % 64)) (sub ! 1 at-calls (whole !)))))) (from ! (stop !))
+      sets ! (addr ! (from ! (hop ! (look ! 38 refl) (fld ! at-calls (stop !))))) (init ! 24 refl (tt, tt)) $
+      sets ! (bin ! (copied ! 24 refl) (copied ! 26 refl) tt) (init ! 22 refl (tt, tt)) $
+      sets ! (of-opd ! (load ! (from ! (hop ! (look ! 22 refl) (stop !))) (look-in ! 0 (account-at ! size-A at-calls (us vs is) (us-length vs is) r))))
       (init ! 20 refl (typed-old vs is r)) $
-      assigns ! (bin ! (load ! (from ! (stop !)) (look ! 32 refl)) (lit ! tt) (record { fits = omega arith })) (from ! (stop !)) (init ! 18 refl (tt, (record { fits = omega arith }))) $
-      assigns ! (addr ! (from ! (hop ! (look ! 38 refl) (fld ! refl (stop !))))) (from ! (stop !)) (init ! 16 refl (tt, tt)) $
-      assigns ! (bin ! (load ! (from ! (stop !)) (look ! 16 refl)) (load ! (from ! (stop !)) (look ! 18 refl)) tt) (from ! (stop !)) (init ! 14 refl (tt, tt)) $
-      assigns ! (of-opd ! (load ! (from ! (hop ! (look ! 14 refl) (stop !)))
-      (look-in ! 0 (item ! (ks vs is) (r % 64) (r % 64 * 4 + (o + 0)) (index (ks vs is) r (ks-length vs is)) (ks-length vs is) (omega arith) (sub ! 0 refl (whole !)))))) (from ! (stop !))
+      sets ! (bin ! (copied ! 32 refl) (lit ! tt) (record { fits = omega arith })) (init ! 18 refl (tt, (record { fits = omega arith }))) $
+      sets ! (addr ! (from ! (hop ! (look ! 38 refl) (fld ! refl (stop !))))) (init ! 16 refl (tt, tt)) $
+      sets ! (bin ! (copied ! 16 refl) (copied ! 18 refl) tt) (init ! 14 refl (tt, tt)) $
+      sets ! (of-opd ! (load ! (from ! (hop ! (look ! 14 refl) (stop !))) (look-in ! 0 (key-at ! (ks vs is) (ks-length vs is) r))))
       (init ! 12 refl (typed-key vs is r)) $
       -- they are changed
-      use0 W (raw (pre₂ vs is r (n .2))) (asked₂ vs is r (n .2)) $
-      calls-from ! fm (raw (pre₂ vs is r (n .2))) (getD (us vs is) (r % 64) vunit ∷ getD (ks vs is) (r % 64) vunit ∷ vint w64 r ∷ []) (post₂ vs is r (n .2)) (met₂ vs is r (n .2))
-      (and-then ! (load ! (from ! (stop !)) (look ! 21 refl)) (and-then ! (load ! (from ! (stop !)) (look ! 13 refl)) (and-then ! (load ! (from ! (stop !)) (look ! 35 refl)) (no-more !)))) (λ v₂.
-      use1 W (later (some (λ (w : X). (‵ ftrue ⊛ ‵ (OwnX w v₂)) ⊛ raw (Ens₂ vs is r (n .2) w)))) (posts₂ vs is r (n .2) v₂) $ await ! tt $ pick ! (λ w.
-      split ! $ move ! (1 ∷ []) $ use1 W (raw (fact 𝓤 (Said₂ vs is r (n .2) w))) (said₂ vs is r (n .2) w) $ heard ! (Said₂ vs is r (n .2) w) (λ e₂. split ! $ drop ! $
-      use1 W (given (Held-so τO τA νW (ov w) (kv w) (av w) v₂ × FineX w) (‵ ftrue)) (opened₂ w v₂) $ learn ! (λ m. drop ! $
-      land ! (from ! (stop !)) (init ! 30 refl (m .0 .1)) $ rewrite ! 30 (λ (u : Val). ‵ (fat fullShare τW l₅ 0 u)) (m .0 .0) refl $
+      calls-value ! fm (frees vs is r (n .0 .1))
+      (and-then ! (copied ! 20 refl) (and-then ! (copied ! 12 refl) (and-then ! (copied ! 34 refl) (no-more !)))) (λ w m.
+      land ! (from ! (stop !)) (init ! 30 refl (m .0 .0 .0)) $
       -- and stored back
-      assigns ! (bin ! (load ! (from ! (stop !)) (look ! 32 refl)) (big-lit ! (record { fits = omega arith })) (record { fits = omega arith })) (from ! (stop !))
+      sets ! (bin ! (copied ! 32 refl) (big-lit ! (record { fits = omega arith })) (record { fits = omega arith }))
       (store ! 26 refl (tt, (record { fits = omega arith }))) $
-      assigns ! (addr ! (from ! (hop ! (look ! 38 refl) (fld ! at-calls (stop !))))) (from ! (stop !)) (init ! 10 refl (tt, tt)) $
-      assigns ! (bin ! (load ! (from ! (stop !)) (look ! 10 refl)) (load ! (from ! (stop !)) (look ! 26 refl)) tt) (from ! (stop !)) (init ! 8 refl (tt, tt)) $
+      sets ! (addr ! (from ! (hop ! (look ! 38 refl) (fld ! at-calls (stop !))))) (init ! 10 refl (tt, tt)) $
+      sets ! (bin ! (copied ! 10 refl) (copied ! 26 refl) tt) (init ! 8 refl (tt, tt)) $
       assigns ! (of-opd ! (load ! (from ! (fld ! refl (stop !))) (look-in ! 30 (sub ! 2 refl (whole !))))) (from ! (hop ! (look ! 8 refl) (stop !)))
-      (store-in ! 0 (item ! (us vs is) (r % 64) (spot r) (index (us vs is) r (us-length vs is)) (us-length vs is) (far (r % 64)) (sub ! 1 at-calls (whole !))) (m .0 .4)) $
-      assigns ! (bin ! (load ! (from ! (stop !)) (look ! 32 refl)) (lit ! tt) (record { fits = omega arith })) (from ! (stop !)) (store ! 18 refl (tt, (record { fits = omega arith }))) $
-      assigns ! (addr ! (from ! (hop ! (look ! 38 refl) (fld ! refl (stop !))))) (from ! (stop !)) (init ! 6 refl (tt, tt)) $
-      assigns ! (bin ! (load ! (from ! (stop !)) (look ! 6 refl)) (load ! (from ! (stop !)) (look ! 18 refl)) tt) (from ! (stop !)) (init ! 4 refl (tt, tt)) $
+      (store-in ! 0 (account-at ! size-A at-calls (us vs is) (us-length vs is) r) (m .0 .0 .3)) $
+      sets ! (bin ! (copied ! 32 refl) (lit ! tt) (record { fits = omega arith })) (store ! 18 refl (tt, (record { fits = omega arith }))) $
+      sets ! (addr ! (from ! (hop ! (look ! 38 refl) (fld ! refl (stop !))))) (init ! 6 refl (tt, tt)) $
+      sets ! (bin ! (copied ! 6 refl) (copied ! 18 refl) tt) (init ! 4 refl (tt, tt)) $
       assigns ! (of-opd ! (load ! (from ! (fld ! refl (stop !))) (look-in ! 30 (sub ! 1 refl (whole !))))) (from ! (hop ! (look ! 4 refl) (stop !)))
-      (store-in ! 0 (item ! (ks vs is) (r % 64) (r % 64 * 4 + (o + 0)) (index (ks vs is) r (ks-length vs is)) (ks-length vs is) (omega arith) (sub ! 0 refl (whole !))) (m .0 .3)) $
-      assigns ! (of-opd ! (load ! (from ! (fld ! refl (stop !))) (look-in ! 30 (sub ! 0 refl (whole !))))) (from ! (stop !)) (init ! 40 refl (m .0 .2)) $
+      (store-in ! 0 (key-at ! (ks vs is) (ks-length vs is) r) (m .0 .0 .2)) $
+      sets ! (of-opd ! (load ! (from ! (fld ! refl (stop !))) (look-in ! 30 (sub ! 0 refl (whole !))))) (init ! 40 refl (m .0 .0 .1)) $
       -- the borrow is closed
-      owned ! R (Is R) makes (last r w) (lastVal vs is r w ∷ []) (is-last vs is r w (m .1)) $ move ! (1 ∷ []) $
+      owned ! R (Is R) makes (last r w) (lastVal vs is r w ∷ []) (is-last vs is r w (m .0 .1)) $ move ! (1 ∷ []) $
       use1 W (‵ (cellAt fullShare (R .mir) (lastVal vs is r w ∷ []) b o)) (cell-in (lastVal vs is r w)) $
       closes ! tt R (last r w) (lastVal vs is r w ∷ []) b o $
       -- [obs; the borrow; the token; _18; ..]
@@ -191,4 +160,4 @@ module _ {M : Type 1} (𝓤 : URA M) (H : Heap 𝓤) (A : Atoms 𝓤) (W : Given
       move ! (29 ∷ 30 ∷ []) $ free1 ! $ move ! (27 ∷ 28 ∷ []) $ free1 ! $ move ! (25 ∷ 26 ∷ []) $ free1 ! $ move ! (23 ∷ 24 ∷ []) $ free1 ! $ move ! (21 ∷ 22 ∷ []) $ free1 ! $
       move ! (19 ∷ 20 ∷ []) $ free1 ! $ move ! (17 ∷ 18 ∷ []) $ free1 ! $ move ! (15 ∷ 16 ∷ []) $ free1 ! $ move ! (13 ∷ 14 ∷ []) $ free1 ! $ move ! (11 ∷ 12 ∷ []) $ free1 ! $
       move ! (9 ∷ 10 ∷ []) $ free1 ! $ move ! (7 ∷ 8 ∷ []) $ free1 ! $ move ! (5 ∷ 6 ∷ []) $ free1 ! $ move ! (3 ∷ 4 ∷ []) $ free1 ! $ free0 ! $
-      keep ! (0 ∷ 1 ∷ 2 ∷ []) $ by ! (exits vs is r (n .2) w e₁ e₂ (m .1)))))))))))))))))))))))))))))))
+      keep ! (0 ∷ 1 ∷ 2 ∷ []) $ by ! (exits vs is r w (n .1) (m .1) (m .0 .1)))))))))))))))))))))))))

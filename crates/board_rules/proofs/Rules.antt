@@ -1,12 +1,12 @@
 -- Any list of operations from a fresh table: each answer is that of the rules over the reference's own call, and no other call changes it.
-use Rattle.prelude.proofs.Prelude.{ℕ, zero, suc, _<_, _≡_, refl, sym, _∙_, ap, subst, List, [], _∷_, Bool, true, false, not, cond, Option, none, some, eqb, eqb-true}
+use Rattle.prelude.proofs.Prelude.{ℕ, zero, suc, _<_, _≡_, refl, sym, _∙_, ap, subst, List, [], _∷_, Bool, true, false, not, cond, none, eqb, eqb-true}
 use Rattle.prelude.proofs.Prelude.{eqb-false, eq-eqb, ne-eqb, not-true, arith, getD, replicate, length-replicate, _↔_, _⊎_, inl, inr}
 use Rattle.phases.specs.{Phases.Given, Phases.noService, Phases.Setup, Phases.clashes, Phases.allowed, declared.Outcome.Outcome}
 use Rattle.prelude.proofs.Ways.{by-cases}
 use Rattle.phases.{proofs.Choice.by-number, proofs.Choice.never, proofs.Choice.first-of, proofs.Choice.second-of}
 use Rattle.coding.specs.Reader.{among}
 use Rattle.outcomes.specs.Outcome.{was, judge}
-use Rattle.account.{specs.declared.Account.Account, specs.History.fresh, specs.History.judged, specs.History.known, specs.History.accountBy, proofs.Demand.step-stands}
+use Rattle.account.{specs.History.fresh, specs.History.judged, specs.History.known, specs.History.accountBy, proofs.Demand.step-stands}
 use Rattle.board_rules.specs.declared.Board.{Board}
 use Rattle.board_rules.specs.Board.{keyOf, lowest, heldIn, isHeld, isFull, freshBoard, withSlot, Boarded, boarded, admitted}
 use Rattle.board_rules.specs.Calls.{Operation, happens, collects, views, referenceOf, Answer, outcome, answerNumber, Done, did, answerOn, nextOn, runOn, afterAll, isSetup, carried}
@@ -76,10 +76,6 @@ stands-after : (b : Board) (h : List Done) (l : List Operation) → Stands b h �
 stands-after b h [] s = s
 stands-after b h (x ∷ l) s = stands-after (nextOn b x) (next h x ∷ h) l (next-stands b h x s)
 
-abbrev isNone : Option Account → Bool
-isNone none = true
-isNone (some a) = false
-
 module _ (e : List Operation) where
   stands : Stands (afterAll freshBoard e) (doneAfter [] e)
   stands = stands-after freshBoard [] e fresh-stands
@@ -96,7 +92,7 @@ module _ (e : List Operation) where
     where
       no-view : (p : List Given) → viewBy p ≡ none → p ≡ []
       no-view [] z = refl
-      no-view (g ∷ l) z = never (ap isNone z)
+      no-view (g ∷ l) z = cc
 
 -- ---- one call alone
 

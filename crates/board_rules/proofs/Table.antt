@@ -124,16 +124,16 @@ none-full b s q = by-cases (among 0 (b .keys)) (λ f. f) (λ f. absurd (eqb-fals
 -- ---- what a view tells
 
 not-held : (t : Bool) (a : Account) → cond t (some a) none ≡ none → t ≡ false
-not-held true a q = let z : _≡_ {A = ℕ} 1 0 = ap (λ (x : Option Account). elim x [ none ↦ 0 | some y ↦ 1 ]) q in absurd (omega arith)
+not-held true a q = cc
 not-held false a q = refl
 
 it-holds : (t : Bool) (a c : Account) → cond t (some a) none ≡ some c → t ≡ true
 it-holds true a c q = refl
-it-holds false a c q = let z : _≡_ {A = ℕ} 0 1 = ap (λ (x : Option Account). elim x [ none ↦ 0 | some y ↦ 1 ]) q in absurd (omega arith)
+it-holds false a c q = cc
 
 its-account : (t : Bool) (a c : Account) → cond t (some a) none ≡ some c → a ≡ c
-its-account true a c q = ap (λ (x : Option Account). elim x [ none ↦ a | some y ↦ y ]) q
-its-account false a c q = let z : _≡_ {A = ℕ} 0 1 = ap (λ (x : Option Account). elim x [ none ↦ 0 | some y ↦ 1 ]) q in absurd (omega arith)
+its-account true a c q = cc
+its-account false a c q = cc
 
 -- ---- one operation
 

@@ -3,8 +3,18 @@ use Rattle.prelude.proofs.Prelude.{ℕ, _+_, _≤_, _<_, _≡_, sym, ap, _∙_,
 use Rattle.coding.proofs.Laws.{Octets}
 use Rattle.types.{specs.declared.Answer.Answer, specs.Frames.component, specs.Frames.readOf, specs.Frames.accepted, proofs.Theorems.refusal, proofs.Theorems.no-offset}
 use Rattle.types.{proofs.Theorems.read-fits}
+use Rattle.types.specs.{declared.Front.Front, Stored.frontIn, Stored.storedCharge}
+use Rattle.read.specs.{declared.Refusal.Refusal, Whole.wholeAnswer}
 use Rattle.write.specs.{declared.Written.Written, Outcome.writeOf, Outcome.leftOf, Outcome.done}
 use Rattle.lines_rules.specs.{Text.hexText, Text.refusedText, Lines.textFor}
+
+-- the answer that was read, with its front taken apart
+abbrev apart : Refusal → Front → List ℕ → List ℕ → List ℕ → Answer
+apart r front figure numbers rows = record { number = r .number; offset = r .offset; value = record { front = front; charge = storedCharge figure numbers rows } }
+
+pub read-apart : {r : Refusal} {front : Front} (lent figure numbers rows s : List ℕ)
+    → wholeAnswer r lent figure numbers rows ≡ readOf s → front ≡ frontIn lent → apart r front figure numbers rows ≡ readOf s
+read-apart {r} lent figure numbers rows s e i = (λ k. apart r (i k) figure numbers rows) ∙ e
 
 -- the writer has put the shortest form of what was read
 pub record Formed (s : List ℕ) (w : Written) (q : List ℕ) : Type 0 where

@@ -25,14 +25,18 @@ fn answer_to(octets: &[u8], out: &mut [u8; 65536], from: usize) -> usize
     ensures { λ r. ⌜ Wrote (now (out .entry)) (now (out .exit)) from (textFor (now (octets .entry))) r ⌝ }
     ensures { λ r. ⌜ r ≤ from + 762 ⌝ }
 {
-    let a = read::read(octets);
+    let mut lent = [0u8; 8];
+    let mut figure = [0u8; 48];
+    let mut numbers = [0u32; 32];
+    let mut rows = [0u8; 192];
+    let a = read::read_into(octets, &mut lent, &mut figure, &mut numbers, &mut rows);
     let number = a.number;
     if number != 0 {
         return lines_rules::put_refused(number, out, from);
     }
-    let value = a.value;
+    let front = types_parts::front_of(&lent);
     let mut form = [0u8; 254];
-    let w = write::write(value, &mut form);
+    let w = write::write_from(front, &figure, &numbers, &rows, &mut form);
     let refusal = w.number;
     if refusal != 0 {
         return lines_rules::put_refused(refusal, out, from);

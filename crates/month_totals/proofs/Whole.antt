@@ -19,22 +19,18 @@ use Rattle.month_totals.proofs.Filled.{Filled, used-is, new-is, filled-
 use Rattle.month_totals.proofs.Places.{Counts, counts-more, table-more, cells-are}
 use Rattle.month_totals.proofs.Units.{entriesFrom, whole-list, units-length, units-sum, absent-sum, units-small, absent-small}
 
-pub record Totals (m : Month) (h : List Posted) : Type 0 where
-  pub added : m .added ≡ length h
+-- what a figure adds to by its kind
+pub record Summed (m : Month) (h : List Posted) : Type 0 where
   pub filled : Filled m h
   pub free : m .free ≡ length (which isFreeCall h)
   pub units : (k : ℕ) → k < 17 → getD (m .units) k 0 ≡ total (unitsIn k) h
   pub types : length (m .units) ≡ 17
   pub absent : m .absent ≡ total absentIn h
-  pub counts : Counts (m .grid .cells) h
 
--- what a figure adds by its kind
-record Summed (n : Month) (h : List Posted) : Type 0 where
-  filled : Filled n h
-  free : n .free ≡ length (which isFreeCall h)
-  units : (k : ℕ) → k < 17 → getD (n .units) k 0 ≡ total (unitsIn k) h
-  types : length (n .units) ≡ 17
-  absent : n .absent ≡ total absentIn h
+pub record Totals (m : Month) (h : List Posted) : Type 0 where
+  pub added : m .added ≡ length h
+  pub sums : Summed m h
+  pub counts : Counts (m .grid .cells) h
 
 module _ (m : Month) (h : List Posted) (p : Posted) (t : Totals m h) (few : length h < 4096) (fine : AllFine h) (f : Fine p) where
   abbrev c : Charge
@@ -47,11 +43,13 @@ module _ (m : Month) (h : List Posted) (p : Posted) (t : Totals m h) (few : leng
   counted-totals : (n : Month) → n .added ≡ m .added → n .grid .cells ≡ m .grid .cells → Summed n (p ∷ h) → Totals (done n) (p ∷ h)
   counted-totals n a g s = record {
     added = ap (λ (x : ℕ). plus 32 x 1) (a ∙ t .added) ∙ mod-eq-of-lt (let z : length h + 1 < 2 ^ 32 = omega (arith, few) in z) ∙ (let z : length h + 1 ≡ suc (length h) = omega arith in z);
-    filled = record { rows = s .filled .rows; count = s .filled .count; room = s .filled .room };
-    free = s .free;
-    units = s .units;
-    types = s .types;
-    absent = s .absent;
+    sums = record {
+      filled = record { rows = s .filled .rows; count = s .filled .count; room = s .filled .room };
+      free = s .free;
+      units = s .units;
+      types = s .types;
+      absent = s .absent;
+    };
     counts = subst (λ (x : List (List ℕ)). Counts (placed (record { cells = x }) (p .service) (c .figure .billed) (c .figure .billing) .cells) (p ∷ h)) (sym g)
         (table-more (m .grid .cells) h p (t .counts) few f);
   }
@@ -59,10 +57,10 @@ module _ (m : Month) (h : List Posted) (p : Posted) (t : Totals m h) (few : leng
   -- what is no list of units leaves the sums of units
   module _ (e : isUnitCall p ≡ false) where
     same-units : (k : ℕ) → k < 17 → getD (m .units) k 0 ≡ total (unitsIn k) (p ∷ h)
-    same-units k l = rw e (omega (arith, t .units k l))
+    same-units k l = rw e (omega (arith, t .sums .units k l))
 
     same-absent : m .absent ≡ total absentIn (p ∷ h)
-    same-absent = rw e (omega (arith, t .absent))
+    same-absent = rw e (omega (arith, t .sums .absent))
 
   -- what is no money leaves the rows
   module _ (q : isMoneyCall p ≡ false) where
@@ -75,13 +73,13 @@ module _ (m : Month) (h : List Posted) (p : Posted) (t : Totals m h) (few : leng
 
     other-filled : (n : Month) → n .rows ≡ m .rows → n .count ≡ m .count → Filled n (p ∷ h)
     other-filled n a b = record {
-      rows = a ∙ t .filled .rows ∙ ap (pad 16 zeroRow) (same-rows (currencies h) ∙ ap (map (rowBy (p ∷ h))) (sym same-currencies));
-      count = b ∙ t .filled .count ∙ ap length (sym same-currencies);
-      room = subst (λ (l : List Currency). length l ≤ 16) (sym same-currencies) (t .filled .room);
+      rows = a ∙ t .sums .filled .rows ∙ ap (pad 16 zeroRow) (same-rows (currencies h) ∙ ap (map (rowBy (p ∷ h))) (sym same-currencies));
+      count = b ∙ t .sums .filled .count ∙ ap length (sym same-currencies);
+      room = subst (λ (l : List Currency). length l ≤ 16) (sym same-currencies) (t .sums .filled .room);
     }
 
   not-free : isFreeCall p ≡ false → m .free ≡ length (which isFreeCall (p ∷ h))
-  not-free k = rw k (t .free)
+  not-free k = rw k (t .sums .free)
 
   money-totals : isMoneyCall p ≡ true → Filled (withMoney m (c .figure .money)) (p ∷ h) → Totals (done (withMoney m (c .figure .money))) (p ∷ h)
   money-totals q filled =
@@ -90,7 +88,7 @@ module _ (m : Month) (h : List Posted) (p : Posted) (t : Totals m h) (few : leng
         filled = filled;
         free = not-free (kind-not c 2 1 (λ z. omega (arith, z)) q);
         units = same-units e;
-        types = t .types;
+        types = t .sums .types;
         absent = same-absent e;
       })
 
@@ -99,9 +97,9 @@ module _ (m : Month) (h : List Posted) (p : Posted) (t : Totals m h) (few : leng
       let e : isUnitCall p ≡ false = kind-not c 1 3 (λ z. omega (arith, z)) k in
       counted-totals (withFree m) refl refl (record {
         filled = other-filled q (withFree m) refl refl;
-        free = ap (λ (x : ℕ). plus 32 x 1) (t .free) ∙ counts-more isFreeCall p h few k;
+        free = ap (λ (x : ℕ). plus 32 x 1) (t .sums .free) ∙ counts-more isFreeCall p h few k;
         units = same-units e;
-        types = t .types;
+        types = t .sums .types;
         absent = same-absent e;
       })
 
@@ -119,15 +117,15 @@ module _ (m : Month) (h : List Posted) (p : Posted) (t : Totals m h) (few : leng
 
     units-summed : (i : ℕ) → i < 17 → getD (after .units) i 0 ≡ total (unitsIn i) (p ∷ h)
     units-summed i l =
-        let o = t .units i l in let y = units-small i fine in let w = entries-small p f in let a = ap (total number) all-entries in
+        let o = t .sums .units i l in let y = units-small i fine in let w = entries-small p f in let a = ap (total number) all-entries in
         let z : length h * 536870880 ≤ 4096 * 536870880 = omega (arith, few) in
-        let s = units-sum (c .entries) 0 n (m .units) i (ap (all (unit .valid)) all-entries ∙ f .valid) (t .types) l (omega (arith, o, y, w, a, z)) in
+        let s = units-sum (c .entries) 0 n (m .units) i (ap (all (unit .valid)) all-entries ∙ f .valid) (t .sums .types) l (omega (arith, o, y, w, a, z)) in
         let b = ap (λ (es : List Units). total number (which (ofType i) es)) all-entries in
         omega (arith, s, o, b)
 
     absent-summed : after .absent ≡ total absentIn (p ∷ h)
     absent-summed =
-        let o = t .absent in let y = absent-small fine in let w = up-to-most 32 (c .figure .count) in
+        let o = t .sums .absent in let y = absent-small fine in let w = up-to-most 32 (c .figure .count) in
         let s = absent-sum (c .entries) 0 n (m .absent) (omega (arith, o, y, w, few)) in
         let b = ap (λ (es : List Units). length (which isAbsent es)) all-entries in
         omega (arith, s, o, b)
@@ -137,7 +135,7 @@ module _ (m : Month) (h : List Posted) (p : Posted) (t : Totals m h) (few : leng
       filled = other-filled q after refl refl;
       free = not-free k;
       units = units-summed;
-      types = units-length (c .entries) 0 n (m .units) ∙ t .types;
+      types = units-length (c .entries) 0 n (m .units) ∙ t .sums .types;
       absent = absent-summed;
     })
 
@@ -168,20 +166,20 @@ module _ (m : Month) (h : List Posted) (p : Posted) (t : Totals m h) (fine : All
     money-stands money =
         let kind = eqb-true (p .charge .figure .kind) 2 money in
         let i : ℕ = rowOf x (used m) (m .rows) in
-        let u = used-is m h (t .filled) in let y = up-to-most 16 (m .count) in
+        let u = used-is m h (t .sums .filled) in let y = up-to-most 16 (m .count) in
         by-cases (appears x (currencies h))
-        (λ k. let new : eqb i (used m) ≡ false = new-is m h (t .filled) x ∙ ap not k in
+        (λ k. let new : eqb i (used m) ≡ false = new-is m h (t .sums .filled) x ∙ ap not k in
         let z = at-most x (used m) (m .rows) in
         let other : i ≡ 16 → ⊥ = λ e. eqb-false i (used m) new (omega (arith, e, y, z)) in let w : over ≡ false = rw (money, k) refl in
         stood m h p 0 _ (add-money m (p .service) (p .charge) q less kind i (used m) refl refl other) (in-list ∙ unpicked _ _ w)
-        (money-totals m h p t few fine (range p q) money (filled-known m h (t .filled) p money few fine (range p q) k)))
-        (λ k. let new : i ≡ used m = eqb-true i (used m) (new-is m h (t .filled) x ∙ ap not k) in
+        (money-totals m h p t few fine (range p q) money (filled-known m h (t .sums .filled) p money few fine (range p q) k)))
+        (λ k. let new : i ≡ used m = eqb-true i (used m) (new-is m h (t .sums .filled) x ∙ ap not k) in
         by-cases (leb 16 (length (currencies h)))
         (λ l. let g = leb-true 16 (length (currencies h)) l in let w : over ≡ true = rw (money, k, l) refl in
         stood m h p 47 m (add-47 m (p .service) (p .charge) q less kind i (used m) refl refl (omega (arith, new, u, g, y))) (in-list ∙ picked _ _ w) t)
         (λ l. let g = leb-false 16 (length (currencies h)) l in let w : over ≡ false = rw (money, k, l) refl in
         stood m h p 0 _ (add-money m (p .service) (p .charge) q less kind i (used m) refl refl (λ e. omega (arith, e, new, u, g))) (in-list ∙ unpicked _ _ w)
-        (money-totals m h p t few fine (range p q) money (filled-new m h (t .filled) p money few fine (range p q) k g))))
+        (money-totals m h p t few fine (range p q) money (filled-new m h (t .sums .filled) p money few fine (range p q) k g))))
 
     other-stands : isMoneyCall p ≡ false → Stood m h p
     other-stands k =
@@ -224,11 +222,7 @@ pub empty-totals : Totals emptyMonth []
 unfolding pad
 empty-totals = record {
   added = refl;
-  filled = record { rows = refl; count = refl; room = omega arith };
-  free = refl;
-  units = λ k h. zeros 17 k;
-  types = refl;
-  absent = refl;
+  sums = record { filled = record { rows = refl; count = refl; room = omega arith }; free = refl; units = λ k h. zeros 17 k; types = refl; absent = refl };
   counts = record { lines = refl; columns = nine; counts = nothing };
 }
   where
@@ -247,14 +241,14 @@ empty-totals = record {
 pub whole : (m : Month) (h : List Posted) → Totals m h → m ≡ monthBy h
 whole m h t =
     let units : m .units ≡ table 17 (λ k. total (unitsIn k) h) =
-    sym (rows-table (m .units) 0 (λ k. total (unitsIn k) h) (λ k l. sym (t .units k (let z = t .types in omega (arith, z, l))))) ∙ ap (λ (n : ℕ). table n (λ k. total (unitsIn k) h)) (t .types) in
+    sym (rows-table (m .units) 0 (λ k. total (unitsIn k) h) (λ k l. sym (t .sums .units k (let z = t .sums .types in omega (arith, z, l))))) ∙ ap (λ (n : ℕ). table n (λ k. total (unitsIn k) h)) (t .sums .types) in
     let cells = cells-are (m .grid .cells) h (t .counts) in
     λ i. record {
       added = t .added i;
-      count = t .filled .count i;
-      absent = t .absent i;
-      free = t .free i;
+      count = t .sums .filled .count i;
+      absent = t .sums .absent i;
+      free = t .sums .free i;
       units = units i;
-      rows = t .filled .rows i;
+      rows = t .sums .filled .rows i;
       grid = record { cells = cells i };
     }

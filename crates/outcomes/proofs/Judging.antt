@@ -1,11 +1,9 @@
 -- What the rules of outcomes give whatever is known of the call. None of this looks at code or into the reading of octets.
-use Rattle.prelude.proofs.Prelude.{ℕ, _≡_, refl, sym, _∙_, ap, List, [], _∷_, Bool, true, false, _&&_, _||_, cond, eqb, eqb-true, ne-eqb}
+use Rattle.prelude.proofs.{Prelude.{ℕ, _≡_, refl, sym, _∙_, ap, List, [], _∷_, Bool, true, false, _&&_, _||_, cond, eqb, eqb-true, ne-eqb}, Ways.by-cases}
 use Rattle.types.specs.{declared.Charge.Charge, Frames.readOf, Frames.refusedAt}
 use Rattle.same_final.specs.Same.{sameOf}
-use Rattle.phases.{specs.declared.Event.Event, specs.declared.Outcome.Outcome, specs.Phases.Idle, specs.Phases.Ended, specs.Phases.Setup, specs.Phases.Component, specs.Phases.S}
-use Rattle.phases.{specs.Phases.outcome, specs.Phases.noService, specs.Phases.clashes, specs.Phases.allowed, proofs.Choice.by-number, proofs.Choice.never}
-use Rattle.prelude.proofs.Ways.{by-cases}
-use Rattle.phases.{proofs.Transitions.from-idle, proofs.Transitions.from-ended}
+use Rattle.phases.specs.{declared.Event.Event, declared.Outcome.Outcome, Phases.{Idle, Ended, Setup, Component, S, outcome, noService, clashes, allowed}}
+use Rattle.phases.proofs.{Choice.{by-number, never}, Transitions.{from-idle, from-ended}}
 use Rattle.coding.specs.Reader.{among}
 use Rattle.outcomes.specs.Outcome.{isRefusal, Known, fits, runs, closes, judgeFigure, firstFinal, judgeRecord, judgeAnswer, judge, chargeIn, was, its, settles}
 use Rattle.outcomes.specs.Status.{isGiven}

@@ -1,3 +1,4 @@
+mod Cited
 pub mod Refusals
 pub mod Judging
 pub mod Claims

@@ -1,11 +1,10 @@
 -- A refusal is no outcome that changes something: one test over the numbers, which is computed.
-use Rattle.prelude.proofs.Prelude.{ℕ, _≤_, _≡_, refl, sym, _∙_, ap, List, [], _∷_, Bool, true, false, not, _&&_, _||_, _⊎_, inl, inr, eqb, leb, arith, not-true, not-false, leb-true, le-leb}
-use Rattle.prelude.proofs.Prelude.{lt-leb}
+use Rattle.prelude.proofs.Prelude.{ℕ, _≤_, _≡_, refl, sym, _∙_, ap, List, [], _∷_, Bool, true, false, not, _&&_, _||_, _⊎_, inl, inr, eqb, leb, arith, not-true}
+use Rattle.prelude.proofs.{Prelude.{not-false, leb-true, le-leb, lt-leb}, Ways.by-cases}
 use Rattle.types.{specs.Frames.readOf, proofs.Theorems.refusal}
 use Rattle.octets.proofs.Each.{each-fails}
 use Rattle.coding.specs.Reader.{among}
 use Rattle.outcomes.specs.Outcome.{refusals, isRefusal}
-use Rattle.prelude.proofs.Ways.{by-cases}
 use Rattle.phases.proofs.Choice.{by-number, never, first-of, second-of}
 pub use Rattle.prelude.proofs.Ways.{ways}
 

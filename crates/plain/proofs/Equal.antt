@@ -2,10 +2,9 @@
 use Rattle.prelude.proofs.Prelude.{ℕ, _-_, length, _≡_, refl, sym, _∙_, ap, List, [], _∷_, reverse, reverseAux, Bool, true, cond, eqb}
 use Rattle.phases.{specs.declared.Outcome.Outcome, specs.Phases.Given}
 use Rattle.outcomes.specs.{Outcome.judge, Status.requestsOf}
-use Rattle.account.{specs.declared.Account.Account, specs.declared.Closing.Closing, specs.declared.Stepped.Stepped, specs.History.judged, specs.History.known, specs.History.accountBy}
-use Rattle.account.{specs.History.fresh, specs.History.pendingOf}
-use Rattle.account.{specs.Step.closingOf, specs.Step.marksOf, proofs.Demand.fresh-stands, proofs.Demand.step-stands, proofs.Demand.closing-stands}
-use Rattle.account.{specs.Noise.chosen, specs.Noise.onlyNoise, specs.Noise.outcomes, specs.Noise.past, specs.Noise.Standing, specs.Noise.standing, proofs.Noise.noise-dropped, proofs.Noise.end-kept}
+use Rattle.account.specs.{declared.Account.Account, declared.Closing.Closing, declared.Stepped.Stepped, History.{judged, known, accountBy, fresh, pendingOf}}
+use Rattle.account.{specs.Step.{closingOf, marksOf}, proofs.Demand.{fresh-stands, step-stands, closing-stands}}
+use Rattle.account.{specs.Noise.{chosen, onlyNoise, outcomes, past, Standing, standing}, proofs.Noise.{noise-dropped, end-kept}}
 use Rattle.events.specs.Events.{addsUp, eventsOf}
 use Rattle.plain.specs.Answers.{outcomeAt, plainOutcome, plainPhase, plainPending, plainCurrentRate, plainRunning, plainClosing, plainMarks}
 use Rattle.plain.specs.Replay.{replayed, repliedAt}

@@ -1,17 +1,12 @@
 -- The figures after the whole list.
 use Rattle.prelude.proofs.Prelude.{ℕ, suc, _-_, _/_, _≤_, _<_, _≡_, refl, _∙_, ap, List, reverse, Bool, _||_, cond, eqb, arith, length, [], _∷_}
-use Rattle.types.specs.{declared.Charge.Charge}
-use Rattle.phases.{specs.declared.Outcome.Outcome, specs.Phases.S, specs.Phases.D, specs.Phases.E, specs.Phases.Given, specs.Phases.outcome}
 use Rattle.prelude.proofs.Ways.{by-cases}
-use Rattle.phases.proofs.Choice.{by-number}
-use Rattle.outcomes.specs.Outcome.{chargeIn, was, its}
-use Rattle.outcomes.specs.Status.{isGiven, placeOf}
-use Rattle.account.specs.{declared.Closing.Closing}
-use Rattle.account.specs.History.{Judged, any, last, phase, final, currentRate, running, closing, noClosing, judged}
+use Rattle.types.specs.{declared.Charge.Charge}
+use Rattle.phases.{specs.declared.Outcome.Outcome, specs.Phases.{S, D, E, Given}, proofs.Choice.by-number}
+use Rattle.outcomes.specs.{Outcome.{chargeIn, was, its}, Status.{isGiven, placeOf}}
+use Rattle.account.specs.{declared.Closing.Closing, History.{Judged, any, last, phase, final, currentRate, running, closing, noClosing, judged}}
 use Rattle.account.proofs.Demand.{closing-stands}
-use Rattle.events.specs.Events.{eventsOf}
-use Rattle.events.specs.inner.Prefix.{octetsAt, before}
-use Rattle.events.proofs.Prefix.{all-before}
+use Rattle.events.{specs.Events.eventsOf, specs.inner.Prefix.{octetsAt, before}, proofs.Prefix.all-before}
 use Rattle.plain_scans.proofs.Scans.{outcomeOf}
 
 module _ (rows octets : List ℕ) where

@@ -1,3 +1,4 @@
+mod Cited
 pub mod Figures
 pub mod Numbered
 pub mod Equal

@@ -3,8 +3,7 @@ use Rattle.prelude.proofs.Prelude.{ℕ, zero, suc, _+_, _-_, _/_, _≤_, _<_, _
 use Rattle.phases.{specs.declared.Outcome.Outcome, specs.Phases.Given, specs.Phases.noService, proofs.Choice.by-number}
 use Rattle.outcomes.specs.Outcome.{judge}
 use Rattle.account.specs.History.{known, judged}
-use Rattle.events.{specs.Events.rowAt, specs.Events.countAt, specs.Events.eventsFrom, specs.Events.eventsOf, specs.inner.Prefix.placeAt, specs.inner.Prefix.octetsAt, specs.inner.Prefix.before}
-use Rattle.events.proofs.Prefix.{before-next, place-next}
+use Rattle.events.{specs.Events.{rowAt, countAt, eventsFrom, eventsOf}, specs.inner.Prefix.{placeAt, octetsAt, before}, proofs.Prefix.{before-next, place-next}}
 use Rattle.plain.specs.Answers.{outcomeAt}
 
 pub none-at : (h l : List Given) → outcomeAt h l 0 ≡ noService 0

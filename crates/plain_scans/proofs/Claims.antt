@@ -1,18 +1,13 @@
 -- What the scans test is what the rules of outcomes say: an outcome of a service hangs on that service's request alone.
 use Rattle.prelude.proofs.Prelude.{ℕ, _≡_, refl, sym, _∙_, List, Bool, true, false, not, _&&_, cond, eqb, eqb-true, eq-eqb, ne-eqb, and-false, _≤_, leb, arith}
+use Rattle.prelude.proofs.Ways.{by-cases}
 use Rattle.types.specs.{declared.Charge.Charge, declared.Front.Front, Frames.readOf}
 use Rattle.requests.specs.Sets.{has}
-use Rattle.phases.{specs.declared.Event.Event, specs.declared.Outcome.Outcome, specs.Phases.Suspended, specs.Phases.Setup, specs.Phases.Component, specs.Phases.S, specs.Phases.D, specs.Phases.E}
-use Rattle.phases.{specs.Phases.outcome, specs.Phases.noService, specs.Phases.allowed, specs.Phases.clashes, specs.Phases.Request, specs.Phases.clash}
-use Rattle.prelude.proofs.Ways.{by-cases}
-use Rattle.phases.proofs.Choice.{by-number, never, first-of, second-of}
-use Rattle.outcomes.{specs.Outcome.serviceOf, specs.Outcome.Requests, specs.Outcome.holderOf, specs.Outcome.Known, specs.Outcome.firstFinal}
-use Rattle.outcomes.{specs.Outcome.judgeFailure, specs.Outcome.judge, specs.Outcome.chargeIn, specs.Outcome.was, specs.Outcome.its}
-use Rattle.outcomes.{specs.Outcome.settles}
-use Rattle.outcomes.specs.Outcome.{isRefusal}
-use Rattle.phases.specs.inner.ByNumber.{movingOf}
+use Rattle.phases.specs.{declared.Event.Event, declared.Outcome.Outcome, Phases.{Suspended, Setup, Component, S, noService, allowed, clashes, Request, clash}}
+use Rattle.phases.{proofs.Choice.{by-number, never, first-of, second-of}, specs.inner.ByNumber.movingOf}
+use Rattle.outcomes.specs.Outcome.{serviceOf, Requests, holderOf, Known, firstFinal, judgeFailure, judge, chargeIn, was, its, settles, isRefusal}
 use Rattle.outcomes.specs.inner.ByNumber.{runsBy, closesBy, fitsBy, claimFigure, claimInvoke, claimResult, claimFrame, claimRecord, compared}
-use Rattle.outcomes.proofs.{Refusals.decoding-refusal, Refusals.apart, Claims.resolves}
+use Rattle.outcomes.proofs.{Refusals.{decoding-refusal, apart}, Claims.resolves}
 use Rattle.plain_scans.specs.inner.Claim.{bare, three, sole, claimOf}
 
 by-way : (P : Outcome → Type 0) (b : Bool) (x y : Outcome) → P x → P y → P (cond b x y)

@@ -1,24 +1,14 @@
 -- What the places found by the scans say of a history.
-use Rattle.prelude.proofs.Prelude.{ℕ, zero, suc, _+_, _-_, _≤_, _≡_, refl, sym, _∙_, ap, List, [], _∷_, Bool, true, false, not, _&&_, _||_, cond, eqb, ltb, eqb-true}
-use Rattle.prelude.proofs.Prelude.{eqb-false, eq-eqb}
-use Rattle.prelude.proofs.Prelude.{and-false, arith, ltb-true, ltb-false}
-use Rattle.phases.{specs.declared.Event.Event, specs.Phases.Idle, specs.Phases.Setup, specs.Phases.Component, specs.Phases.S, specs.Phases.D, specs.Phases.E}
-use Rattle.phases.{specs.Phases.Given}
-use Rattle.phases.{specs.Phases.outcome, specs.Phases.noService, specs.Phases.allowed, specs.Phases.leadsTo, specs.Phases.clashes, specs.Phases.Request, specs.Phases.noRequest}
-use Rattle.phases.{specs.Phases.requestFor, specs.Phases.clash}
-use Rattle.phases.proofs.Choice.{if-same, by-number, never, first-of, second-of}
-use Rattle.prelude.proofs.Ways.{by-cases, the-second}
-use Rattle.phases.proofs.Transitions.{to-idle, from-idle, setup-idle, component-stays}
+use Rattle.prelude.proofs.Prelude.{ℕ, zero, suc, _+_, _≤_, _≡_, refl, sym, _∙_, ap, List, [], _∷_, Bool, true, false, not, _&&_, _||_, cond, eqb, ltb, eqb-true}
+use Rattle.prelude.proofs.{Prelude.{eqb-false, eq-eqb, and-false, arith, ltb-true, ltb-false}, Ways.{by-cases, the-second}}
+use Rattle.phases.specs.{declared.Event.Event, Phases.{Idle, Setup, Component, S, D, E, Given, outcome, noService, allowed, leadsTo, clashes, Request}}
+use Rattle.phases.{specs.Phases.{noRequest, requestFor, clash}, proofs.Choice.{if-same, by-number, never, first-of, second-of}, proofs.Transitions.to-idle}
+use Rattle.phases.{proofs.Transitions.{from-idle, setup-idle, component-stays}, specs.inner.ByNumber.movingOf}
 use Rattle.requests.specs.Sets.{has}
-use Rattle.outcomes.specs.Outcome.{Requests, holderOf, judge, was, its, settles, firstFinal}
-use Rattle.outcomes.proofs.Judging.{phased-judge}
+use Rattle.outcomes.{specs.Outcome.{Requests, holderOf, judge, was, its, settles, firstFinal}, proofs.Judging.phased-judge}
 use Rattle.account.specs.History.{Judged, any, phase, named, pending, hasFinal, requests, known, judged}
-use Rattle.events.specs.Events.{rowAt}
-use Rattle.events.proofs.Prefix.{before-next}
-use Rattle.events.specs.inner.Prefix.{octetsAt, givenAt, before}
-use Rattle.plain_scans.specs.inner.Scan.{FirstAt}
-use Rattle.phases.specs.inner.ByNumber.{movingOf}
-use Rattle.plain_scans.specs.inner.Claim.{nextBy, bare, three, sole, claimOf}
+use Rattle.events.{specs.Events.rowAt, proofs.Prefix.before-next, specs.inner.Prefix.{octetsAt, givenAt, before}}
+use Rattle.plain_scans.specs.inner.{Scan.FirstAt, Claim.{nextBy, bare, three, sole, claimOf}}
 use Rattle.plain_scans.proofs.Claims.{judge-settles, judge-final, claim-settles, claim-final, holders}
 
 -- ---- the phase after one event more

@@ -1,3 +1,4 @@
+mod Cited
 pub mod Claims
 pub mod Histories
 pub mod Scans

@@ -1,26 +1,18 @@
 -- The scans, one event more.
-use Rattle.prelude.proofs.Prelude.{ℕ, suc, _+_, _-_, _≤_, _<_, _≡_, refl, sym, _∙_, ap, List, Bool, true, false, not, cond, eqb, ltb, eqb-true, eqb-false}
-use Rattle.prelude.proofs.Prelude.{arith, length, take, drop, lt-ltb, le-ltb}
+use Rattle.prelude.proofs.Prelude.{ℕ, suc, _+_, _-_, _≤_, _<_, _≡_, refl, sym, _∙_, ap, List, Bool, true, false, cond, eqb, ltb, eqb-true, eqb-false, arith}
+use Rattle.prelude.proofs.{Prelude.{length, take, drop, lt-ltb, le-ltb}, Ways.by-cases}
 use Rattle.requests.specs.Sets.{emptySet}
 use Rattle.same_final.specs.Same.{sameOf}
 use Rattle.types.specs.declared.Charge.{Charge}
-use Rattle.phases.{specs.declared.Event.Event, specs.declared.Outcome.Outcome, specs.declared.Status.Status, specs.Phases.Idle, specs.Phases.Setup, specs.Phases.Component, specs.Phases.Given}
-use Rattle.phases.{specs.Phases.outcome, specs.Phases.allowed, specs.Phases.clashes, specs.Phases.Request, specs.Phases.noRequest, specs.Phases.requestFor}
-use Rattle.phases.proofs.Choice.{if-same, by-number, never}
-use Rattle.prelude.proofs.Ways.{by-cases}
-use Rattle.phases.proofs.Transitions.{from-idle}
-use Rattle.outcomes.specs.Outcome.{judge, judgeFinal, chargeIn, was, its, settles, firstFinal}
-use Rattle.outcomes.specs.Status.{requestsOf}
-use Rattle.outcomes.proofs.Judging.{phased-judge, only-final}
+use Rattle.phases.specs.{declared.Event.Event, declared.Outcome.Outcome, declared.Status.Status, Phases.{Idle, Setup, Component, Given, outcome, allowed}}
+use Rattle.phases.{specs.Phases.{clashes, Request, noRequest, requestFor}, proofs.Choice.{if-same, by-number, never}, proofs.Transitions.from-idle}
+use Rattle.outcomes.{specs.Outcome.{judge, judgeFinal, chargeIn, its, settles, firstFinal}, specs.Status.requestsOf, proofs.Judging.{phased-judge, only-final}}
 use Rattle.account.specs.History.{any, phase, named, pending, hasFinal, final, known, judged}
-use Rattle.events.specs.Events.{rowAt, countAt}
-use Rattle.events.specs.inner.Prefix.{placeAt, octetsAt, givenAt, before}
-use Rattle.plain_scans.specs.inner.Scan.{Scan, Here, FirstAt}
-use Rattle.plain_scans.specs.inner.Claim.{nextBy, askOf, requestOf, sole, claimOf, Asks}
-use Rattle.plain_scans.specs.declared.Ask.{Ask}
+use Rattle.events.specs.{Events.{rowAt, countAt}, inner.Prefix.{placeAt, octetsAt, givenAt, before}}
+use Rattle.events.proofs.Prefix.{before-next, part-at, turn-inside, next-place}
+use Rattle.plain_scans.specs.{inner.Scan.{Scan, Here, FirstAt}, inner.Claim.{nextBy, askOf, requestOf, sole, claimOf, Asks}, declared.Ask.Ask}
 use Rattle.plain_scans.proofs.Histories.{accepts, idle-unnamed, busy-kept, named-kept}
 use Rattle.plain_scans.proofs.Histories.{settle-step, final-step, first-given, upwards, any-next, found-by, phase-more}
-use Rattle.events.proofs.Prefix.{before-next, part-at, turn-inside, next-place}
 
 -- an event that leaves Idle is the accepted Setup
 accepted-of : (h : List Given) (g : Given) → phase (judged h) ≡ Idle → (nextBy 0 (g .event) ≡ 0 → ⊥) → accepts h g ≡ true
@@ -73,53 +65,55 @@ module _ (rows octets : List ℕ) where
   pub setup-none : (k : ℕ) → phase (judged (before rows octets k)) ≡ Idle → (none : Event) → none .asked ≡ emptySet → Asks (judged (before rows octets k)) none
   setup-none k idle none e = record { all = λ s. idle-unnamed s (before rows octets k) idle ∙ sym (rw e (simp if-same)) }
 
--- ---- a scan
+-- ---- a scan for the first event whose outcome passes a test
 
-pub scan-starts : {rows octets : List ℕ} {k : ℕ} → Here rows octets k 0 0 0
+pub scan-starts : {f : Outcome → Bool} {rows octets : List ℕ} {k : ℕ} → Here f rows octets k 0 0 0
 unfolding before placeAt
-scan-starts = record { row = omega arith; place = refl; met = refl }
+scan-starts = record { row = omega arith; place = refl; met = refl; none = refl }
 
--- before event i (the code's count is c, its row e)
-module _ {rows octets : List ℕ} {k i at p c : ℕ} (here : Here rows octets k i at p) (counted : c ≡ countAt rows i) where
-  pub scan-inside : Scan rows octets k → i < k → at + c ≤ length octets
-  scan-inside s h = turn-inside rows octets i (here .place) counted (s .list) (omega (arith, s .some))
+-- before event i
+module _ {f : Outcome → Bool} {rows octets : List ℕ} {k i at p : ℕ} (here : Here f rows octets k i at p) where
+  pub found-here : i < k → f (outcomeOf rows octets i) ≡ true → FirstAt (λ j. f (j .outcome)) rows octets k i
+  unfolding before
+  found-here h q = record { inside = omega arith; none = here .none; there = λ _. rw q refl }
 
-  module _ {e : Event} (row : e ≡ rowAt rows i) where
-    pub scan-goes-on : i < k → {r : ℕ} → r ≡ nextBy p e → Here rows octets k (i + 1) (at + c) r
-    scan-goes-on h {r} q =
-        record { row = omega arith; place = next-place rows octets i (here .place) counted; met = phase-more rows octets i p e r (here .met) row q }
+  pub found-none : k ≤ i → FirstAt (λ j. f (j .outcome)) rows octets k k
+  found-none l = let e : i ≡ k = omega (arith, here .row) in record { inside = omega arith; none = rw e at (here .none); there = λ m. absurd (omega arith) }
 
-    -- what is tested of it: the outcome at a status with one service's request alone
-    module _ (t : Status) (s : ℕ) (q : Request) (alone : (t .phase ≡ p) × (requestsOf t ≡ sole s q)) {o : Outcome}
-        (is : o ≡ claimOf (t .phase) (requestsOf t) (e .kind) (take (at + c - at) (drop at octets))) where
-      claim-at : o ≡ claimOf (phase (judged (before rows octets i))) (sole s q) (rowAt rows i .kind) (octetsAt rows octets i)
-      claim-at = is ∙ rw (alone .0, alone .1, here .met, row, part-at rows octets i (here .place) counted) refl
+  -- the code's count is c, its row e
+  module _ {c : ℕ} (counted : c ≡ countAt rows i) where
+    pub scan-inside : Scan rows octets k → i < k → at + c ≤ length octets
+    scan-inside s h = turn-inside rows octets i (here .place) counted (s .list) (omega (arith, s .some))
 
-      module _ (low : 1 ≤ s) (high : s ≤ 3) (asked : eqb (phase (judged (before rows octets i))) Idle ≡ false → pending s (judged (before rows octets i)) ≡ q) where
-        pub tells-settled : settles s (outcomeOf rows octets i) ≡ settles s o
-        tells-settled = settle-step (before rows octets i) (rowAt rows i) (octetsAt rows octets i) s low high q asked ∙ ap (settles s) (sym claim-at)
+    module _ {e : Event} (row : e ≡ rowAt rows i) where
+      pub scan-goes-on : i < k → {r : ℕ} → r ≡ nextBy p e → f (outcomeOf rows octets i) ≡ false → Here f rows octets k (i + 1) (at + c) r
+      scan-goes-on h {r} q other = record {
+        row = omega arith;
+        place = next-place rows octets i (here .place) counted;
+        met = phase-more rows octets i p e r (here .met) row q;
+        none = ap (λ (l : List Given). any (λ j. f (j .outcome)) (judged l)) (before-next rows octets i) ∙ rw (other, here .none) refl;
+      }
 
-        pub tells-final : hasFinal s (judged (before rows octets i)) ≡ false → 2 ≤ s → its s 22 (outcomeOf rows octets i) ≡ its s 22 o
-        tells-final none two =
-            final-step (before rows octets i) (rowAt rows i) (octetsAt rows octets i) s low high q asked (first-given (judged (before rows octets i)) s two high ∙ none)
-            ∙ ap (its s 22) (sym claim-at)
+      -- what is tested of it: the outcome at a status with one service's request alone
+      module _ (t : Status) (s : ℕ) (q : Request) (alone : (t .phase ≡ p) × (requestsOf t ≡ sole s q)) {o : Outcome}
+          (is : o ≡ claimOf (t .phase) (requestsOf t) (e .kind) (take (at + c - at) (drop at octets))) where
+        claim-at : o ≡ claimOf (phase (judged (before rows octets i))) (sole s q) (rowAt rows i .kind) (octetsAt rows octets i)
+        claim-at = is ∙ rw (alone .0, alone .1, here .met, row, part-at rows octets i (here .place) counted) refl
 
--- ---- the first that passes a test of outcomes
+        module _ (low : 1 ≤ s) (high : s ≤ 3)
+            (asked : eqb (phase (judged (before rows octets i))) Idle ≡ false → pending s (judged (before rows octets i)) ≡ q) where
+          pub tells-settled : settles s (outcomeOf rows octets i) ≡ settles s o
+          tells-settled = settle-step (before rows octets i) (rowAt rows i) (octetsAt rows octets i) s low high q asked ∙ ap (settles s) (sym claim-at)
+
+          pub tells-final : hasFinal s (judged (before rows octets i)) ≡ false → 2 ≤ s → its s 22 (outcomeOf rows octets i) ≡ its s 22 o
+          tells-final none two =
+              final-step (before rows octets i) (rowAt rows i) (octetsAt rows octets i) s low high q asked
+              (first-given (judged (before rows octets i)) s two high ∙ none)
+              ∙ ap (its s 22) (sym claim-at)
+
+-- ---- a request at event i, by what the Setup named and the place of the answer
 
 module _ (rows octets : List ℕ) where
-  module _ (f : Outcome → Bool) (i : ℕ) (none : any (λ j. f (j .outcome)) (judged (before rows octets i)) ≡ false) where
-    pub found-here : {k : ℕ} → i < k → f (outcomeOf rows octets i) ≡ true → FirstAt (λ j. f (j .outcome)) rows octets k i
-    unfolding before
-    found-here h q = record { inside = omega arith; none = none; there = λ _. rw q refl }
-
-    pub none-yet : f (outcomeOf rows octets i) ≡ false → any (λ j. f (j .outcome)) (judged (before rows octets (i + 1))) ≡ false
-    none-yet q = ap (λ (l : List Given). any (λ j. f (j .outcome)) (judged l)) (before-next rows octets i) ∙ rw (q, none) refl
-
-    pub found-none : {k : ℕ} → i ≤ k → k ≤ i → FirstAt (λ j. f (j .outcome)) rows octets k k
-    found-none {k} h l = let e : i ≡ k = omega arith in record { inside = omega arith; none = rw e at none; there = λ m. absurd (omega arith) }
-
-  -- ---- a request at event i, by what the Setup named and the place of the answer
-
   module _ (s k i : ℕ) (h : i ≤ k) (q : Request) (names : named s (judged (before rows octets k)) ≡ q) where
     pub still-named : any (λ j. settles s (j .outcome)) (judged (before rows octets i)) ≡ false
         → eqb (phase (judged (before rows octets i))) Idle ≡ false → pending s (judged (before rows octets i)) ≡ q

@@ -1,2 +1,3 @@
 pub mod Prelude
 pub mod Ways
+pub mod Walk

@@ -4,6 +4,7 @@ use profile_read::family;
 ghost use mathlib.Core.Path.{_≡_};
 ghost use Rattle.trunk_types.specs.Stored.{Spare};
 ghost use Rattle.element_pass.specs.Pass.{passWith};
+ghost use Rattle.profile_read.specs.Profile.{leftLine, leftTrunk};
 ghost use Rattle.profile_pass.specs.Passing.{families, nextIn};
 
 // after: the place after the component. ended: 1 at the end of the element, where all else is zero.
@@ -28,7 +29,7 @@ pub fn next_by(
     trunk_numbers: &mut [u32; 32],
     trunk_rows: &mut [u8; 192],
 ) -> NextBy
-    ensures { λ r. ⌜ nextIn r (now (front .exit)) (now (figure .exit)) (now (numbers .exit)) (now (rows .exit)) (now («trunk_front» .exit)) (now (extension .exit)) (now («trunk_figure» .exit)) (now («trunk_numbers» .exit)) (now («trunk_rows» .exit)) ≡ passWith families (now (octets .entry)) place ⌝ }
+    ensures { λ r. ⌜ nextIn r (leftLine front figure numbers rows) (leftTrunk «trunk_front» extension «trunk_figure» «trunk_numbers» «trunk_rows») ≡ passWith families (now (octets .entry)) place ⌝ }
     ensures spare { λ _. ⌜ Spare (now («trunk_front» .exit)) ⌝ }
 {
     let n = element_pass::next_into(octets, place, front, figure, numbers, rows);

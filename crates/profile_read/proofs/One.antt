@@ -1,7 +1,8 @@
 -- An answer and the parts of both records are told apart by what they say together: so `read_by` has one outcome.
 use Rattle.prelude.proofs.Prelude.{ℕ, _≡_, ap, List}
 use Rattle.read.{specs.declared.Refusal.Refusal, proofs.One.Filled, proofs.One.one-answer}
-use Rattle.trunk_types.specs.Stored.{Spare}
+use Rattle.types.specs.{declared.Record.Record, Stored.recordIn, Stored.storedCharge}
+use Rattle.trunk_types.specs.{declared.Trunk.Trunk, Stored.Spare, Stored.trunkIn}
 use Rattle.trunk_read.proofs.One.{one-trunk}
 use Rattle.profile_read.specs.{declared.Judged.Judged, Profile.Either, Profile.eitherIn}
 
@@ -28,8 +29,14 @@ Equal p q =
     (p .front ≡ q .front) × (p .figure ≡ q .figure) × (p .numbers ≡ q .numbers) × (p .rows ≡ q .rows)
     × (p .trunkFront ≡ q .trunkFront) × (p .extension ≡ q .extension) × (p .trunkFigure ≡ q .trunkFigure) × (p .trunkNumbers ≡ q .trunkNumbers) × (p .trunkRows ≡ q .trunkRows)
 
+abbrev pub lineOf : Parts → Record
+lineOf p = recordIn (p .front) (p .figure) (p .numbers) (p .rows)
+
+abbrev pub trunkOf : Parts → Trunk
+trunkOf p = trunkIn (p .trunkFront) (p .extension) (storedCharge (p .trunkFigure) (p .trunkNumbers) (p .trunkRows))
+
 abbrev readIn : Judged → Parts → Either
-readIn r p = eitherIn r (p .front) (p .figure) (p .numbers) (p .rows) (p .trunkFront) (p .extension) (p .trunkFigure) (p .trunkNumbers) (p .trunkRows)
+readIn r p = eitherIn r (lineOf p) (trunkOf p)
 
 abbrev refusal : Judged → Refusal
 refusal r = record { number = r .number; offset = r .offset }

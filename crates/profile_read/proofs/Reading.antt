@@ -1,15 +1,12 @@
 -- An answer of one family with a record of zeros of the other is what the profile octet gives.
-use Rattle.prelude.proofs.Prelude.{ℕ, _≡_, refl, sym, _∙_, List, replicate, eq-eqb, ne-eqb}
-use Rattle.coding.{specs.Reader.part, proofs.Basic.picked, proofs.Basic.unpicked}
-use Rattle.types.specs.{declared.Record.Record, declared.Answer.Answer, Stored.recordIn, Stored.figureIn, Frames.noRecord, Frames.readOf}
+use Rattle.prelude.proofs.Prelude.{ℕ, _≡_, sym, _∙_, List, eq-eqb, ne-eqb}
+use Rattle.coding.proofs.Basic.{picked, unpicked}
+use Rattle.types.specs.{declared.Record.Record, declared.Answer.Answer, Frames.noRecord, Frames.readOf}
 use Rattle.trunk_types.specs.{declared.Trunk.Trunk, declared.TrunkAnswer.TrunkAnswer, Components.noTrunk, Components.readTrunk}
 use Rattle.profile_read.specs.Profile.{Either, ofNone, readBy}
 
 pub by-none : (n : ℕ) {l : Record} {t : Trunk} → l ≡ noRecord → t ≡ noTrunk → record { number = n; offset = 0; family = 0; line = l; trunk = t } ≡ ofNone n
 by-none n l t = λ k. record { number = n; offset = 0; family = 0; line = l k; trunk = t k }
-
-pub no-parts : recordIn (replicate 8 0) (replicate 48 0) (replicate 32 0) (replicate 192 0) ≡ noRecord
-no-parts = unfold figureIn part in refl
 
 -- a record of zeros in other parts
 pub beside : {number offset family : ℕ} {l z : Record} {t : Trunk} {y : Either} → l ≡ z

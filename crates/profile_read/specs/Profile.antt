@@ -3,6 +3,8 @@ use Prim.Native.Nat.{ℕ}
 use mathlib.Core.Bool.{cond}
 use mathlib.Core.List.{List}
 use lib.Dec.{eqb}
+use denote.Ref.{RefT, now}
+use denote.Triple.Both.{Both}
 use Rattle.types.specs.declared.Record.{Record}
 use Rattle.types.specs.declared.Answer.{Answer}
 use Rattle.types.specs.Stored.{recordIn, storedCharge}
@@ -35,12 +37,14 @@ readBy profile s = cond (eqb profile 0x91) (ofLine (readOf s)) (cond (eqb profil
 
 -- ---- as it lies in the caller's parts
 
--- what is answered by value, and the records in four parts and five
-abbrev pub eitherIn : Judged → List ℕ → List ℕ → List ℕ → List ℕ → List ℕ → List ℕ → List ℕ → List ℕ → List ℕ → Either
-eitherIn r front figure numbers rows trunkFront extension trunkFigure trunkNumbers trunkRows = record {
-  number = r .number;
-  offset = r .offset;
-  family = r .family;
-  line = recordIn front figure numbers rows;
-  trunk = trunkIn trunkFront extension (storedCharge trunkFigure trunkNumbers trunkRows);
-}
+-- the record of a public line that lies in four lent arrays, and that of a trunk in five, by what they hold at the return
+abbrev pub leftLine : (front figure numbers rows : Both (RefT (List ℕ)) (RefT (List ℕ))) → Record
+leftLine front figure numbers rows = recordIn (now (front .exit)) (now (figure .exit)) (now (numbers .exit)) (now (rows .exit))
+
+abbrev pub leftTrunk : (front extension figure numbers rows : Both (RefT (List ℕ)) (RefT (List ℕ))) → Trunk
+leftTrunk front extension figure numbers rows =
+    trunkIn (now (front .exit)) (now (extension .exit)) (storedCharge (now (figure .exit)) (now (numbers .exit)) (now (rows .exit)))
+
+-- what is answered by value, and the two records
+abbrev pub eitherIn : Judged → Record → Trunk → Either
+eitherIn r line trunk = record { number = r .number; offset = r .offset; family = r .family; line = line; trunk = trunk }

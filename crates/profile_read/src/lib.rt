@@ -1,13 +1,10 @@
 // Reads a component by the profile octet of its element: hex 91 is a public line, hex 9F a trunk, and any other octet is refused (17) before all else.
 use coding::refusal;
 ghost use mathlib.Core.Path.{_≡_};
-ghost use lib.ListN.{replicate};
 ghost use Rattle.types.specs.Frames.{noRecord};
-ghost use Rattle.types.specs.Stored.{recordIn, storedCharge};
 ghost use Rattle.trunk_types.specs.Components.{noTrunk};
-ghost use Rattle.trunk_types.specs.Stored.{trunkIn};
 ghost use Rattle.trunk_types.specs.Stored.{Spare};
-ghost use Rattle.profile_read.specs.Profile.{readBy, eitherIn};
+ghost use Rattle.profile_read.specs.Profile.{readBy, leftLine, leftTrunk, eitherIn};
 
 const OTHER_PROFILE: u32 = refusal::OTHER_PROFILE as u32;
 
@@ -36,7 +33,7 @@ fn no_line(
     numbers: &mut [u32; 32],
     rows: &mut [u8; 192],
 )
-    ensures { λ _. ⌜ recordIn (now (front .exit)) (now (figure .exit)) (now (numbers .exit)) (now (rows .exit)) ≡ noRecord ⌝ }
+    ensures { λ _. ⌜ leftLine front figure numbers rows ≡ noRecord ⌝ }
 {
     *front = [0; 8];
     *figure = [0; 48];
@@ -51,7 +48,7 @@ pub fn no_trunk(
     numbers: &mut [u32; 32],
     rows: &mut [u8; 192],
 )
-    ensures { λ _. ⌜ trunkIn (now («trunk_front» .exit)) (now (extension .exit)) (storedCharge (now (figure .exit)) (now (numbers .exit)) (now (rows .exit))) ≡ noTrunk ⌝ }
+    ensures { λ _. ⌜ leftTrunk «trunk_front» extension figure numbers rows ≡ noTrunk ⌝ }
     ensures spare { λ _. ⌜ Spare (now («trunk_front» .exit)) ⌝ }
 {
     *trunk_front = [0; 48];
@@ -74,7 +71,7 @@ pub fn trunk_by(
     rows: &mut [u8; 192],
 ) -> Judged
     requires { ⌜ (profile ≡ 0x91 → ⊥) ⌝ }
-    ensures { λ r. ⌜ eitherIn r (replicate 8 0) (replicate 48 0) (replicate 32 0) (replicate 192 0) (now («trunk_front» .exit)) (now (extension .exit)) (now (figure .exit)) (now (numbers .exit)) (now (rows .exit)) ≡ readBy profile (now (octets .entry)) ⌝ }
+    ensures { λ r. ⌜ eitherIn r noRecord (leftTrunk «trunk_front» extension figure numbers rows) ≡ readBy profile (now (octets .entry)) ⌝ }
     ensures spare { λ _. ⌜ Spare (now («trunk_front» .exit)) ⌝ }
 {
     if profile == 0x9f {
@@ -107,7 +104,7 @@ pub fn read_by(
     trunk_numbers: &mut [u32; 32],
     trunk_rows: &mut [u8; 192],
 ) -> Judged
-    ensures { λ r. ⌜ eitherIn r (now (front .exit)) (now (figure .exit)) (now (numbers .exit)) (now (rows .exit)) (now («trunk_front» .exit)) (now (extension .exit)) (now («trunk_figure» .exit)) (now («trunk_numbers» .exit)) (now («trunk_rows» .exit)) ≡ readBy profile (now (octets .entry)) ⌝ }
+    ensures { λ r. ⌜ eitherIn r (leftLine front figure numbers rows) (leftTrunk «trunk_front» extension «trunk_figure» «trunk_numbers» «trunk_rows») ≡ readBy profile (now (octets .entry)) ⌝ }
     ensures spare { λ _. ⌜ Spare (now («trunk_front» .exit)) ⌝ }
 {
     if profile == 0x91 {

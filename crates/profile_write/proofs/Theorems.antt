@@ -1,13 +1,13 @@
 -- Demand 2 by the profile octet: of every octet p, what is read under p, what is written under p, and what octets mean under p. Instances of both families' theorems.
-use Rattle.prelude.proofs.Prelude.{ℕ, _≤_, arith, _≡_, refl, sym, _∙_, ap, List, _++_, Bool, true, cond, length, take, drop, take-append-seam, eqb, eq-eqb, ne-eqb, eqb-true, eqb-false, leb, _↔_}
+use Rattle.prelude.proofs.Prelude.{ℕ, _≤_, arith, _≡_, refl, sym, _∙_, ap, List, _++_, true, cond, length, take, drop, take-append-seam, eqb, eq-eqb, ne-eqb, eqb-true, eqb-false, leb, _↔_}
 use Rattle.prelude.proofs.Ways.{by-cases}
 use Rattle.coding.{specs.Reader.Ans, specs.Reader.Ans.got, specs.Reader.Ans.halt, specs.Codec.Run, proofs.Laws.Octets, proofs.Whole.Encodes}
 use Rattle.types.{specs.declared.Record.Record, specs.declared.Answer.Answer, specs.Frames.component, specs.Frames.accepted, specs.Frames.answered, specs.Frames.readWhole, specs.Frames.readOf}
 use Rattle.trunk_types.{specs.declared.Trunk.Trunk, specs.declared.TrunkAnswer.TrunkAnswer, specs.Components.trunkComponent, specs.Components.trunkAccepted, specs.Components.trunkAnswered, specs.Components.readWholeTrunk, specs.Components.readTrunk}
 use Rattle.write.specs.{declared.Written.Written, Outcome.done, Outcome.no, Outcome.writeFamily, Outcome.leftFamily, Outcome.writeOf, Outcome.leftOf}
-use Rattle.trunk_write.specs.Outcome.{trunkWriteOf, trunkLeftOf}
+use Rattle.trunk_write.specs.Outcome.{Offered, trunkWriteOf, trunkLeftOf}
 use Rattle.profile_read.{specs.Profile.Either, specs.Profile.ofLine, specs.Profile.ofTrunk, specs.Profile.ofNone, specs.Profile.readBy, proofs.Answers.line-read, proofs.Answers.trunk-read, proofs.Answers.other-refused}
-use Rattle.profile_write.specs.Writes.{writeProfile, writeProfileLeft}
+use Rattle.profile_write.specs.Writes.{writeBy, leftBy}
 use Rattle.types.proofs.Theorems as Lines
 use Rattle.trunk_types.proofs.Theorems as Trunks
 use Rattle.write.proofs.Theorems as Line
@@ -128,45 +128,48 @@ line-left : (r : Record) (before : List ℕ) → writeOf r (length before) .numb
 unfolding writeOf leftOf
 line-left = left-written component
 
-trunk-left : (spare : Bool) (t : Trunk) (before : List ℕ) → trunkWriteOf spare t (length before) .number ≡ 0
-    → trunkLeftOf spare t before ≡ trunkComponent .write t ++ drop (length (trunkComponent .write t)) before
+trunk-left : (o : Offered) (before : List ℕ) → trunkWriteOf o (length before) .number ≡ 0
+    → trunkLeftOf o before ≡ trunkComponent .write (o .trunk) ++ drop (length (trunkComponent .write (o .trunk))) before
 unfolding trunkWriteOf trunkLeftOf
-trunk-left spare t before e = by-cases spare (λ s. rw s (left-written trunkComponent t before (rw s at e))) (λ s. absurd (omega (arith, rw s at e)))
+trunk-left o before e = by-cases (o .spare) (λ s. rw s (left-written trunkComponent (o .trunk) before (rw s at e))) (λ s. absurd (omega (arith, rw s at e)))
 
-module _ (p : ℕ) (r : Record) (spare : Bool) (t : Trunk) (before : List ℕ) where
+module _ (p : ℕ) (r : Record) (o : Offered) (before : List ℕ) where
+  abbrev named : Held
+  named = namedBy p r (o .trunk)
+
   abbrev size : ℕ
-  size = length (octetsOf (namedBy p r t))
+  size = length (octetsOf named)
 
   -- where it is written: its shortest form, of at most 254 octets, and then what was there; read under p it is the record
-  pub written-reads : writeProfile p r spare t (length before) .number ≡ 0
-      → (writeProfile p r spare t (length before) .count ≡ size) × (size ≤ 254) × (writeProfileLeft p r spare t before ≡ octetsOf (namedBy p r t) ++ drop size before)
-      × (readBy p (octetsOf (namedBy p r t)) ≡ took (namedBy p r t))
-  unfolding writeProfile writeProfileLeft readBy
+  pub written-reads : writeBy p r o (length before) .number ≡ 0
+      → (writeBy p r o (length before) .count ≡ size) × (size ≤ 254) × (leftBy p r o before ≡ octetsOf named ++ drop size before)
+      × (readBy p (octetsOf named) ≡ took named)
+  unfolding writeBy leftBy readBy
   written-reads e =
       by-cases (eqb p 0x91)
       (λ a. rw a (
       let w = Line.written-reads r before (rw a at e) in
-      let o = line-left r before (rw a at e) in
-      (w .0, w .1, o, ap ofLine (ap readOf (sym (take-append-seam _ _) ∙ ap (take (length (component .write r))) (sym o)) ∙ w .2))))
+      let l = line-left r before (rw a at e) in
+      (w .0, w .1, l, ap ofLine (ap readOf (sym (take-append-seam _ _) ∙ ap (take (length (component .write r))) (sym l)) ∙ w .2))))
       (λ a. by-cases (eqb p 0x9f)
       (λ b. rw (a, b) (
-      let w = Trunked.written-reads spare t before (rw (a, b) at e) in
-      let o = trunk-left spare t before (rw (a, b) at e) in
-      (w .0, w .1, o, ap ofTrunk (ap readTrunk (sym (take-append-seam _ _) ∙ ap (take (length (trunkComponent .write t))) (sym o)) ∙ w .2))))
+      let w = Trunked.written-reads o before (rw (a, b) at e) in
+      let l = trunk-left o before (rw (a, b) at e) in
+      (w .0, w .1, l, ap ofTrunk (ap readTrunk (sym (take-append-seam _ _) ∙ ap (take (length (trunkComponent .write (o .trunk)))) (sym l)) ∙ w .2))))
       (λ b. absurd (omega (arith, rw (a, b) at e))))
 
   -- a refusal leaves the buffer as it was
-  pub refused-untouched : (writeProfile p r spare t (length before) .number ≡ 0 → ⊥) → writeProfileLeft p r spare t before ≡ before
-  unfolding writeProfile writeProfileLeft
+  pub refused-untouched : (writeBy p r o (length before) .number ≡ 0 → ⊥) → leftBy p r o before ≡ before
+  unfolding writeBy leftBy
   refused-untouched h =
       by-cases (eqb p 0x91)
       (λ a. rw a (Line.refused-untouched r before (rw a at h)))
-      (λ a. by-cases (eqb p 0x9f) (λ b. rw (a, b) (Trunked.refused-untouched spare t before (rw (a, b) at h))) (λ b. rw (a, b) refl))
+      (λ a. by-cases (eqb p 0x9f) (λ b. rw (a, b) (Trunked.refused-untouched o before (rw (a, b) at h))) (λ b. rw (a, b) refl))
 
 -- what was read under p is written under p into any buffer as long as its octets were, and is not longer
 pub read-writes : (p : ℕ) (s : List ℕ) (x : Held) (room : ℕ) → Octets s → readBy p s ≡ took x → length s ≤ room
-    → (writeProfile p (took x .line) true (took x .trunk) room ≡ done (length (octetsOf x))) × (length (octetsOf x) ≤ length s)
-unfolding writeProfile
+    → (writeBy p (took x .line) (record { trunk = took x .trunk; spare = true }) room ≡ done (length (octetsOf x))) × (length (octetsOf x) ≤ length s)
+unfolding writeBy
 read-writes p s (aLine r) room os e l =
     let m = reads p s (aLine r) os .0 e in
     let w = Line.read-writes s r room os (Lines.reads s r os .1 (m .0, m .1 .1)) l in

@@ -2,11 +2,9 @@
 use coding::refusal;
 ghost use mathlib.Core.Path.{_≡_};
 ghost use lib.ListN.{length};
-ghost use Rattle.types.specs.Stored.{recordIn, storedCharge};
 ghost use Rattle.write.specs.Outcome.{writeOf, leftOf};
-ghost use Rattle.trunk_types.specs.Stored.{trunkIn};
-ghost use Rattle.trunk_write.specs.Outcome.{spareZero};
-ghost use Rattle.profile_write.specs.Writes.{writeProfile, writeProfileLeft};
+ghost use Rattle.trunk_write.specs.Outcome.{lentTrunk};
+ghost use Rattle.profile_write.specs.Writes.{lentLine, writeBy, leftBy};
 
 const OTHER_PROFILE: u32 = refusal::OTHER_PROFILE as u32;
 
@@ -18,8 +16,8 @@ fn write_line(
     rows: &[u8; 192],
     buf: &mut [u8],
 ) -> write::Written
-    ensures { λ w. ⌜ w ≡ writeOf (recordIn (now (front .entry)) (now (figure .entry)) (now (numbers .entry)) (now (rows .entry))) (length (now (buf .entry))) ⌝ }
-    ensures left { λ w. ⌜ now (buf .exit) ≡ leftOf (recordIn (now (front .entry)) (now (figure .entry)) (now (numbers .entry)) (now (rows .entry))) (now (buf .entry)) ⌝ }
+    ensures { λ w. ⌜ w ≡ writeOf (lentLine front figure numbers rows) (length (now (buf .entry))) ⌝ }
+    ensures left { λ w. ⌜ now (buf .exit) ≡ leftOf (lentLine front figure numbers rows) (now (buf .entry)) ⌝ }
 {
     let f = types_parts::front_of(front);
     write::write_from(f, figure, numbers, rows, buf)
@@ -39,8 +37,8 @@ pub fn write_by(
     trunk_rows: &[u8; 192],
     buf: &mut [u8],
 ) -> write::Written
-    ensures { λ w. ⌜ w ≡ writeProfile profile (recordIn (now (front .entry)) (now (figure .entry)) (now (numbers .entry)) (now (rows .entry))) (spareZero (now («trunk_front» .entry))) (trunkIn (now («trunk_front» .entry)) (now (extension .entry)) (storedCharge (now («trunk_figure» .entry)) (now («trunk_numbers» .entry)) (now («trunk_rows» .entry)))) (length (now (buf .entry))) ⌝ }
-    ensures left { λ w. ⌜ now (buf .exit) ≡ writeProfileLeft profile (recordIn (now (front .entry)) (now (figure .entry)) (now (numbers .entry)) (now (rows .entry))) (spareZero (now («trunk_front» .entry))) (trunkIn (now («trunk_front» .entry)) (now (extension .entry)) (storedCharge (now («trunk_figure» .entry)) (now («trunk_numbers» .entry)) (now («trunk_rows» .entry)))) (now (buf .entry)) ⌝ }
+    ensures { λ w. ⌜ w ≡ writeBy profile (lentLine front figure numbers rows) (lentTrunk «trunk_front» extension «trunk_figure» «trunk_numbers» «trunk_rows») (length (now (buf .entry))) ⌝ }
+    ensures left { λ w. ⌜ now (buf .exit) ≡ leftBy profile (lentLine front figure numbers rows) (lentTrunk «trunk_front» extension «trunk_figure» «trunk_numbers» «trunk_rows») (now (buf .entry)) ⌝ }
 {
     if profile == 0x91 {
         return write_line(front, figure, numbers, rows, buf);

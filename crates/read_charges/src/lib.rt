@@ -30,16 +30,16 @@ pub fn rates_at(
 {
     let e = read_lengths::open_at(s, at, end, 0x30);
     if e.fault != 0 {
-        return read_figures::halted(e.fault, e.place);
+        return read_elements::halted(e.fault, e.place);
     }
     let r = read_lists::rates_in(s, e.value.start, e.value.stop, trunk, figure, numbers, rows);
     if r.fault != 0 {
-        return read_figures::halted(r.fault, r.place);
+        return read_elements::halted(r.fault, r.place);
     }
     if r.next != e.value.stop {
-        return read_figures::halted(refusal::UNEXPECTED, r.next);
+        return read_elements::halted(refusal::UNEXPECTED, r.next);
     }
-    read_figures::reached(e.next)
+    read_elements::reached(e.next)
 }
 
 // ---- figures: operations 33 to 36, by one set of functions
@@ -64,10 +64,10 @@ fn price_in(
     }
     let m = read_figures::money_at(s, at, end, false, figure);
     if m.fault != 0 {
-        return read_figures::halted(m.fault, m.place);
+        return read_elements::halted(m.fault, m.place);
     }
     figure[in_figure::KIND] = charge_kind::MONEY;
-    read_figures::reached(m.next)
+    read_elements::reached(m.next)
 }
 
 // The 30 that holds A1, the type and the billing.
@@ -87,11 +87,11 @@ fn priced_at(
 {
     let e = read_lengths::open_at(s, at, end, 0x30);
     if e.fault != 0 {
-        return read_figures::halted(e.fault, e.place);
+        return read_elements::halted(e.fault, e.place);
     }
     let a = read_lengths::open_at(s, e.value.start, e.value.stop, 0xa1);
     if a.fault != 0 {
-        return read_figures::halted(a.fault, a.place);
+        return read_elements::halted(a.fault, a.place);
     }
     let p = price_in(
         s,
@@ -103,26 +103,26 @@ fn priced_at(
         rows,
     );
     if p.fault != 0 {
-        return read_figures::halted(p.fault, p.place);
+        return read_elements::halted(p.fault, p.place);
     }
     if p.next != a.value.stop {
-        return read_figures::halted(refusal::UNEXPECTED, p.next);
+        return read_elements::halted(refusal::UNEXPECTED, p.next);
     }
     let t = read_unit::type_at(s, a.next, e.value.stop, operation);
     if t.fault != 0 {
-        return read_figures::halted(t.fault, t.place);
+        return read_elements::halted(t.fault, t.place);
     }
     let b = read_unit::billing_at(s, t.next, e.value.stop, operation);
     if b.fault != 0 {
-        return read_figures::halted(b.fault, b.place);
+        return read_elements::halted(b.fault, b.place);
     }
     if b.next != e.value.stop {
-        return read_figures::halted(refusal::UNEXPECTED, b.next);
+        return read_elements::halted(refusal::UNEXPECTED, b.next);
     }
     figure[in_figure::TOTAL] = t.value as u8;
     figure[in_figure::BILLED] = read_figures::flag(b.value.given);
     figure[in_figure::BILLING] = b.value.value as u8;
-    read_figures::reached(e.next)
+    read_elements::reached(e.next)
 }
 
 // 81 00 free, or the 30.
@@ -162,7 +162,7 @@ fn figure_at(
 {
     let e = read_unit::frame_at(s, at, end, operation);
     if e.fault != 0 {
-        return read_figures::halted(e.fault, e.place);
+        return read_elements::halted(e.fault, e.place);
     }
     let u = settled_at(
         s,
@@ -174,22 +174,22 @@ fn figure_at(
         rows,
     );
     if u.fault != 0 {
-        return read_figures::halted(u.fault, u.place);
+        return read_elements::halted(u.fault, u.place);
     }
     if read_unit::is_subtotal(operation) {
         return u;
     }
     if u.next == e.value.stop {
-        return read_figures::reached(e.next);
+        return read_elements::reached(e.next);
     }
     let a = read_figures::association_at(s, u.next, e.value.stop, false, figure);
     if a.fault != 0 {
-        return read_figures::halted(a.fault, a.place);
+        return read_elements::halted(a.fault, a.place);
     }
     if a.next != e.value.stop {
-        return read_figures::halted(refusal::UNEXPECTED, a.next);
+        return read_elements::halted(refusal::UNEXPECTED, a.next);
     }
-    read_figures::reached(e.next)
+    read_elements::reached(e.next)
 }
 
 // ---- by the operation

@@ -1,3 +1,4 @@
+mod Cited
 pub mod Answers
 pub mod Kept
 pub mod Texts

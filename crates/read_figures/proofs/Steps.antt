@@ -1,9 +1,8 @@
 -- How the numbers of associations are read, each as one sequence of steps.
 use Rattle.prelude.proofs.Prelude.{ℕ, _≡_, refl, sym, _∙_, Bool, true, false, not, cond, List, eqb, eq-eqb, ne-eqb}
-use Rattle.coding.{specs.Reader.Ans, specs.Reader.after, specs.Reader.opened, specs.Reader.closed, specs.Reader.constructed, specs.Reader.primitive, specs.Reader.ruled, specs.Reader.Ruling}
-use Rattle.coding.{specs.Reader.mapped, specs.Reader.narrowed, specs.Reader.Ans.got, specs.Reader.Ans.halt, specs.Reader.Fault.contents, specs.Reader.Ruling.good, specs.Reader.Ruling.bad}
-use Rattle.coding.{specs.inner.Shown.shown, specs.Codec.Leaf, specs.Codec.prim, specs.Codec.cons, specs.Codec.pair, specs.Codec.over, specs.Codec.canonical, specs.Leaves.number, specs.Leaves.only}
-use Rattle.coding.{proofs.Reading.flat, proofs.Reading.after-assoc}
+use Rattle.coding.specs.Reader.{Ans, after, opened, closed, constructed, primitive, ruled, Ruling, mapped, narrowed, Ans.{got, halt}, Fault.contents}
+use Rattle.coding.specs.{Reader.Ruling.{good, bad}, inner.Shown.shown, Codec.{Leaf, prim, cons, pair, over, canonical}, Leaves.{number, only}}
+use Rattle.coding.proofs.Reading.{flat, after-assoc}
 use Rattle.types.specs.{declared.Association.Association, Charges.digitsLeaf, Charges.isPlan, Charges.plainParty, Charges.planned}
 use Rattle.read_figures.specs.inner.Numbers.{byDigits, numbered}
 

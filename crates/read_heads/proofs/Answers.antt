@@ -1,8 +1,7 @@
 -- How what is left to read goes with what was read so far.
-use Rattle.prelude.proofs.Prelude.{ℕ, _≡_, refl, ap, sym, _∙_, List, length, eqb, eq-eqb, ne-eqb}
+use Rattle.prelude.proofs.{Prelude.{ℕ, _≡_, refl, ap, sym, _∙_, List, length, eqb, eq-eqb, ne-eqb}, Ways.by-cases}
 use Rattle.coding.{specs.Reader.Ans, specs.Reader.after, specs.Reader.blamed, specs.Reader.closed, specs.Reader.Ans.got, specs.Reader.Ans.halt, specs.Codec.Run, specs.inner.Shown.shown}
 use Rattle.coding.proofs.{Reading.got-of, Reading.halt-of, Basic.after-same}
-use Rattle.prelude.proofs.Ways.{by-cases}
 use Rattle.types.specs.{declared.Record.Record, Frames.inArgument}
 use Rattle.read_heads.specs.{inner.Heads.argumentCode, inner.Heads.faultBy, inner.Heads.tailOf, declared.Head.Head}
 use Rattle.read_heads.proofs.Codes.{told}

@@ -1,11 +1,10 @@
 -- How the code's numbers go with the faults; values of a list.
 use Rattle.prelude.proofs.Prelude.{ℕ, zero, suc, _+_, _-_, _≤_, _<_, min, arith, _≡_, refl, ap, sym, _∙_, Bool, true, false, not, true≢false, List, [], _∷_, length, ltb, leb, eqb, lt-ltb}
 use Rattle.prelude.proofs.Prelude.{le-ltb, lt-leb, le-leb, ltb-true, eqb-true, eqb-false, ne-eqb, not-true, not-false}
-use Rattle.coding.{specs.Reader.Fault, specs.Reader.code, specs.Reader.part, specs.Reader.Fault.missing, specs.Reader.Fault.unexpected, specs.Reader.Fault.cut, specs.Reader.Fault.form}
-use Rattle.coding.{specs.Reader.Fault.shortest, specs.Reader.Fault.contents, specs.Reader.Fault.limit, specs.Reader.Fault.named, specs.Contents.negative, specs.Contents.numberFrom}
-use Rattle.coding.{specs.Codec.oneOf, specs.Codec.all, specs.Leaves.listing, specs.inner.Shown.verdict, proofs.Basic.or-case, proofs.Basic.and-left, proofs.Basic.and-right}
 use Rattle.prelude.proofs.Ways.{by-cases}
-use Rattle.coding.{proofs.Parts.part-length}
+use Rattle.coding.specs.Reader.{Fault, code, part, Fault.{missing, unexpected, cut, form, shortest, contents, limit, named}}
+use Rattle.coding.specs.{Contents.{negative, numberFrom}, Codec.{oneOf, all}, Leaves.listing, inner.Shown.verdict}
+use Rattle.coding.proofs.{Basic.{or-case, and-left, and-right}, Parts.part-length}
 use Rattle.types.specs.Frames.{outside, inArgument, numberOf, operations}
 use Rattle.read_heads.specs.inner.Heads.{outsideCode, argumentCode, faultBy, knownIn, unknownIn}
 use Rattle.coding.specs.Contents as Contents

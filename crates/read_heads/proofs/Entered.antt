@@ -4,8 +4,7 @@ use Rattle.coding.{specs.Reader.Ans, specs.Reader.after, specs.Reader.closed, s
 use Rattle.coding.{specs.Reader.Ans.halt, specs.Reader.Fault.named, specs.Codec.Run, specs.Codec.frames, specs.inner.Shown.shown, specs.declared.Extent.Extent, proofs.Header.opened-there}
 use Rattle.coding.{proofs.Header.opened-sound, proofs.Header.spans-range, proofs.Frames.any-got, proofs.Reading.got-of}
 use Rattle.read_lengths.specs.declared.Opened.{Opened}
-use Rattle.types.specs.{declared.Record.Record, Frames.outside, Frames.component, Frames.frame, Frames.readWhole}
-use Rattle.types.proofs.Theorems.{read-short}
+use Rattle.types.{specs.declared.Record.Record, specs.Frames.{outside, component, frame, readWhole}, proofs.Theorems.read-short}
 use Rattle.read_heads.specs.inner.Heads.{faultBy, contentsOf}
 use Rattle.read_heads.proofs.{Answers.goes, Answers.refuses, Codes.none-of, Codes.count, Codes.counted}
 

@@ -1,3 +1,4 @@
+mod Cited
 pub mod Codes
 pub mod Answers
 pub mod Entered

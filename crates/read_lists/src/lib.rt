@@ -26,20 +26,20 @@ pub fn units_in(
     ensures clear { λ _. ⌜ Clear (now (figure .exit)) ⌝ }
 {
     if end <= at {
-        return read_figures::halted(refusal::MISSING, end);
+        return read_elements::halted(refusal::MISSING, end);
     }
     let mut count: usize = 0;
     let mut i = at;
     while i < end {
         if 32 <= count {
             if s[i] == 0x30 {
-                return read_figures::halted(refusal::PAST_LIMIT, i);
+                return read_elements::halted(refusal::PAST_LIMIT, i);
             }
-            return read_figures::halted(refusal::UNEXPECTED, i);
+            return read_elements::halted(refusal::UNEXPECTED, i);
         }
         let u = read_unit::unit_at(s, i, end);
         if u.fault != 0 {
-            return read_figures::halted(u.fault, u.place);
+            return read_elements::halted(u.fault, u.place);
         }
         let v = u.value;
         read_unit::keep_unit(numbers, rows, count, v);
@@ -48,7 +48,7 @@ pub fn units_in(
     }
     figure[in_figure::KIND] = charge_kind::UNITS;
     figure[in_figure::COUNT] = count as u8;
-    read_figures::reached(i)
+    read_elements::reached(i)
 }
 
 // 1 to 10 entries of rates, up to the end of the enclosing element.
@@ -66,20 +66,20 @@ pub fn rates_in(
     ensures { λ r. ⌜ whole r (now (figure .exit)) (now (numbers .exit)) (now (rows .exit)) ≡ shown noCharge (inRates trunk (now (s .entry)) at end) ⌝ }
 {
     if end <= at {
-        return read_figures::halted(refusal::MISSING, end);
+        return read_elements::halted(refusal::MISSING, end);
     }
     let mut count: usize = 0;
     let mut i = at;
     while i < end {
         if 10 <= count {
             if s[i] == 0x30 {
-                return read_figures::halted(refusal::PAST_LIMIT, i);
+                return read_elements::halted(refusal::PAST_LIMIT, i);
             }
-            return read_figures::halted(refusal::UNEXPECTED, i);
+            return read_elements::halted(refusal::UNEXPECTED, i);
         }
         let r = read_rate::rate_at(s, i, end, trunk);
         if r.fault != 0 {
-            return read_figures::halted(r.fault, r.place);
+            return read_elements::halted(r.fault, r.place);
         }
         let v = r.value;
         read_rate::keep_rate(numbers, rows, count, v);
@@ -88,5 +88,5 @@ pub fn rates_in(
     }
     figure[in_figure::KIND] = charge_kind::RATES;
     figure[in_figure::COUNT] = count as u8;
-    read_figures::reached(i)
+    read_elements::reached(i)
 }

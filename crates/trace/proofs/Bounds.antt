@@ -1,18 +1,14 @@
 -- The events of a trace fit slices as long as the trace, and are read off them again.
-use Rattle.prelude.proofs.Prelude.{_≡_, refl, ap, _∙_, ℕ, _+_, _≤_, arith, Bool, true, false, List, [], _∷_, _++_, length, length-append, length-drop}
-use Rattle.prelude.proofs.Prelude.{eqb, eqb-true}
+use Rattle.prelude.proofs.Prelude.{_≡_, refl, ap, _∙_, ℕ, _+_, _≤_, arith, Bool, true, false, List, [], _∷_, _++_, length, length-append, length-drop, eqb}
+use Rattle.prelude.proofs.{Prelude.eqb-true, Ways.by-cases}
 use Rattle.types.specs.Frames.{readOf}
 use Rattle.phases.{specs.Phases.Given}
-use Rattle.prelude.proofs.Ways.{by-cases}
 use Rattle.element.{specs.Cut.joined, proofs.Tiles.tiles}
-use Rattle.events.specs.Events.{eventsOf, addsUp}
+use Rattle.events.{specs.Events.{eventsOf, addsUp}, specs.Laid.{rowsOf, octetsOf}, proofs.Laid.{octets-append, AllFine, reads-back, adds-back}}
 use Rattle.trace_framing.specs.Framing.{typeOf, framed, Message}
-use Rattle.trace_messages.specs.Trace.{reference, tilesOf, componentsIn, componentsOf, isRequest, firstRequest, componentEvents, setupBy}
-use Rattle.trace_messages.specs.Trace.{phaseEvent, when, laidOut, givesBy, messageEvents, ofCall, clearedBy, allFramed, traceFrom, traceEvents}
-use Rattle.trace_messages.specs.declared.Gives.{Gives}
-use Rattle.events.specs.Laid.{rowsOf, octetsOf}
-use Rattle.events.proofs.Laid.{octets-append, AllFine, reads-back, adds-back}
-use Rattle.trace_messages.proofs.{Theorems.total, Theorems.tiles-found, Theorems.joined-append, Theorems.of-few, Theorems.trace-few, Walk.tiles-are}
+use Rattle.trace_messages.specs.Trace.{reference, tilesOf, componentsIn, componentsOf, isRequest, firstRequest, componentEvents, setupBy, phaseEvent, when}
+use Rattle.trace_messages.specs.{Trace.{laidOut, givesBy, messageEvents, ofCall, clearedBy, allFramed, traceFrom, traceEvents}, declared.Gives.Gives}
+use Rattle.trace_messages.proofs.{Theorems.{total, tiles-found, joined-append, of-few, trace-few}, Walk.tiles-are}
 
 -- ---- marks are 0 or 1
 

@@ -1,10 +1,9 @@
 -- Events laid into slices, one run after another.
-use Rattle.prelude.proofs.Prelude.{_≡_, refl, sym, ap, _∙_, ℕ, _+_, arith, List, [], _∷_, _++_, append-assoc, append-nil, length, length-append, take, take-length}
+use Rattle.prelude.proofs.Prelude.{_≡_, refl, sym, ap, _∙_, ℕ, arith, List, [], _∷_, _++_, append-assoc, append-nil, length, length-append, take, take-length}
 use Rattle.coding.{specs.inner.Written.Wrote, specs.inner.Written.Room, proofs.Writing.wrote-both, proofs.Writing.wrote-as, proofs.Writing.wrote-none, proofs.Writing.wrote-next}
 use Rattle.phases.specs.{declared.Event.Event, Phases.Given, Phases.event}
-use Rattle.trace.specs.declared.Put.{Put}
+use Rattle.trace.specs.{declared.Put.Put, inner.Putting.{Puts, Rooms, Progress, RowsFor}}
 use Rattle.events.{specs.Laid.laidRow, specs.Laid.rowsOf, specs.Laid.octetsOf, proofs.Laid.rows-append, proofs.Laid.octets-append}
-use Rattle.trace.specs.inner.Putting.{Puts, Rooms, Progress, RowsFor}
 
 pub puts-none : (rows out : List ℕ) (p : Put) → Puts rows rows out out p [] p
 unfolding rowsOf octetsOf

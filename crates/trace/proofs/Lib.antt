@@ -1,3 +1,4 @@
+mod Cited
 pub mod Laying
 pub mod Bounds
 pub mod Whole

@@ -1,16 +1,15 @@
 -- The list of a whole trace: the call's reference, the room that the list needs, and what the slices then hold.
-use Rattle.prelude.proofs.Prelude.{_≡_, refl, sym, ap, _∙_, ℕ, suc, _+_, _-_, _*_, _/_, _≤_, _<_, arith, zero-add, Bool, true, false, cond, List, _++_, length, getD, take}
+use Rattle.prelude.proofs.Prelude.{_≡_, refl, sym, ap, _∙_, ℕ, suc, _-_, _*_, _/_, _≤_, _<_, arith, zero-add, Bool, true, false, cond, List, _++_, length, getD, take}
 use Rattle.prelude.proofs.Prelude.{drop, sets-eq, eqb, eq-eqb, ne-eqb, le-leb, lt-leb}
 use Rattle.phases.specs.Phases.{Given}
 use Rattle.coding.{specs.inner.Written.Wrote, proofs.Basic.and-left}
 use Rattle.events.{specs.Laid.rowsOf, specs.Laid.octetsOf, proofs.Laid.rows-count}
 use Rattle.trace_framing.specs.{declared.TraceVerdict.TraceVerdict, Framing.framed, Framing.lengthsAddUp, Framing.messagesFrom, Framing.messagesOf, Framing.verdictOf}
 use Rattle.trace_framing.proofs.Laws.{passing-starts, ends-inside}
-use Rattle.trace_messages.specs.Trace.{reference, allFramed, traceFrom, traceEvents}
-use Rattle.trace_messages.proofs.Theorems.{total-is, few-events}
-use Rattle.trace.proofs.Bounds.{few-octets}
+use Rattle.trace_messages.{specs.Trace.{reference, allFramed, traceFrom, traceEvents}, proofs.Theorems.{total-is, few-events}}
 use Rattle.trace.specs.{declared.Put.Put, declared.Laid.Laid, Into.eventsIn, Into.fitsIn, Into.laid, Into.laidOf, Into.rowsLeft, Into.octetsLeft, inner.Putting.Puts}
 use Rattle.trace.specs.{inner.Putting.Rooms, inner.Putting.Lays}
+use Rattle.trace.proofs.Bounds.{few-octets}
 
 -- ---- the call's reference
 

@@ -37,11 +37,11 @@ fn invoke_at(
 {
     let i = read_elements::identifier_at(s, at, end, 0x02);
     if i.fault != 0 {
-        return read_figures::halted(i.fault, i.place);
+        return read_elements::halted(i.fault, i.place);
     }
     let o = trunk_read_heads::operation_at(s, i.next, end);
     if o.fault != 0 {
-        return read_figures::halted(o.fault, o.place);
+        return read_elements::halted(o.fault, o.place);
     }
     let operation = o.value as u8;
     let b = trunk_read_bodies::argument_at(
@@ -56,11 +56,11 @@ fn invoke_at(
         rows,
     );
     if b.fault != 0 {
-        return read_figures::halted(read_heads::inner(b.fault), b.place);
+        return read_elements::halted(read_heads::inner(b.fault), b.place);
     }
     let id = i.value as u16;
     trunk_read_frames::keep_lead(front, frame::INVOKE, 0, id, 0, operation, 0);
-    read_figures::reached(b.next)
+    read_elements::reached(b.next)
 }
 
 // A2: identifier, then 30 holding operation and result.
@@ -81,17 +81,17 @@ fn answer_at(
 {
     let i = read_elements::identifier_at(s, at, end, 0x02);
     if i.fault != 0 {
-        return read_figures::halted(i.fault, i.place);
+        return read_elements::halted(i.fault, i.place);
     }
     let e = read_lengths::open_at(s, i.next, end, 0x30);
     if e.fault != 0 {
-        return read_figures::halted(e.fault, e.place);
+        return read_elements::halted(e.fault, e.place);
     }
     let start = e.value.start;
     let stop = e.value.stop;
     let o = trunk_read_heads::value_at(s, start, stop, frame::RESULT);
     if o.fault != 0 {
-        return read_figures::halted(o.fault, o.place);
+        return read_elements::halted(o.fault, o.place);
     }
     let operation = o.value as u8;
     let b = trunk_read_bodies::result_at(
@@ -106,14 +106,14 @@ fn answer_at(
         rows,
     );
     if b.fault != 0 {
-        return read_figures::halted(read_heads::inner(b.fault), b.place);
+        return read_elements::halted(read_heads::inner(b.fault), b.place);
     }
     if b.next != stop {
-        return read_figures::halted(refusal::UNEXPECTED, b.next);
+        return read_elements::halted(refusal::UNEXPECTED, b.next);
     }
     let id = i.value as u16;
     trunk_read_frames::keep_lead(front, frame::RESULT, 0, id, 0, operation, 0);
-    read_figures::reached(e.next)
+    read_elements::reached(e.next)
 }
 
 // By the first octet.
@@ -166,7 +166,7 @@ fn component_at(
 {
     let e = trunk_read_heads::enter(s);
     if e.fault != 0 {
-        return read_figures::halted(e.fault, e.place);
+        return read_elements::halted(e.fault, e.place);
     }
     let tag = s[0];
     let f = frame_at(
@@ -181,12 +181,12 @@ fn component_at(
         rows,
     );
     if f.fault != 0 {
-        return read_figures::halted(f.fault, f.place);
+        return read_elements::halted(f.fault, f.place);
     }
     if f.next != e.value.stop {
-        return read_figures::halted(refusal::UNEXPECTED, f.next);
+        return read_elements::halted(refusal::UNEXPECTED, f.next);
     }
-    read_figures::reached(e.next)
+    read_elements::reached(e.next)
 }
 
 // Reads a component of a trunk into its parts, whatever they hold: zeros where it is refused.

@@ -102,7 +102,7 @@ fn extended_at(
 {
     let e = read_lengths::open_at(s, at, end, 0x30);
     if e.fault != 0 {
-        return read_figures::halted(e.fault, e.place);
+        return read_elements::halted(e.fault, e.place);
     }
     let b = inner_at(
         s,
@@ -115,16 +115,16 @@ fn extended_at(
         rows,
     );
     if b.fault != 0 {
-        return read_figures::halted(b.fault, b.place);
+        return read_elements::halted(b.fault, b.place);
     }
     let x = trunk_read_extensions::extension_if(s, b.next, e.value.stop, extension);
     if x.fault != 0 {
-        return read_figures::halted(x.fault, x.place);
+        return read_elements::halted(x.fault, x.place);
     }
     if x.next != e.value.stop {
-        return read_figures::halted(refusal::UNEXPECTED, x.next);
+        return read_elements::halted(refusal::UNEXPECTED, x.next);
     }
-    read_figures::reached(e.next)
+    read_elements::reached(e.next)
 }
 
 // 60: 05 00, or an extension by itself.

@@ -63,13 +63,13 @@ fn identifier_at(s: &[u8], at: usize, end: usize) -> read_elements::Empty
 {
     let e = read_lengths::open_at(s, at, end, 0x06);
     if e.fault != 0 {
-        return read_figures::halted(e.fault, e.place);
+        return read_elements::halted(e.fault, e.place);
     }
     let fault = identifier_in(s, e.value.start, e.value.stop);
     if fault != 0 {
-        return read_figures::halted(fault, at);
+        return read_elements::halted(fault, at);
     }
-    read_figures::reached(e.next)
+    read_elements::reached(e.next)
 }
 
 // 06 identifier, and one element of any tag.
@@ -79,13 +79,13 @@ fn one_at(s: &[u8], at: usize, end: usize) -> read_elements::Empty
 {
     let i = identifier_at(s, at, end);
     if i.fault != 0 {
-        return read_figures::halted(i.fault, i.place);
+        return read_elements::halted(i.fault, i.place);
     }
     let e = any_elements::any_at(s, i.next, end);
     if e.fault != 0 {
-        return read_figures::halted(e.fault, e.place);
+        return read_elements::halted(e.fault, e.place);
     }
-    read_figures::reached(e.next)
+    read_elements::reached(e.next)
 }
 
 // An entry of a list: 30 with one.
@@ -95,16 +95,16 @@ fn entry_at(s: &[u8], at: usize, end: usize) -> read_elements::Empty
 {
     let e = read_lengths::open_at(s, at, end, 0x30);
     if e.fault != 0 {
-        return read_figures::halted(e.fault, e.place);
+        return read_elements::halted(e.fault, e.place);
     }
     let o = one_at(s, e.value.start, e.value.stop);
     if o.fault != 0 {
-        return read_figures::halted(o.fault, o.place);
+        return read_elements::halted(o.fault, o.place);
     }
     if o.next != e.value.stop {
-        return read_figures::halted(refusal::UNEXPECTED, o.next);
+        return read_elements::halted(refusal::UNEXPECTED, o.next);
     }
-    read_figures::reached(e.next)
+    read_elements::reached(e.next)
 }
 
 // Any number of entries, up to the end.
@@ -113,25 +113,25 @@ fn list_at(s: &[u8], at: usize, end: usize) -> read_elements::Empty
     ensures { λ r. ⌜ (r .fault, r .place, tt, r .next) ≡ shown tt (listTold (now (s .entry)) at end) ⌝ }
 {
     if end <= at {
-        return read_figures::reached(at);
+        return read_elements::reached(at);
     }
     let mut count: usize = 0;
     let mut i = at;
     while i < end {
         if 254 <= count {
             if s[i] == 0x30 {
-                return read_figures::halted(refusal::PAST_LIMIT, i);
+                return read_elements::halted(refusal::PAST_LIMIT, i);
             }
-            return read_figures::halted(refusal::UNEXPECTED, i);
+            return read_elements::halted(refusal::UNEXPECTED, i);
         }
         let e = entry_at(s, i, end);
         if e.fault != 0 {
-            return read_figures::halted(e.fault, e.place);
+            return read_elements::halted(e.fault, e.place);
         }
         count += 1;
         i = e.next;
     }
-    read_figures::reached(i)
+    read_elements::reached(i)
 }
 
 // One, or a list where the kind is 2.
@@ -179,26 +179,26 @@ fn extension_at(
 {
     let e = read_lengths::open_at(s, at, end, tag);
     if e.fault != 0 {
-        return read_figures::halted(e.fault, e.place);
+        return read_elements::halted(e.fault, e.place);
     }
     let start = e.value.start;
     let stop = e.value.stop;
     let o = inside_at(s, start, stop, kind);
     if o.fault != 0 {
-        return read_figures::halted(o.fault, o.place);
+        return read_elements::halted(o.fault, o.place);
     }
     let last = o.next;
     let size = any_elements::forms_size(s, start, last);
     if 242 < size {
-        return read_figures::halted(refusal::BAD_CONTENTS, start);
+        return read_elements::halted(refusal::BAD_CONTENTS, start);
     }
     if last != stop {
-        return read_figures::halted(refusal::UNEXPECTED, last);
+        return read_elements::halted(refusal::UNEXPECTED, last);
     }
     any_elements::put_sized(s, start, stop, size, extension, in_extension::EXTENSION);
     extension[in_extension::EXTENDED] = kind;
     extension[in_extension::EXTENT] = size as u8;
-    read_figures::reached(e.next)
+    read_elements::reached(e.next)
 }
 
 // One or a list, or none.
@@ -218,7 +218,7 @@ pub fn extension_if(
     if read_lengths::is_tag(s, at, end, 0xa2) {
         return extension_at(s, at, end, 0xa2, extended::LIST, extension);
     }
-    read_figures::reached(at)
+    read_elements::reached(at)
 }
 
 // One or a list.
@@ -247,5 +247,5 @@ pub fn parameter_at(
     if read_lengths::is_tag(s, at, end, 0x30) {
         return extension_at(s, at, end, 0x30, extended::ONCE, extension);
     }
-    read_figures::reached(at)
+    read_elements::reached(at)
 }

@@ -1,15 +1,12 @@
 -- The loop over the modes: those read so far lie in the front, and the next would be at i.
 use Rattle.prelude.proofs.Prelude.{ℕ, _+_, _≤_, _<_, arith, _≡_, refl, ap, sym, _∙_, List, [], _∷_, _++_, length, getD, length-append, length-replicate, replicate, drop, set, lt-leb, le-leb}
-use Rattle.coding.{specs.Reader.Reader, specs.Reader.Ans.got, specs.Reader.after, specs.Reader.entries, specs.Reader.listOf, specs.Reader.part, specs.Codec.prim, specs.Codec.pad}
-use Rattle.coding.{specs.Leaves.number, specs.inner.Shown.shown, proofs.Reading.gives, proofs.Lists.Going, proofs.Lists.going-start, proofs.Lists.going-more, proofs.Lists.list-done, proofs.Lists.list-fault}
-use Rattle.coding.proofs.Lists.{list-limit, list-strange}
-use Rattle.types.specs.{Charges.noAssociation, Arguments.noCharge}
-use Rattle.types.proofs.Stored.{by-octets}
+use Rattle.coding.specs.{Reader.{Reader, after, entries, listOf, part}, Reader.Ans.got, Codec.{prim, pad}, Leaves.number, inner.Shown.shown}
+use Rattle.coding.proofs.{Reading.gives, Lists.{Going, going-start, going-more, list-done, list-fault, list-limit, list-strange}}
+use Rattle.types.{specs.Charges.noAssociation, specs.Arguments.noCharge, proofs.Stored.by-octets}
 use Rattle.read_elements.specs.declared.Empty.{Empty}
 use Rattle.read_figures.proofs.{Texts.placed-more, Answers.refused, Answers.arrived}
-use Rattle.trunk_types.specs.{declared.Body.Body, Extensions.noExtension, Bodies.bodyBy, Bodies.noBody, Bodies.askingFor}
+use Rattle.trunk_types.specs.{declared.Body.Body, Extensions.noExtension, Bodies.{bodyBy, noBody, askingFor}, Stored.Spare}
 use Rattle.trunk_read_fields.specs.inner.Fields.{innerIn, inner, inModes}
-use Rattle.trunk_types.specs.Stored.{Spare}
 
 abbrev pub mode : Reader ℕ
 mode = (prim 0x0a (number 0 6)) .read

@@ -1,8 +1,7 @@
 -- A trunk's charges read in the code's steps: the same answers.
 use Rattle.prelude.proofs.Prelude.{ℕ, _≡_, refl, sym, ap, _∙_, Bool, true, false, not, cond, Option, none, some, List, eqb, eq-eqb, ne-eqb}
-use Rattle.coding.{specs.Reader.Ans, specs.Reader.after, specs.Reader.opened, specs.Reader.closed, specs.Reader.optional, specs.Reader.constructed, specs.Reader.choice, specs.Reader.tagged}
-use Rattle.coding.{specs.Reader.Ans.got, specs.Reader.Ans.halt, specs.Reader.Fault.contents, specs.inner.Shown.shown, specs.inner.Shown.refusal, specs.Codec.Leaf, specs.Codec.prim, specs.Codec.cons}
-use Rattle.coding.{specs.Codec.pair, specs.Codec.maybe, specs.Codec.canonical, specs.Codec.over, specs.Leaves.number, specs.Leaves.only, specs.Leaves.isSome, specs.Leaves.or0, specs.Leaves.given}
+use Rattle.coding.specs.Reader.{Ans, after, opened, closed, optional, constructed, choice, tagged, Ans.{got, halt}, Fault.contents}
+use Rattle.coding.specs.{inner.Shown.{shown, refusal}, Codec.{Leaf, prim, cons, pair, maybe, canonical, over}, Leaves.{number, only, isSome, or0, given}}
 use Rattle.coding.{specs.declared.Chosen.Chosen, proofs.Reading.flat}
 use Rattle.types.specs.{declared.Charge.Charge, Charges.flag, Charges.money, Charges.association, Arguments.plain, Arguments.moneyFigure, Arguments.totalled, Arguments.inMoney, Arguments.ending}
 use Rattle.types.specs.Arguments.{associated, withAssociation}

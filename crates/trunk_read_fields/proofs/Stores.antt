@@ -2,17 +2,13 @@
 use Rattle.prelude.proofs.Prelude.{ℕ, _+_, arith, _≡_, refl, ap, sym, _∙_, Bool, true, List, _++_, set, take, drop, replicate, length, getD, getD-drop, length-drop, take-append-drop}
 use Rattle.coding.{specs.Reader.part, specs.Reader.after, specs.Reader.opened, specs.Reader.closed, specs.Reader.constructed, specs.Reader.Ans.got, specs.Codec.cons, specs.Codec.pair, specs.Codec.prim}
 use Rattle.coding.{specs.Codec.canonical, specs.Codec.over, specs.Codec.any·more, specs.Leaves.number, proofs.Reading.flat}
-use Rattle.types.specs.declared.Charge.{Charge}
-use Rattle.types.specs.{Charges.flag, Charges.noAssociation, Charges.partyNumber, Charges.association, Arguments.plain, Arguments.moneyFigure, Arguments.totalled, Arguments.noCharge}
-use Rattle.types.specs.Stored.{moneyIn, associationIn, figureIn, storedCharge}
-use Rattle.types.proofs.Stored.{by-octets, by-front, beside-figure, figureWith, money-long}
+use Rattle.types.specs.{declared.Charge.Charge, Charges.{flag, noAssociation, partyNumber, association}, Arguments.{plain, moneyFigure, totalled, noCharge}}
+use Rattle.types.{specs.Stored.{moneyIn, associationIn, figureIn, storedCharge}, proofs.Stored.{by-octets, by-front, beside-figure, figureWith, money-long}}
 use Rattle.read_elements.specs.declared.Empty.{Empty}
 use Rattle.read_figures.{specs.inner.Beside.Unassociated, specs.inner.Beside.SameBeside, proofs.Answers.arrived}
-use Rattle.trunk_types.specs.{declared.Body.Body, Extensions.noExtension, Bodies.bodyBy, Bodies.noModes, Bodies.naming, Bodies.modes, Bodies.extending, Bodies.address, Bodies.network}
-use Rattle.trunk_types.specs.Stored.{extensionIn, modesIn, bodyIn}
-use Rattle.trunk_read_fields.specs.inner.Readers.{figured}
-use Rattle.trunk_read_fields.specs.inner.Fields.{innerIn, inner, inModes, users, diverting}
-use Rattle.trunk_types.specs.Stored.{Spare}
+use Rattle.trunk_types.specs.{declared.Body.Body, Extensions.noExtension, Bodies.{bodyBy, noModes, naming, modes, extending, address, network}}
+use Rattle.trunk_types.specs.Stored.{extensionIn, modesIn, bodyIn, Spare}
+use Rattle.trunk_read_fields.specs.inner.{Readers.figured, Fields.{innerIn, inner, inModes, users, diverting}}
 
 -- a detail alone
 pub detail-stored : (d : ℕ) (c : Charge) → innerIn (set (replicate 48 0) 42 d) c ≡ bodyBy d 0 noModes noAssociation noExtension c

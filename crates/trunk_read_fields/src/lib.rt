@@ -68,30 +68,30 @@ fn priced_at(
 {
     let e = read_lengths::open_at(s, at, end, 0x30);
     if e.fault != 0 {
-        return read_figures::halted(e.fault, e.place);
+        return read_elements::halted(e.fault, e.place);
     }
     let a = read_lengths::open_at(s, e.value.start, e.value.stop, 0xa1);
     if a.fault != 0 {
-        return read_figures::halted(a.fault, a.place);
+        return read_elements::halted(a.fault, a.place);
     }
     let m = read_figures::money_at(s, a.value.start, a.value.stop, true, figure);
     if m.fault != 0 {
-        return read_figures::halted(m.fault, m.place);
+        return read_elements::halted(m.fault, m.place);
     }
     if m.next != a.value.stop {
-        return read_figures::halted(refusal::UNEXPECTED, m.next);
+        return read_elements::halted(refusal::UNEXPECTED, m.next);
     }
     let b = billing_at(s, a.next, e.value.stop, most);
     if b.fault != 0 {
-        return read_figures::halted(b.fault, b.place);
+        return read_elements::halted(b.fault, b.place);
     }
     if b.next != e.value.stop {
-        return read_figures::halted(refusal::UNEXPECTED, b.next);
+        return read_elements::halted(refusal::UNEXPECTED, b.next);
     }
     figure[in_figure::KIND] = charge_kind::MONEY;
     figure[in_figure::BILLED] = read_figures::flag(b.value.given);
     figure[in_figure::BILLING] = b.value.value as u8;
-    read_figures::reached(e.next)
+    read_elements::reached(e.next)
 }
 
 // 80 00 not available, 81 00 free, or the 30.
@@ -133,13 +133,13 @@ pub fn final_at(s: &[u8], at: usize, end: usize, figure: &mut [u8; 48]) -> read_
 {
     let u = figure_at(s, at, end, TRANSFER, figure);
     if u.fault != 0 {
-        return read_figures::halted(u.fault, u.place);
+        return read_elements::halted(u.fault, u.place);
     }
     let a = read_figures::association_at(s, u.next, end, true, figure);
     if a.fault != 0 {
-        return read_figures::halted(a.fault, a.place);
+        return read_elements::halted(a.fault, a.place);
     }
-    read_figures::reached(a.next)
+    read_elements::reached(a.next)
 }
 
 // ---- what comes before the extension. After each of these the last four octets of the front are zero still.
@@ -159,10 +159,10 @@ pub fn detail_at(
 {
     let n = read_elements::natural_at(s, at, end, 0x0a, 0, most);
     if n.fault != 0 {
-        return read_figures::halted(n.fault, n.place);
+        return read_elements::halted(n.fault, n.place);
     }
     front[in_front::DETAIL] = n.value as u8;
-    read_figures::reached(n.next)
+    read_elements::reached(n.next)
 }
 
 // 64: a number, and an optional association.
@@ -180,13 +180,13 @@ pub fn users_at(
 {
     let u = read_figures::number_at(s, at, end, true, front);
     if u.fault != 0 {
-        return read_figures::halted(u.fault, u.place);
+        return read_elements::halted(u.fault, u.place);
     }
     let a = read_figures::association_at(s, u.next, end, true, figure);
     if a.fault != 0 {
-        return read_figures::halted(a.fault, a.place);
+        return read_elements::halted(a.fault, a.place);
     }
-    read_figures::reached(a.next)
+    read_elements::reached(a.next)
 }
 
 // 65: the same, and the diversion.
@@ -204,18 +204,18 @@ pub fn diverting_at(
 {
     let u = read_figures::number_at(s, at, end, true, front);
     if u.fault != 0 {
-        return read_figures::halted(u.fault, u.place);
+        return read_elements::halted(u.fault, u.place);
     }
     let a = read_figures::association_at(s, u.next, end, true, figure);
     if a.fault != 0 {
-        return read_figures::halted(a.fault, a.place);
+        return read_elements::halted(a.fault, a.place);
     }
     let n = read_elements::natural_at(s, a.next, end, 0x0a, 0, 3);
     if n.fault != 0 {
-        return read_figures::halted(n.fault, n.place);
+        return read_elements::halted(n.fault, n.place);
     }
     front[in_front::DETAIL] = n.value as u8;
-    read_figures::reached(n.next)
+    read_elements::reached(n.next)
 }
 
 // 0 to 7 modes, up to the end of the enclosing element.
@@ -226,27 +226,27 @@ fn modes_in(s: &[u8], at: usize, end: usize, front: &mut [u8; 48]) -> read_eleme
     ensures spare { λ _. ⌜ Spare (now (front .exit)) ⌝ }
 {
     if end <= at {
-        return read_figures::reached(at);
+        return read_elements::reached(at);
     }
     let mut count: usize = 0;
     let mut i = at;
     while i < end {
         if 7 <= count {
             if s[i] == 0x0a {
-                return read_figures::halted(refusal::PAST_LIMIT, i);
+                return read_elements::halted(refusal::PAST_LIMIT, i);
             }
-            return read_figures::halted(refusal::UNEXPECTED, i);
+            return read_elements::halted(refusal::UNEXPECTED, i);
         }
         let n = read_elements::natural_at(s, i, end, 0x0a, 0, 6);
         if n.fault != 0 {
-            return read_figures::halted(n.fault, n.place);
+            return read_elements::halted(n.fault, n.place);
         }
         front[in_front::MODES + count] = n.value as u8;
         count += 1;
         i = n.next;
     }
     front[in_front::ASKED] = count as u8;
-    read_figures::reached(i)
+    read_elements::reached(i)
 }
 
 // 59: those in a 30.
@@ -258,16 +258,16 @@ pub fn modes_at(s: &[u8], at: usize, end: usize, front: &mut [u8; 48]) -> read_e
 {
     let e = read_lengths::open_at(s, at, end, 0x30);
     if e.fault != 0 {
-        return read_figures::halted(e.fault, e.place);
+        return read_elements::halted(e.fault, e.place);
     }
     let m = modes_in(s, e.value.start, e.value.stop, front);
     if m.fault != 0 {
-        return read_figures::halted(m.fault, m.place);
+        return read_elements::halted(m.fault, m.place);
     }
     if m.next != e.value.stop {
-        return read_figures::halted(refusal::UNEXPECTED, m.next);
+        return read_elements::halted(refusal::UNEXPECTED, m.next);
     }
-    read_figures::reached(e.next)
+    read_elements::reached(e.next)
 }
 
 // ---- the network facility extension
@@ -288,7 +288,7 @@ fn address_at(
     if read_lengths::is_tag(s, at, end, tag) {
         return read_figures::party_at(s, at, end, tag, true, figure);
     }
-    read_figures::reached(at)
+    read_elements::reached(at)
 }
 
 // Its two entities, each with the address that may follow it.
@@ -306,23 +306,23 @@ pub fn network_at(
 {
     let d = read_elements::natural_at(s, at, end, 0x80, 0, 1);
     if d.fault != 0 {
-        return read_figures::halted(d.fault, d.place);
+        return read_elements::halted(d.fault, d.place);
     }
     let source = d.value as u8;
     let u = address_at(s, d.next, end, 0xa1, front);
     if u.fault != 0 {
-        return read_figures::halted(u.fault, u.place);
+        return read_elements::halted(u.fault, u.place);
     }
     let e = read_elements::natural_at(s, u.next, end, 0x82, 0, 1);
     if e.fault != 0 {
-        return read_figures::halted(e.fault, e.place);
+        return read_elements::halted(e.fault, e.place);
     }
     let destination = e.value as u8;
     let a = address_at(s, e.next, end, 0xa3, figure);
     if a.fault != 0 {
-        return read_figures::halted(a.fault, a.place);
+        return read_elements::halted(a.fault, a.place);
     }
     front[in_front::DETAIL] = source;
     front[in_front::ENTITY] = destination;
-    read_figures::reached(a.next)
+    read_elements::reached(a.next)
 }

@@ -62,7 +62,7 @@ fn failing_at(
     if error == UNSPECIFIED {
         return trunk_read_extensions::parameter_at(s, at, end, extension);
     }
-    read_figures::reached(at)
+    read_elements::reached(at)
 }
 
 // A3: identifier, error, and what may follow it.
@@ -80,20 +80,20 @@ pub fn error_at(
 {
     let i = read_elements::identifier_at(s, at, end, 0x02);
     if i.fault != 0 {
-        return read_figures::halted(i.fault, i.place);
+        return read_elements::halted(i.fault, i.place);
     }
     let e = trunk_read_heads::value_at(s, i.next, end, frame::ERROR);
     if e.fault != 0 {
-        return read_figures::halted(e.fault, e.place);
+        return read_elements::halted(e.fault, e.place);
     }
     let error = e.value as u16;
     let x = failing_at(s, e.next, end, error, extension);
     if x.fault != 0 {
-        return read_figures::halted(x.fault, x.place);
+        return read_elements::halted(x.fault, x.place);
     }
     let id = i.value as u16;
     keep_lead(front, frame::ERROR, 0, id, error, 0, 0);
-    read_figures::reached(x.next)
+    read_elements::reached(x.next)
 }
 
 // A4: as document 01 has it.
@@ -105,11 +105,11 @@ pub fn reject_at(s: &[u8], at: usize, end: usize, front: &mut [u8; 48]) -> read_
 {
     let i = read_heads::caller_at(s, at, end);
     if i.fault != 0 {
-        return read_figures::halted(i.fault, i.place);
+        return read_elements::halted(i.fault, i.place);
     }
     let p = read_heads::problems_at(s, i.next, end);
     if p.fault != 0 {
-        return read_figures::halted(p.fault, p.place);
+        return read_elements::halted(p.fault, p.place);
     }
     front[in_front::DETAIL] = p.value.detail;
     keep_lead(
@@ -121,7 +121,7 @@ pub fn reject_at(s: &[u8], at: usize, end: usize, front: &mut [u8; 48]) -> read_
         0,
         p.value.tag,
     );
-    read_figures::reached(p.next)
+    read_elements::reached(p.next)
 }
 
 // AA: every fault inside is 6.
@@ -139,8 +139,8 @@ pub fn facility_at(
 {
     let b = trunk_read_fields::network_at(s, at, end, front, figure);
     if b.fault != 0 {
-        return read_figures::halted(named::BAD_FRAME, b.place);
+        return read_elements::halted(named::BAD_FRAME, b.place);
     }
     keep_lead(front, frame::EXTENSION, 0, 0, 0, 0, 0);
-    read_figures::reached(b.next)
+    read_elements::reached(b.next)
 }

@@ -5,9 +5,7 @@ use write::Written;
 ghost use mathlib.Core.Path.{_≡_};
 ghost use lib.ListN.{length};
 ghost use Rattle.write.specs.Outcome.{no};
-ghost use Rattle.types.specs.Stored.{storedCharge};
-ghost use Rattle.trunk_types.specs.Stored.{trunkIn};
-ghost use Rattle.trunk_write.specs.Outcome.{spareZero, trunkWriteOf, trunkLeftOf};
+ghost use Rattle.trunk_write.specs.Outcome.{spareZero, lentTrunk, trunkWriteOf, trunkLeftOf};
 
 // As wide as the answer has them.
 const BAD_RECORD: u32 = refusal::BAD_RECORD as u32;
@@ -47,8 +45,8 @@ pub fn write_from(
     rows: &[u8; 192],
     buf: &mut [u8],
 ) -> Written
-    ensures { λ w. ⌜ w ≡ trunkWriteOf (spareZero (now (front .entry))) (trunkIn (now (front .entry)) (now (extension .entry)) (storedCharge (now (figure .entry)) (now (numbers .entry)) (now (rows .entry)))) (length (now (buf .entry))) ⌝ }
-    ensures left { λ w. ⌜ now (buf .exit) ≡ trunkLeftOf (spareZero (now (front .entry))) (trunkIn (now (front .entry)) (now (extension .entry)) (storedCharge (now (figure .entry)) (now (numbers .entry)) (now (rows .entry)))) (now (buf .entry)) ⌝ }
+    ensures { λ w. ⌜ w ≡ trunkWriteOf (lentTrunk front extension figure numbers rows) (length (now (buf .entry))) ⌝ }
+    ensures left { λ w. ⌜ now (buf .exit) ≡ trunkLeftOf (lentTrunk front extension figure numbers rows) (now (buf .entry)) ⌝ }
 {
     if !spare_zero(front) {
         return refuse(BAD_RECORD);

@@ -2,9 +2,8 @@
 use Rattle.prelude.proofs.Prelude.{ℕ, _+_, _≡_, sym, ap, _∙_, _++_, Bool, true, _&&_, arith, length, length-append, eq-eqb, ne-eqb}
 use Rattle.coding.{specs.Codec.canonical, specs.Codec.over, specs.Codec.pair, specs.Codec.sort, specs.Codec.cons, specs.inner.Written.lead, proofs.Basic.and-left, proofs.Basic.and-right}
 use Rattle.coding.proofs.{Small.null-write, Writing.cons-write}
-use Rattle.trunk_types.specs.{declared.Extension.Extension, Extensions.anyExtension, Extensions.someExtension, Stored.extensionIn, Stored.bodyIn}
-use Rattle.trunk_types.specs.Bodies.{sameBody, withExtension, extended, extending, dummy}
-use Rattle.trunk_types.specs.inner.Forms.{innerIn, innerOf}
+use Rattle.trunk_types.specs.{declared.Extension.Extension, Extensions.{anyExtension, someExtension}, Stored.{extensionIn, bodyIn}}
+use Rattle.trunk_types.specs.{Bodies.{sameBody, withExtension, extended, extending, dummy}, inner.Forms.{innerIn, innerOf}}
 use Rattle.trunk_write_frames.specs.inner.Octets.{Counted, bodyOf}
 use Rattle.trunk_write_frames.proofs.{Extensions.some-valid, Extensions.Sized, Extensions.extension-counted, Extensions.extension-length, Given.Parts, Given.body, Given.four, Given.inner, Dispatch.Form}
 

@@ -1,18 +1,14 @@
 -- What comes before the extension, by its form: what a valid one holds, and its octets.
 use Rattle.prelude.proofs.Prelude.{ℕ, _+_, _*_, _≤_, _<_, _≡_, refl, sym, ap, _∙_, List, [], _∷_, _++_, append-assoc, Bool, true, _&&_, arith, length, getD, take, drop}
 use Rattle.prelude.proofs.Prelude.{length-append, length-take, length-drop, length-take-le, getD-take, getD-drop, eqb, eqb-true, ne-eqb, leb-true, leb}
-use Rattle.coding.{specs.Reader.part, specs.Codec.canonical, specs.Codec.over, specs.Codec.pair, specs.Codec.prim, specs.Codec.cons, specs.Codec.any·more, specs.Codec.all, specs.Codec.writeAll}
-use Rattle.coding.{specs.Rows.table, specs.Leaves.number, specs.inner.Written.lead, specs.inner.Written.fullNumber, proofs.Basic.and-left, proofs.Basic.and-right, proofs.Rows.rows-table}
-use Rattle.coding.{proofs.Rows.table-length}
-use Rattle.coding.proofs.{Small.small-length, Writing.number-write, Writing.cons-write, Writing.lead-length-short}
+use Rattle.coding.specs.{Reader.part, Codec.{canonical, over, pair, prim, cons, any·more, all, writeAll}, Rows.table, Leaves.number}
+use Rattle.coding.{specs.inner.Written.{lead, fullNumber}, proofs.Basic.{and-left, and-right}, proofs.Rows.{rows-table, table-length}}
+use Rattle.coding.proofs.{Small.small-length, Writing.{number-write, cons-write, lead-length-short}}
 use Rattle.types.specs.{declared.Figure.Figure, declared.Charge.Charge, Charges.partyNumber, Charges.association, Stored.associationIn, Stored.figureIn, Stored.storedCharge, Stored.withList}
 use Rattle.types.specs.Arguments.{noCharge, sameCharge}
-use Rattle.trunk_types.specs.Extensions.{noExtension, sameExtension}
-use Rattle.trunk_types.specs.{Stored.modesIn, Bodies.sameBody, Bodies.sameModes, Bodies.askingFor, Bodies.modes, Bodies.detail, Bodies.detailed, Bodies.charged, Bodies.charging, Bodies.naming}
-use Rattle.trunk_types.specs.Bodies.{chargeFor}
-use Rattle.trunk_types.specs.inner.Forms.{innerIn, users, diverting, innerOf}
-use Rattle.trunk_write_frames.specs.{inner.Octets.mode, inner.Octets.modeAt, inner.Octets.modesOf, inner.Octets.modesOctets}
-use Rattle.trunk_write_frames.specs.inner.Octets.{detailIn, usersOctets}
+use Rattle.trunk_types.specs.{Extensions.{noExtension, sameExtension}, Stored.modesIn, Bodies.{sameBody, sameModes, askingFor, modes, detail, detailed}}
+use Rattle.trunk_types.specs.{Bodies.{charged, charging, naming, chargeFor}, inner.Forms.{innerIn, users, diverting, innerOf}}
+use Rattle.trunk_write_frames.specs.inner.Octets.{mode, modeAt, modesOf, modesOctets, detailIn, usersOctets}
 use Rattle.trunk_write_frames.proofs.{Given.Four, Given.inner, Dispatch.Form, Dispatch.form-size}
 
 -- ---- modes

@@ -1,12 +1,9 @@
 -- What a frame holds, by its kind: what a valid component has, and its octets.
-use Rattle.prelude.proofs.Prelude.{ℕ, _+_, _≤_, _<_, _≡_, refl, sym, ap, ap₂, _∙_, List, _++_, true, false, cond, _⊎_, inl, inr, arith, length, getD, length-append, leb, eqb}
-use Rattle.prelude.proofs.Prelude.{eqb-true, ne-eqb, leb-true}
-use Rattle.coding.{specs.Codec.Run, specs.Codec.oneOf, specs.Codec.prim, specs.Codec.cons, specs.Codec.pair, specs.Codec.alt, specs.Codec.sort, specs.Codec.canonical}
-use Rattle.coding.{specs.Codec.over, specs.Codec.leads, specs.Codec.barring, specs.Codec.marked, specs.Codec.frames, specs.Codec.nothing, specs.Codec.pickRun, specs.Leaves.number}
-use Rattle.coding.{specs.Leaves.identifier, specs.Leaves.listed, specs.inner.Written.lead, specs.inner.Written.fullNumber, proofs.Basic.and-left, proofs.Basic.and-right, proofs.Basic.or-false}
-use Rattle.coding.{proofs.Holds.holds, proofs.Small.null-write, proofs.Small.small-length}
-use Rattle.prelude.proofs.Ways.{by-cases}
-use Rattle.coding.proofs.{Small.id-length, Writing.number-write}
+use Rattle.prelude.proofs.Prelude.{ℕ, _+_, _≤_, _<_, _≡_, refl, sym, ap, ap₂, _∙_, List, _++_, true, false, cond, _⊎_, inl, inr, arith, length, getD}
+use Rattle.prelude.proofs.{Prelude.{length-append, leb, eqb, eqb-true, ne-eqb, leb-true}, Ways.by-cases}
+use Rattle.coding.specs.Codec.{Run, oneOf, prim, cons, pair, alt, sort, canonical, over, leads, barring, marked, frames, nothing, pickRun}
+use Rattle.coding.{specs.Leaves.{number, identifier, listed}, specs.inner.Written.{lead, fullNumber}, proofs.Basic.{and-left, and-right, or-false}}
+use Rattle.coding.proofs.{Holds.holds, Small.{null-write, small-length, id-length}, Writing.number-write}
 use Rattle.types.specs.{declared.Record.Record, Frames.value, Frames.caller, Frames.problem, Frames.problems, Frames.reject, Frames.frontBy, Frames.sameFront, Frames.sameRecord}
 use Rattle.types.specs.{Frames.rejects, Frames.callerOf, Stored.two, Stored.associationIn, Stored.figureIn}
 use Rattle.read_heads.proofs.Codes.{has-below}
@@ -15,10 +12,10 @@ use Rattle.trunk_types.specs.{declared.Body.Body, Extensions.parameter, Extensi
 use Rattle.trunk_types.specs.Bodies.{argumentOf, resultOf, finalCharge, interim, tariff, complete, diverted, naming, sameBody, address, network, extending, chargeFor}
 use Rattle.trunk_types.specs.Components.{leadBy, trunkBy, sameTrunk, trunkOperations, answerable, carryingBody, trunkInvoke, trunkResult, trunkErrors, failing, trunkError}
 use Rattle.trunk_types.specs.Components.{ofReject, rejectOf, rejected, facility, tags, trunkFrame, trunkComponent}
-use Rattle.trunk_write_frames.proofs.{Extensions.bare-parameter, Given.Parts, Given.whole, Given.body, Dispatch.Form, Dispatch.form-then}
 use Rattle.trunk_types.specs.inner.Forms.{users, diverting, innerOf}
 use Rattle.trunk_write_frames.specs.{inner.Octets.given, inner.Octets.bodyOf, inner.Octets.resultForm, inner.Octets.idOctets}
 use Rattle.trunk_write_frames.specs.inner.Octets.{detailIn, errorOctets, rejectOctets, NetworkFine, networkOctets, contentsOf}
+use Rattle.trunk_write_frames.proofs.{Extensions.bare-parameter, Given.Parts, Given.whole, Given.body, Dispatch.Form, Dispatch.form-then}
 
 -- an operation or error value
 value-write : (unknown : ℕ) (known : List ℕ) (n : ℕ) → (value unknown known) .write n ≡ fullNumber 0x02 n

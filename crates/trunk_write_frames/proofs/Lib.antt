@@ -1,3 +1,4 @@
+mod Cited
 pub mod Given
 pub mod Dispatch
 pub mod Extensions

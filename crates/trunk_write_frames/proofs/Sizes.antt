@@ -1,10 +1,9 @@
 -- How many octets the parts take, and the parts one after the other, by what the code has of each.
 use Rattle.prelude.proofs.Prelude.{ℕ, _+_, _-_, _*_, _≤_, _<_, _≡_, refl, sym, ap, ap₂, _∙_, List, [], _∷_, _++_, true, arith, length, getD, take, drop, length-append}
 use Rattle.prelude.proofs.Prelude.{length-drop, take-length, eq-eqb, ne-eqb}
-use Rattle.coding.{specs.Codec.canonical, specs.Codec.over, specs.Codec.sort, specs.Codec.cons, specs.Codec.nothing, specs.Codec.prim, specs.Codec.all, specs.Codec.writeAll}
-use Rattle.coding.{specs.Codec.lengthOctets}
-use Rattle.coding.{specs.Rows.table, specs.Leaves.identifier, specs.Leaves.width, specs.inner.Written.lead, specs.inner.Written.fullNumber, proofs.Basic.picked, proofs.Basic.unpicked}
-use Rattle.coding.proofs.{Small.small-length, Small.id-length, Small.null-length, Writing.number-length}
+use Rattle.coding.specs.{Codec.{canonical, over, sort, cons, nothing, prim, all, writeAll, lengthOctets}, Rows.table, Leaves.{identifier, width}}
+use Rattle.coding.{specs.inner.Written.{lead, fullNumber}, proofs.Basic.{picked, unpicked}, proofs.Small.{small-length, id-length, null-length}}
+use Rattle.coding.proofs.Writing.{number-length}
 use Rattle.types.specs.{declared.Association.Association, Charges.partyNumber, Charges.association, Charges.unassociated, Stored.two, Stored.associationIn}
 use Rattle.trunk_types.specs.{Extensions.parameter, Bodies.address, Stored.modesIn, Stored.extensionIn}
 use Rattle.trunk_write_frames.specs.{inner.Octets.extensionOctets, inner.Octets.Counted, inner.Octets.mode, inner.Octets.modeAt, inner.Octets.modesOf, inner.Octets.modesOctets, inner.Octets.detailIn}

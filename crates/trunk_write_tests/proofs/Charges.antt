@@ -52,7 +52,7 @@ module _ (c : Charge) (s : Bool) where
 -- ---- by the kind
 
 -- a kind that has no billing
-no-billing : (d b : ℕ) → cond (eqb d 1) false (eqb 0 d && eqb 0 b) ≡ eqb 0 d && eqb 0 b
+pub no-billing : (d b : ℕ) → cond (eqb d 1) false (eqb 0 d && eqb 0 b) ≡ eqb 0 d && eqb 0 b
 no-billing d b = by-cases (eqb d 1) (λ q. rw (q, eqb-true d 1 q)) (λ q. rw q)
 
 pub past-kind : (k n : ℕ) → 6 ≤ k → leb n 5 ≡ true → leb k n ≡ false

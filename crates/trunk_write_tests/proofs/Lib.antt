@@ -2,4 +2,5 @@ pub mod Charges
 pub mod Bodies
 pub mod Components
 pub mod Blank
+pub mod Masks
 pub mod Tests

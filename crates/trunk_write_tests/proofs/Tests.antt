@@ -6,7 +6,7 @@ use Rattle.coding.{specs.Reader.part, specs.Contents.every, specs.Codec.all, sp
 use Rattle.coding.{specs.Codec.sort, specs.Codec.canonical, specs.Codec.over, specs.Codec.nothing, specs.Codec.Run, specs.Codec.cons}
 use Rattle.prelude.proofs.Ways.{by-cases}
 use Rattle.coding.proofs.Tests.{ands, and-true, and-assoc, eqb-self}
-use Rattle.types.specs.{declared.Association.Association, declared.Figure.Figure, declared.Entries.Entries, declared.Charge.Charge, Stored.associationIn, Stored.figureIn}
+use Rattle.types.specs.{declared.Association.Association, declared.Charge.Charge, Stored.associationIn}
 use Rattle.types.specs.{Charges.noAssociation, Charges.sameAssociation, Charges.partyNumber}
 use Rattle.trunk_types.specs.{declared.Lead.Lead, declared.Trunk.Trunk, Components.trunkComponent, Components.trunkOperations, Components.answerable, Components.trunkErrors}
 use Rattle.trunk_types.specs.{Stored.modesIn, Stored.extensionIn, Stored.bodyIn}
@@ -14,8 +14,8 @@ use Rattle.trunk_types.specs.Extensions.{noExtension, sameExtension, inOne, inL
 use Rattle.trunk_read_extensions.specs.inner.Judges.{insideOf}
 use Rattle.write_tests.proofs.Truth.{same-truth}
 use Rattle.write_tests.proofs.Tests.{counted-is, zeros-below, few-taken, first-part}
-use Rattle.trunk_write_tests.specs.inner.Fine.{leadFine, formOf, trunkFine, numberIf, detailFine, entityFine, someModes, modesFine, userFine, markedFine, amountIf, otherFine}
-use Rattle.trunk_write_tests.specs.inner.Fine.{listIf, chargeFits, mostExtension, extensionFine, innerFine, bodyFine, frontFits}
+use Rattle.trunk_write_tests.specs.inner.Fine.{leadFine, formOf, trunkFine, numberIf, detailFine, entityFine, someModes, modesFine, userFine}
+use Rattle.trunk_write_tests.specs.inner.Fine.{chargeFits, mostExtension, extensionFine, innerFine, bodyFine, frontFits}
 use Rattle.trunk_write_tests.proofs.Components.{component-fine}
 
 -- ---- the lead, by the frame
@@ -229,13 +229,6 @@ module _ (s : List ℕ) (e : length s ≡ 244) where
           extension-judged q j = rw (extension-is form, fits, le-leb count 242 short, ← z, not-false r clear, ne-eqb kind 0 q) j
 
 -- ---- the whole, in the order in which the code tests
-
--- the figure taken out of its octets
-pub as-charge : {r : Bool} (form : ℕ) (f : Figure) (s : List ℕ) (e : Entries) → f ≡ figureIn s
-    → r ≡ markedFine form f && (amountIf (figureIn s) && (otherFine form (associationIn s) && listIf (record { figure = f; entries = e })))
-    → r ≡ chargeFits form (record { figure = figureIn s; entries = e })
-unfolding chargeFits figureIn
-as-charge form f s e q h = h ∙ rw q (simp and-assoc)
 
 -- the user taken out of the front
 pub as-front : {r : Bool} (k p : ℕ) (s : List ℕ) (u : Association) → u ≡ associationIn s

@@ -5,7 +5,6 @@ use trunk_types::form;
 use trunk_types::in_extension;
 use trunk_types::in_front;
 use types::Association;
-use types::Figure;
 use types::association_kind;
 use types::billing;
 use types::charge_kind;
@@ -14,15 +13,15 @@ use types::frame;
 use types::in_figure;
 use types::operation;
 ghost use mathlib.Core.Path.{_≡_};
-ghost use mathlib.Core.Bool.{true, _||_};
+ghost use mathlib.Core.Bool.{true, not, _||_, cond};
 ghost use Rattle.types.specs.Charges.{association};
 ghost use lib.Dec.{eqb};
-ghost use lib.ListN.{length};
-ghost use Rattle.types.specs.Stored.{storedCharge, associationIn, figureIn};
-ghost use Rattle.write_tests.specs.inner.Fine.{laid};
+ghost use lib.ListN.{length, getD};
+ghost use Rattle.types.specs.Stored.{storedCharge, associationIn};
 ghost use Rattle.trunk_types.specs.Stored.{leadIn, modesIn, extensionIn, bodyIn, trunkIn};
 ghost use Rattle.trunk_types.specs.Components.{trunkComponent};
-ghost use Rattle.trunk_write_tests.specs.inner.Fine.{leadFine, formOf, detailFine, entityFine, modesFine, numberIf, names, userFine, otherFine, kindFine, isBilling, billedFine, markedFine, amountIf, listIf, chargeFits, mostExtension, extensionFine, frontFits, bodyFine};
+ghost use Rattle.trunk_write_tests.specs.inner.Fine.{leadFine, formOf, detailFine, entityFine, modesFine, numberIf, names, userFine, otherFine, kindFine, isBilling, listIf, chargeFits, mostExtension, extensionFine, frontFits, bodyFine};
+ghost use Rattle.trunk_write_tests.specs.inner.Masks.{billedBy, maskedFits};
 
 // As wide as a lead has it.
 const UNSPECIFIED: u16 = error::UNSPECIFIED as u16;
@@ -302,13 +301,19 @@ fn associated_fine(a: Association, digits: &[u8; 20], form: u8) -> bool
     write_tests::no_association(a, digits)
 }
 
-// None is zeros where one would lie, and is not copied.
-fn other_fine(figure: &[u8; 48], form: u8) -> bool
-    ensures { λ r. ⌜ r ≡ otherFine form (associationIn (now (figure .entry))) ⌝ }
+// Whether a figure has an association.
+fn is_associated(figure: &[u8; 48]) -> bool
+    ensures { λ r. ⌜ r ≡ not (eqb (getD (now (figure .entry)) 20 0) 0) ⌝ }
 {
-    let all: &[u8] = figure;
-    if all[in_figure::ASSOCIATION_KIND] == association_kind::NONE {
-        return octets::zeros(&all[in_figure::ID..in_figure::KIND]);
+    figure[in_figure::ASSOCIATION_KIND] != association_kind::NONE
+}
+
+// The association, where there is one.
+fn other_fine(figure: &[u8; 48], associated: bool, form: u8) -> bool
+    ensures { λ r. ⌜ r ≡ cond associated (otherFine form (associationIn (now (figure .entry)))) true ⌝ }
+{
+    if !associated {
+        return true;
     }
     let a = types_parts::association_of(figure);
     let digits = a.digits;
@@ -348,60 +353,64 @@ fn is_billing(form: u8, billing: u8) -> bool
     billing <= billing::CREDIT_CARD
 }
 
-fn billed_fine(f: Figure, form: u8) -> bool
-    ensures { λ r. ⌜ r ≡ billedFine form f ⌝ }
+fn billed_fine(billed: u8, billing: u8, form: u8) -> bool
+    ensures { λ r. ⌜ r ≡ billedBy form billed billing ⌝ }
 {
-    if f.billed == 1 {
-        if f.kind != charge_kind::MONEY {
-            return false;
-        }
-        return is_billing(form, f.billing);
+    if billed == 1 {
+        return is_billing(form, billing);
     }
-    if f.billed != 0 {
+    if billed != 0 {
         return false;
     }
-    if f.billing != 0 {
+    if billing != 0 {
         return false;
     }
     true
 }
 
-fn marked_fine(f: Figure, form: u8) -> bool
-    ensures { λ r. ⌜ r ≡ markedFine form f ⌝ }
+// All but the association and the list, by one mask for each kind (`write_tests::clear_by`).
+fn fields_fine(figure: &[u8; 48], associated: bool, form: u8) -> bool
+    ensures { λ r. ⌜ r ≡ maskedFits associated form (now (figure .entry)) ⌝ }
 {
-    if !kind_fine(form, f.kind) {
-        return false;
-    }
-    if f.total != 0 {
-        return false;
-    }
-    if f.arrangement != 0 {
-        return false;
-    }
-    billed_fine(f, form)
-}
-
-// Money, or zeros where it would lie.
-fn amount_fine(figure: &[u8; 48]) -> bool
-    ensures { λ r. ⌜ r ≡ amountIf (figureIn (now (figure .entry))) ⌝ }
-{
+    // As a slice the array shows its length to the proof.
     let all: &[u8] = figure;
-    if all[in_figure::KIND] == charge_kind::MONEY {
+    let kind = figure[in_figure::KIND];
+    if !kind_fine(form, kind) {
+        return false;
+    }
+    if kind == charge_kind::MONEY {
+        if !write_tests::clear_by(
+            figure,
+            associated,
+            b"xxxxxxxxxxxxxxxxxxxxxxxxxxxxxxxxxxxxxxxxxxx.xx.x",
+            b"xxxxxxxxxxxxxxxx..........................x.xx.x",
+        ) {
+            return false;
+        }
+        if !billed_fine(figure[in_figure::BILLED], figure[in_figure::BILLING], form) {
+            return false;
+        }
         let m = types_parts::money_of(figure);
         return write_tests::money_fine(m, true);
     }
-    octets::zeros(&all[in_figure::CURRENCY_COUNT..in_figure::ID])
+    write_tests::clear_by(
+        figure,
+        associated,
+        b"................xxxxxxxxxxxxxxxxxxxxxxxxxxx....x",
+        b"..........................................x....x",
+    )
 }
 
 // Rates, or none.
-fn list_fine(f: Figure, numbers: &[u32; 32], rows: &[u8; 192]) -> bool
+fn list_fine(figure: &[u8; 48], numbers: &[u32; 32], rows: &[u8; 192]) -> bool
     requires { ⌜ (length (now numbers) ≡ 32) × (length (now rows) ≡ 192) ⌝ }
-    ensures { λ r. ⌜ r ≡ listIf (record { figure = f; entries = laid (now (numbers .entry)) (now (rows .entry)) }) ⌝ }
+    ensures { λ r. ⌜ r ≡ listIf (storedCharge (now (figure .entry)) (now (numbers .entry)) (now (rows .entry))) ⌝ }
 {
-    if f.kind == charge_kind::RATES {
-        return write_rates::rates_fine(numbers, rows, f.count, true);
+    let count = figure[in_figure::COUNT];
+    if figure[in_figure::KIND] == charge_kind::RATES {
+        return write_rates::rates_fine(numbers, rows, count, true);
     }
-    if f.count != 0 {
+    if count != 0 {
         return false;
     }
     write_tests::no_entries(numbers, rows)
@@ -410,19 +419,18 @@ fn list_fine(f: Figure, numbers: &[u32; 32], rows: &[u8; 192]) -> bool
 fn charge_fine(figure: &[u8; 48], numbers: &[u32; 32], rows: &[u8; 192], form: u8) -> bool
     ensures { λ r. ⌜ r ≡ chargeFits form (storedCharge (now (figure .entry)) (now (numbers .entry)) (now (rows .entry))) ⌝ }
 {
+    // As slices the arrays show their lengths to the proof.
+    let all: &[u8] = figure;
     let places: &[u32] = numbers;
     let octets: &[u8] = rows;
-    let f = types_parts::figure_of(figure);
-    if !marked_fine(f, form) {
+    let associated = is_associated(figure);
+    if !other_fine(figure, associated, form) {
         return false;
     }
-    if !amount_fine(figure) {
+    if !fields_fine(figure, associated, form) {
         return false;
     }
-    if !other_fine(figure, form) {
-        return false;
-    }
-    list_fine(f, numbers, rows)
+    list_fine(figure, numbers, rows)
 }
 
 // ---- the extension

@@ -4,9 +4,8 @@ use Rattle.coding.{specs.Codec.all, specs.Codec.writeAll, specs.inner.Written.W
 use Rattle.types.specs.{declared.Entries.Entries, declared.Figure.Figure, declared.Charge.Charge, Entries.unit, Entries.unitAt, Entries.unitRows, Entries.unitList}
 use Rattle.types.specs.Arguments.{sameEntries, chargeOf}
 use Rattle.write_tests.{specs.inner.Fine.figureFine, specs.inner.Fine.unitsFine, specs.inner.Fine.ratesFine, specs.inner.Fine.entriesFine, proofs.Valid.charge-fine}
-use Rattle.write_figures.{specs.inner.Octets.element, specs.inner.Octets.written, specs.inner.Octets.contents, specs.inner.Octets.before, specs.inner.Octets.after, proofs.Forms.charge-write}
-use Rattle.write_figures.proofs.Frames.{fine-marks, ended-split}
-use Rattle.write_rate.proofs.Three.{Three, three-length, room-1, room-2, room-3, wrote-3}
+use Rattle.write_figures.{specs.inner.Octets.{element, written, contents, before, after}, proofs.Forms.charge-write, proofs.Frames.{fine-marks, ended-split}}
+use Rattle.write_rate.proofs.Three.{Three, three-length, room-1, room-2, room-3}
 use Rattle.write_rates.{specs.inner.Arrays.ratesCharge, proofs.Listed.few-valid, proofs.Listed.list-same}
 use Rattle.write_charges.specs.inner.Octets.{unitsCharge}
 
@@ -50,7 +49,7 @@ module _ (o : ℕ) (g : (30 ≤ o) × (o ≤ 36)) (c : Charge) (v : (chargeOf o)
 -- ---- as they are put: k octets, of which a lead says how many
 
 module _ (o : ℕ) (f : Figure) (e : Entries) (k : ℕ) (q : k ≡ length (writeAll (unit .write) (unitList e (f .count)))) where
-  units-parts : Three (unitsCharge o f e) (before o f k) (writeAll (unit .write) (unitList e (f .count))) (after o f)
+  pub units-parts : Three (unitsCharge o f e) (before o f k) (writeAll (unit .write) (unitList e (f .count))) (after o f)
   units-parts =
       let xs = writeAll (unit .write) (unitList e (f .count)) in
       record { parts = ended-split o f xs ∙ ap (λ (j : ℕ). before o f j ++ (xs ++ after o f)) (sym q) }
@@ -67,7 +66,3 @@ module _ (o : ℕ) (f : Figure) (e : Entries) (k : ℕ) (q : k ≡ length (write
 
     pub put-units-3 : {m n : List ℕ} {b d : ℕ} → Wrote l m a (before o f k) b → Wrote m n b (writeAll (unit .write) (unitList e (f .count))) d → Room n d (after o f)
     put-units-3 = room-3 units-parts h
-
-  pub put-units-4 : {l m n r : List ℕ} {a b d z : ℕ} → Wrote l m a (before o f k) b → Wrote m n b (writeAll (unit .write) (unitList e (f .count))) d
-      → Wrote n r d (after o f) z → Wrote l r a (unitsCharge o f e) z
-  put-units-4 = wrote-3 units-parts

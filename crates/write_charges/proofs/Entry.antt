@@ -1,12 +1,10 @@
 -- An entry of units: which may be written, and its octets part by part.
-use Rattle.prelude.proofs.Prelude.{ℕ, zero, suc, _+_, _<_, _≡_, sym, ap, _∙_, List, _++_, Bool, true, _&&_, and-comm, cond, arith, length, length-append, leb, eqb, leb·zero, leb-true}
-use Rattle.prelude.proofs.Prelude.{le-leb, ne-eqb}
-use Rattle.coding.{specs.Codec.prim, specs.Codec.cons, specs.Codec.pair, specs.Codec.alt, specs.Codec.maybe, specs.Codec.over, specs.Codec.canonical, specs.Leaves.number}
-use Rattle.coding.{specs.Leaves.nullLeaf, specs.inner.Written.Wrote, specs.inner.Written.Room, specs.inner.Written.lead, proofs.Basic.and-left, proofs.Writing.cons-write, proofs.Writing.number-write}
-use Rattle.coding.proofs.{Writing.lead-length-short, Tests.and-true, Tests.and-false, Tests.eqb-self, Small.null-write}
-use Rattle.prelude.proofs.Ways.{by-cases}
+use Rattle.prelude.proofs.Prelude.{ℕ, zero, suc, _+_, _<_, _≡_, sym, ap, _∙_, List, _++_, Bool, true, _&&_, and-comm, cond, arith, length, length-append, leb}
+use Rattle.prelude.proofs.{Prelude.{eqb, leb·zero, leb-true, le-leb, ne-eqb}, Ways.by-cases}
+use Rattle.coding.specs.{Codec.{prim, cons, pair, alt, maybe, over, canonical}, Leaves.{number, nullLeaf}, inner.Written.{Wrote, Room, lead}}
+use Rattle.coding.proofs.{Basic.and-left, Writing.{cons-write, number-write, lead-length-short}, Tests.{and-true, and-false, eqb-self}, Small.null-write}
 use Rattle.types.specs.{declared.Units.Units, Entries.unit}
-use Rattle.write_rate.proofs.{Prices.zero-first, Three.Three, Three.three-length, Three.room-1, Three.room-2, Three.room-3, Three.wrote-3}
+use Rattle.write_rate.proofs.{Prices.zero-first, Three.Three, Three.three-length, Three.room-1, Three.room-2, Three.room-3}
 use Rattle.write_charges.specs.inner.Octets.{numberOctets, typeOctets}
 
 -- ---- which may be written
@@ -50,7 +48,7 @@ module _ (u : Units) where
 -- ---- as they are put: x and y octets, of which its lead says how many
 
 module _ (u : Units) (x y : ℕ) (e : x ≡ length (numberOctets u)) (f : y ≡ length (typeOctets u)) where
-  unit-parts : Three (unit .write u) (lead 0x30 (x + y)) (numberOctets u) (typeOctets u)
+  pub unit-parts : Three (unit .write u) (lead 0x30 (x + y)) (numberOctets u) (typeOctets u)
   unit-parts =
       record { parts = unit-write u ∙ ap (λ (k : ℕ). lead 0x30 k ++ (numberOctets u ++ typeOctets u)) (length-append (numberOctets u) (typeOctets u) ∙ omega arith) }
 
@@ -66,7 +64,3 @@ module _ (u : Units) (x y : ℕ) (e : x ≡ length (numberOctets u)) (f : y ≡ 
 
     pub put-unit-3 : {m n : List ℕ} {b d : ℕ} → Wrote l m a (lead 0x30 (x + y)) b → Wrote m n b (numberOctets u) d → Room n d (typeOctets u)
     put-unit-3 = room-3 unit-parts h
-
-  pub put-unit-4 : {l m n o : List ℕ} {a b d z : ℕ} → Wrote l m a (lead 0x30 (x + y)) b → Wrote m n b (numberOctets u) d → Wrote n o d (typeOctets u) z
-      → Wrote l o a (unit .write u) z
-  put-unit-4 = wrote-3 unit-parts

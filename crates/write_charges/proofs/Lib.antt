@@ -1,3 +1,4 @@
+mod Cited
 pub mod Entry
 pub mod Listed
 pub mod Charged

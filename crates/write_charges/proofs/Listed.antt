@@ -1,9 +1,9 @@
 -- Which lists of units may be written.
-use Rattle.prelude.proofs.Prelude.{ℕ, _+_, _*_, _≤_, _<_, _≡_, refl, sym, ap, _∙_, not, _&&_, List, [], _∷_, arith, one-mul, add-one, length, getD, take, drop, leb, eqb}
+use Rattle.prelude.proofs.Prelude.{ℕ, _+_, _*_, _≤_, _<_, _≡_, refl, sym, ap, _∙_, not, _&&_, List, [], _∷_, arith, one-mul, add-one, length, getD, take, drop, leb, eqb, ne-eqb, le-leb}
 use Rattle.coding.specs.Codec.{all}
 use Rattle.types.specs.Entries.{unit, unitNumbers, unitOctets, unitAt, unitList}
-use Rattle.write_tests.specs.inner.Fine.{laid, unitsFine}
-use Rattle.write_rates.{specs.inner.Arrays.unusedZero, proofs.Tables.picks, proofs.Tables.picks-taken, proofs.Tables.list-fine}
+use Rattle.write_tests.specs.inner.Fine.{laid, unusedZero, unitsFine}
+use Rattle.write_rates.proofs.Tables.{picks, picks-taken, list-fine}
 
 -- a row holds its entry: a number and two octets
 module _ (numbers octets : List ℕ) (i : ℕ) where
@@ -21,3 +21,8 @@ unfolding unitsFine
 units-is numbers octets n ln lo =
     list-fine unit 32 1 2 unitNumbers unitOctets (unitAt (laid numbers octets)) numbers octets n n (2 * n) (one-mul n) refl ln lo (λ h. omega arith)
     (λ i l. unit-low numbers octets i (omega arith)) (λ i l. unit-small numbers octets i (omega arith))
+
+-- where there are 1 to 32 of them
+pub units-are : (numbers octets : List ℕ) (n : ℕ) → length numbers ≡ 32 → length octets ≡ 192 → (n ≡ 0 → ⊥) → n ≤ 32
+    → unitsFine (laid numbers octets) n ≡ unusedZero numbers octets n (2 * n) && all (unit .valid) (unitList (laid numbers octets) n)
+units-are numbers octets n ln lo some few = units-is numbers octets n ln lo ∙ rw (ne-eqb n 0 some, le-leb n 32 few)

@@ -133,7 +133,7 @@ fn units_fine(numbers: &[u32; 32], rows: &[u8; 192], count: u8) -> bool
     if 32 < n {
         return false;
     }
-    if !write_rates::unused_zero(numbers, rows, n, 2 * n) {
+    if !write_tests::unused_zero(numbers, rows, n, 2 * n) {
         return false;
     }
     units_valid(numbers, rows, n)

@@ -1,3 +1,4 @@
+mod Cited
 pub mod Forms
 pub mod Sizes
 pub mod Frames

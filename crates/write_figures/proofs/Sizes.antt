@@ -1,21 +1,17 @@
 -- The octets of a charge's parts, how many they are, and that each has room where all have.
-use Rattle.prelude.proofs.Prelude.{ℕ, suc, _+_, _≤_, _<_, _≡_, refl, sym, ap, ap₂, _∙_, List, [], _∷_, _++_, Bool, true, false, true≢false, _&&_, _||_, cond, arith, length, take}
-use Rattle.prelude.proofs.Prelude.{length-append, length-take}
-use Rattle.prelude.proofs.Prelude.{length-take-le, ltb, leb, leb·zero, eqb, eq-eqb, ne-eqb, eqb-true, eqb-false, le-ltb, ltb-true, ltb-false}
-use Rattle.coding.{specs.Codec.canonical, specs.Codec.over, specs.Codec.shape, specs.Codec.prim, specs.Codec.pair, specs.Codec.sort, specs.Codec.nothing, specs.Codec.leafOver, specs.Codec.cons}
-use Rattle.coding.{specs.Codec.lengthOctets, specs.Codec.padded, specs.Leaves.number, specs.Leaves.string, specs.Leaves.identifier, specs.Leaves.only, specs.Leaves.width}
-use Rattle.coding.{specs.inner.Written.Wrote, specs.inner.Written.Room, specs.inner.Written.lead, specs.inner.Written.fullNumber, proofs.Basic.and-left, proofs.Basic.and-right, proofs.Basic.and-both, proofs.Basic.unpicked}
-use Rattle.coding.{proofs.Writing.number-write, proofs.Writing.number-length, proofs.Writing.cons-write, proofs.Writing.lead-length-short, proofs.Writing.width-range}
-use Rattle.coding.{proofs.Writing.wrote-as, proofs.Writing.wrote-both, proofs.Writing.wrote-next, proofs.Writing.wrote-none, proofs.Writing.room-as, proofs.Writing.room-head}
-use Rattle.coding.proofs.{Writing.room-tail, Small.small-length, Small.string-write, Small.string-length, Small.id-length}
-use Rattle.prelude.proofs.Ways.{by-cases}
+use Rattle.prelude.proofs.Prelude.{ℕ, suc, _+_, _≤_, _<_, _≡_, refl, sym, ap, ap₂, _∙_, List, [], _∷_, _++_, Bool, true, false, true≢false, _&&_, _||_, cond}
+use Rattle.prelude.proofs.Prelude.{arith, length, take, length-append, length-take, length-take-le, ltb, leb, leb·zero, eqb, eq-eqb, ne-eqb, eqb-true}
+use Rattle.prelude.proofs.{Prelude.{eqb-false, le-ltb, ltb-true, ltb-false}, Ways.by-cases}
+use Rattle.coding.specs.{Codec.{canonical, over, shape, prim, pair, sort, nothing, leafOver, cons, lengthOctets, padded}, Leaves.{number, string, identifier}}
+use Rattle.coding.{specs.Leaves.{only, width}, specs.inner.Written.{Wrote, Room, lead, fullNumber}, proofs.Basic.{and-left, and-right, and-both, unpicked}}
+use Rattle.coding.proofs.Writing.{number-write, number-length, cons-write, lead-length-short, width-range, wrote-as, wrote-both, wrote-next, wrote-none}
+use Rattle.coding.proofs.{Writing.{room-as, room-head, room-tail}, Small.{small-length, string-write, string-length, id-length}}
 use Rattle.types.specs.{declared.Money.Money, declared.Currency.Currency, declared.Association.Association, declared.Scaled.Scaled, Charges.zeroOctet, Charges.scaled, Charges.currencyLeaf}
 use Rattle.types.specs.{Charges.currency, Charges.money, Charges.isDigit, Charges.isPlan, Charges.digitsLeaf, Charges.digitsOf}
 use Rattle.types.specs.{Charges.identified, Charges.planned, Charges.partyNumber, Charges.plainParty, Charges.party, Charges.unassociated, Charges.association}
 use Rattle.write_figures.specs.inner.Octets.{element, planTag}
-use Rattle.write_tests.{specs.inner.Fine.digitsFine, specs.inner.Fine.isPlanned, proofs.Truth.truth, proofs.Tests.scaled-is, proofs.Tests.money-is, proofs.Tests.planned-is, proofs.Tests.plain-is}
-use Rattle.write_tests.{proofs.Tests.number-planned}
-use Rattle.write_tests.{proofs.Tests.number-plain, proofs.Tests.association-number}
+use Rattle.write_tests.{specs.inner.Fine.{digitsFine, isPlanned}, proofs.Truth.truth}
+use Rattle.write_tests.proofs.Tests.{scaled-is, money-is, planned-is, plain-is, number-planned, number-plain, association-number}
 
 -- ---- by a test, by the kind of an association, by the time of a charge
 

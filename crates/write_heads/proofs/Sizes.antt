@@ -1,10 +1,8 @@
 -- The octets of a front that may be written, and how many they are.
-use Rattle.prelude.proofs.Prelude.{ℕ, _+_, _≤_, _<_, arith, _≡_, refl, sym, _∙_, true, false, true≢false, cond, _⊎_, inl, inr, [], _∷_, length, length-append, ltb, eqb, leb-true, ltb-true}
-use Rattle.prelude.proofs.Prelude.{ltb-false, eqb-true, eq-eqb, ne-eqb, lt-ltb, le-ltb}
-use Rattle.coding.{specs.Leaves.identifier, specs.Leaves.width, proofs.Number.width-1, proofs.Small.id-length, proofs.Small.id-range, proofs.Small.null-length, proofs.Holds.holds}
-use Rattle.coding.proofs.{Holds.cond-iff, Holds.and-iff, Holds.cases, Writing.number-length, Writing.width-range}
-use Rattle.prelude.proofs.Ways.{by-cases}
-use Rattle.coding.{proofs.Writing.lead-length-short, proofs.Writing.lead-length-long}
+use Rattle.prelude.proofs.Prelude.{ℕ, _+_, _≤_, _<_, arith, _≡_, refl, sym, _∙_, true, false, true≢false, cond, _⊎_, inl, inr, [], _∷_, length, length-append}
+use Rattle.prelude.proofs.{Prelude.{ltb, eqb, leb-true, ltb-true, ltb-false, eqb-true, eq-eqb, ne-eqb, lt-ltb, le-ltb}, Ways.by-cases}
+use Rattle.coding.{specs.Leaves.{identifier, width}, proofs.Number.width-1, proofs.Small.{id-length, id-range, null-length}}
+use Rattle.coding.proofs.{Holds.{holds, cond-iff, and-iff, cases}, Writing.{number-length, width-range, lead-length-short, lead-length-long}}
 use Rattle.types.specs.{Frames.operations, Frames.errors, declared.Front.Front}
 use Rattle.read_heads.proofs.Codes.{has-below}
 use Rattle.write_heads.specs.inner.Fronts.{frontFine, frontOctets, problemFine}

@@ -1,3 +1,4 @@
+mod Cited
 pub mod Three
 pub mod Prices
 pub mod Octets

@@ -1,18 +1,15 @@
 -- The octets of a valid rate, part by part, and how many they are.
-use Rattle.prelude.proofs.Prelude.{ℕ, _+_, _≤_, _<_, _≡_, refl, sym, ap, ap₂, _∙_, List, [], _∷_, _++_, append-nil, Bool, true, false, cond, arith, length, length-append, leb, eqb, eqb-true, eq-eqb, ne-eqb, leb-true, le-leb}
-use Rattle.prelude.proofs.Prelude.{lt-leb}
-use Rattle.coding.{specs.Codec.pair, specs.Codec.sort, specs.Codec.maybe, specs.Codec.over, specs.Codec.canonical, specs.Leaves.number, specs.inner.Written.lead, specs.inner.Written.fullNumber}
-use Rattle.coding.{proofs.Small.small-length, specs.inner.Written.Wrote, specs.inner.Written.Room}
-use Rattle.coding.specs.Codec.{pickRun, all, writeAll}
-use Rattle.coding.proofs.{Basic.and-right, Basic.and-both, Holds.and-iff, Holds.cond-iff, Holds.holds, Holds.cases, Writing.cons-write, Writing.number-write, Writing.lead-length-short, Small.null-write}
-use Rattle.prelude.proofs.Ways.{by-cases}
+use Rattle.prelude.proofs.Prelude.{ℕ, _+_, _≤_, _<_, _≡_, refl, sym, ap, ap₂, _∙_, List, [], _∷_, _++_, append-nil, Bool, true, false, cond, arith, length}
+use Rattle.prelude.proofs.{Prelude.{length-append, leb, eqb, eqb-true, eq-eqb, ne-eqb, leb-true, le-leb, lt-leb}, Ways.by-cases}
+use Rattle.coding.specs.{Codec.{pair, sort, maybe, over, canonical, pickRun, all, writeAll}, Leaves.number, inner.Written.{lead, fullNumber, Wrote, Room}}
+use Rattle.coding.proofs.{Small.{small-length, null-write}, Basic.{and-right, and-both}, Holds.{and-iff, cond-iff, holds, cases}}
+use Rattle.coding.proofs.Writing.{cons-write, number-write, lead-length-short}
 use Rattle.types.specs.{declared.Scaled.Scaled, declared.Rate.Rate, declared.Money.Money, Charges.scaled, Charges.money, Rates.moneyOf, Rates.timeOf, Rates.stepOf, Rates.duration}
 use Rattle.types.specs.Rates.{isRate, flatRate, volume, coded, plainRate, price, itemised, rate}
-use Rattle.write_figures.specs.inner.Octets.{element}
-use Rattle.write_figures.proofs.Sizes.{money-wider, money-same}
+use Rattle.write_figures.{specs.inner.Octets.element, proofs.Sizes.{money-wider, money-same}}
 use Rattle.write_tests.proofs.{Truth.kinds, Truth.other-kind, Tests.scaled-is}
 use Rattle.write_rate.specs.inner.Prices.{lastKind, detailFine, stepFine, timesFine, amountFine, priceFine, stepOctets, termOctets, pricedOctets, priceOctets}
-use Rattle.write_rate.proofs.{Three.Three, Three.three-length, Three.room-1, Three.room-2, Three.room-3, Three.wrote-3, Prices.common-kind, Prices.rate-is}
+use Rattle.write_rate.proofs.{Three.Three, Three.three-length, Three.room-1, Three.room-2, Three.room-3, Prices.common-kind, Prices.rate-is}
 
 -- ---- what a valid rate holds
 
@@ -108,7 +105,7 @@ module _ (trunk : Bool) (r : Rate) where
 -- ---- as they are put
 
 module _ (r : Rate) (k2 : r .kind ≡ 2 → ⊥) (k3 : r .kind ≡ 3 → ⊥) where
-  terms-parts : Three (termOctets r) (fullNumber 0x83 (r .detail)) ((scaled 0xa4) .write (timeOf r)) (stepOctets r)
+  pub terms-parts : Three (termOctets r) (fullNumber 0x83 (r .detail)) ((scaled 0xa4) .write (timeOf r)) (stepOctets r)
   unfolding termOctets
   terms-parts = record { parts = rw (ne-eqb (r .kind) 2 k2, ne-eqb (r .kind) 3 k3) }
 
@@ -125,17 +122,13 @@ module _ (r : Rate) (k2 : r .kind ≡ 2 → ⊥) (k3 : r .kind ≡ 3 → ⊥) wh
     pub put-terms-3 : {m n : List ℕ} {b d : ℕ} → Wrote l m a (fullNumber 0x83 (r .detail)) b → Wrote m n b ((scaled 0xa4) .write (timeOf r)) d → Room n d (stepOctets r)
     put-terms-3 = room-3 terms-parts h
 
-  pub put-terms-4 : {l m n o : List ℕ} {a b d e : ℕ} → Wrote l m a (fullNumber 0x83 (r .detail)) b → Wrote m n b ((scaled 0xa4) .write (timeOf r)) d
-      → Wrote n o d (stepOctets r) e → Wrote l o a (termOctets r) e
-  put-terms-4 = wrote-3 terms-parts
-
 pub priced-length : (r : Rate) → length (pricedOctets r) ≡ length ((money true) .write (moneyOf r)) + length (termOctets r)
 unfolding pricedOctets
 priced-length r = length-append ((money true) .write (moneyOf r)) (termOctets r)
 
 -- m is the amount, and k the length that its lead says
 module _ (r : Rate) (m : Money) (k : ℕ) (least : r .kind ≤ 3) (is : m ≡ moneyOf r) (e : k ≡ length (pricedOctets r)) where
-  price-parts : Three (priceOctets r) (lead (0xa0 + r .kind) k) ((money true) .write m) (termOctets r)
+  pub price-parts : Three (priceOctets r) (lead (0xa0 + r .kind) k) ((money true) .write m) (termOctets r)
   unfolding priceOctets pricedOctets
   price-parts = record { parts = rw (le-leb (r .kind) 3 least, is, e) }
 
@@ -153,10 +146,6 @@ module _ (r : Rate) (m : Money) (k : ℕ) (least : r .kind ≤ 3) (is : m ≡ mo
     pub put-priced-3 : {n o : List ℕ} {b d : ℕ} → Wrote l n a (lead (0xa0 + r .kind) k) b → Wrote n o b ((money true) .write m) d → Room o d (termOctets r)
     put-priced-3 = room-3 price-parts h
 
-  pub put-priced-4 : {l n o p : List ℕ} {a b d f : ℕ} → Wrote l n a (lead (0xa0 + r .kind) k) b → Wrote n o b ((money true) .write m) d
-      → Wrote o p d (termOctets r) f → Wrote l p a (priceOctets r) f
-  put-priced-4 = wrote-3 price-parts
-
 -- a rate of either family
 any-write : (trunk : Bool) (r : Rate) → (rate trunk) .valid r ≡ true → (rate trunk) .write r ≡ element 0x30 (fullNumber 0x0a (r .item) ++ priceOctets r)
 unfolding rate canonical over pair
@@ -165,7 +154,7 @@ any-write trunk r v =
     cons-write 0x30 _ r ∙ ap (element 0x30) (ap₂ (λ (x y : List ℕ). x ++ y) (number-write 0x0a 0 4 (r .item)) (price-write trunk r (p .least) (p .most)))
 
 module _ (r : Rate) (v : (rate true) .valid r ≡ true) (k : ℕ) (e : k ≡ length (priceOctets r)) where
-  rate-parts-3 : Three ((rate true) .write r) (lead 0x30 (3 + k)) (fullNumber 0x0a (r .item)) (priceOctets r)
+  pub rate-parts-3 : Three ((rate true) .write r) (lead 0x30 (3 + k)) (fullNumber 0x0a (r .item)) (priceOctets r)
   rate-parts-3 =
       let n : length (fullNumber 0x0a (r .item) ++ priceOctets r) ≡ 3 + k =
       length-append (fullNumber 0x0a (r .item)) (priceOctets r) ∙ omega (arith, small-length 0x0a (r .item) (omega (arith, rate-parts r v .item))) in
@@ -184,10 +173,6 @@ module _ (r : Rate) (v : (rate true) .valid r ≡ true) (k : ℕ) (e : k ≡ len
 
     pub put-rate-3 : {m n : List ℕ} {b d : ℕ} → Wrote l m a (lead 0x30 (3 + k)) b → Wrote m n b (fullNumber 0x0a (r .item)) d → Room n d (priceOctets r)
     put-rate-3 = room-3 rate-parts-3 h
-
-  pub put-rate-4 : {l m n o : List ℕ} {a b d f : ℕ} → Wrote l m a (lead 0x30 (3 + k)) b → Wrote m n b (fullNumber 0x0a (r .item)) d
-      → Wrote n o d (priceOctets r) f → Wrote l o a ((rate true) .write r) f
-  put-rate-4 = wrote-3 rate-parts-3
 
 -- ---- a trunk takes what document 01 takes, and writes it alike
 

@@ -1,10 +1,8 @@
 -- Which rates may be written.
-use Rattle.prelude.proofs.Prelude.{ℕ, _≤_, _≡_, refl, sym, ap, _∙_, List, Bool, true, false, not, _&&_, arith, replicate, leb, eqb, leb·zero, eqb-true, eqb-false, eq-eqb, leb-true, le-leb, lt-leb}
-use Rattle.prelude.proofs.Prelude.{not-true, not-false}
-use Rattle.coding.specs.{Codec.cons, Codec.prim, Codec.pair, Codec.sort, Codec.maybe, Codec.over, Codec.canonical, Codec.pickRun, Codec.sameList, Codec.validMaybe, Leaves.number, Leaves.nullLeaf}
-use Rattle.coding.{specs.Leaves.isSome, proofs.Padded.eqbEqual, proofs.Padded.listEqual, proofs.Tests.and-true, proofs.Tests.ands, proofs.Tests.eqb-self}
-use Rattle.prelude.proofs.Ways.{by-cases}
-use Rattle.coding.proofs.Basic.{and-left, and-right, and-both}
+use Rattle.prelude.proofs.Prelude.{ℕ, _≤_, _≡_, refl, sym, ap, _∙_, List, Bool, true, false, not, _&&_, arith, replicate, leb, eqb, leb·zero, eqb-true}
+use Rattle.prelude.proofs.{Prelude.{eqb-false, eq-eqb, leb-true, le-leb, lt-leb, not-true, not-false}, Ways.by-cases}
+use Rattle.coding.specs.{Codec.{cons, prim, pair, sort, maybe, over, canonical, pickRun, sameList, validMaybe}, Leaves.{number, nullLeaf, isSome}}
+use Rattle.coding.proofs.{Padded.{eqbEqual, listEqual}, Tests.{and-true, ands, eqb-self}, Basic.{and-left, and-right, and-both}}
 use Rattle.types.specs.{declared.Rate.Rate, Charges.flag, Charges.noMoney, Charges.scaled, Charges.money, Rates.scaledOr0, Rates.moneyOf, Rates.timeOf, Rates.stepOf, Rates.duration}
 use Rattle.types.specs.{Rates.isRate, Rates.flatRate, Rates.volume, Rates.coded, Rates.plainRate, Rates.price, Rates.itemised, Rates.rate, Arguments.sameMoney}
 use Rattle.write_tests.proofs.Truth.{same-truth, kinds, other-kind}

@@ -1,7 +1,6 @@
 -- Octets in three parts, and octets under another name: room for each part after those before it, and what was stored in all.
 use Rattle.prelude.proofs.Prelude.{ℕ, _+_, _≡_, sym, ap, _∙_, subst, List, [], _++_, arith, length, length-append}
-use Rattle.coding.specs.inner.Written.{Wrote, Room}
-use Rattle.coding.proofs.Writing.{wrote-as, wrote-both, wrote-next, wrote-none, split, room-first, room-rest, wrote-parts}
+use Rattle.coding.{specs.inner.Written.{Wrote, Room}, proofs.Writing.{wrote-as, wrote-both, wrote-next, wrote-none, split, room-first, room-rest, wrote-parts}}
 
 pub record Three (all xs ys zs : List ℕ) : Type 0 where
   pub parts : all ≡ xs ++ (ys ++ zs)

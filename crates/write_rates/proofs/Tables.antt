@@ -1,15 +1,13 @@
 -- Lists in rows: loops over the entries of a table, and arrays that hold the rows of a table and zeros after them.
 use Rattle.prelude.proofs.Prelude.{ℕ, zero, suc, _+_, _-_, _*_, _≤_, _<_, _≡_, refl, sym, ap, ap₂, _∙_, List, [], _∷_, _++_, append-nil, append-assoc, Bool, true, false, not, _&&_, arith}
-use Rattle.prelude.proofs.Prelude.{mul-zero, mul-suc, add-one, length, getD, take, drop, replicate, length-append, length-drop, take-append-drop, take-add, drop-cons, drop-length}
-use Rattle.prelude.proofs.Prelude.{length-take-le, getD-drop, ltb, leb, eqb, eq-eqb, ne-eqb, leb-true, ltb-true, ltb-false, not-true, not-false}
+use Rattle.prelude.proofs.Prelude.{mul-zero, mul-suc, add-one, length, getD, take, drop, replicate, length-append, take-append-drop, take-add, drop-cons, drop-length}
+use Rattle.prelude.proofs.Prelude.{length-take-le, ltb, leb, eqb, eq-eqb, ne-eqb, leb-true, ltb-true, ltb-false, not-true, not-false}
 use Rattle.coding.{specs.Codec.Run, specs.Codec.all, specs.Codec.writeAll, specs.Codec.some·more, specs.Codec.sameList, specs.Codec.pad, specs.inner.Written.Wrote, specs.inner.Written.Room}
 use Rattle.coding.{specs.Rows.rows, specs.Rows.table, proofs.Basic.and-left, proofs.Basic.and-right, proofs.Writing.wrote-as, proofs.Writing.wrote-both, proofs.Writing.wrote-next}
 use Rattle.coding.{proofs.Writing.wrote-none, proofs.Writing.Split, proofs.Writing.split, proofs.Writing.room-first, proofs.Writing.room-rest, proofs.Rows.table-length}
 use Rattle.coding.{proofs.Rows.table-more, proofs.Rows.rows-append, proofs.Tests.and-false}
-use Rattle.octets.proofs.Clear.{zeros-more, zeros-whole}
-use Rattle.write_tests.specs.inner.Fine.{laid}
+use Rattle.write_tests.specs.inner.Fine.{laid, zeroPast, unusedZero}
 use Rattle.types.specs.Arguments.{sameEntries}
-use Rattle.write_rates.specs.inner.Arrays.{zeroPast, unusedZero}
 
 -- ---- the entries from i on
 
@@ -135,21 +133,6 @@ past-same n m a e h =
     let l : n - length (take m a) ≡ length a - m = omega (arith, e, length-take-le m a (omega arith)) in
     ap₂ (λ (k : ℕ) (t : List ℕ). sameList eqb (take m a ++ replicate k 0) t) l (sym (take-append-drop m a))
     ∙ same-append (take m a) (replicate (length a - m) 0) (drop m a)
-
--- a loop that tests whether all of n places is zero past the first m: j of those are tested
-pub record Clear (m n : ℕ) (a : List ℕ) (j : ℕ) (b : Bool) : Type 0 where
-  pub most : j ≤ n - m
-  pub same : b ≡ sameList eqb (replicate j 0) (take j (drop m a))
-
-module _ {m n : ℕ} {a : List ℕ} {j : ℕ} {b : Bool} where
-  pub clear-more : {x : ℕ} {r : Bool} → Clear m n a j b → length a ≡ n → j < n - m → r ≡ b && eqb 0 x → x ≡ getD a (m + j) 0 → Clear m n a (j + 1) r
-  clear-more {x} {r} z e h q i = record {
-    most = omega arith;
-    same = zeros-more (drop m a) j b r (omega (arith, e, length-drop m a)) (z .same) (q ∙ ap (λ (y : ℕ). b && eqb 0 y) (i ∙ sym (getD-drop m a j 0)));
-  }
-
-  pub clear-done : Clear m n a j b → length a ≡ n → (j < n - m → ⊥) → b ≡ zeroPast m a
-  clear-done z e h = zeros-whole (drop m a) j (length a - m) b (omega (arith, e, z .most)) (length-drop m a) (z .same)
 
 -- k places of an array from a place on
 unfoldable pub picks : ℕ → ℕ → List ℕ → List ℕ

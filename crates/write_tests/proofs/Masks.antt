@@ -1,13 +1,13 @@
--- A figure without an association may be written exactly where what its kind's mask leaves out is zero and what the kind uses is in range.
+-- A figure may be written exactly where its association may, what its kind's mask leaves out is zero, and what the kind uses is in range.
 use Rattle.prelude.proofs.Prelude.{ℕ, zero, suc, _+_, _*_, _<_, _≡_, refl, sym, ap, ap₂, _∙_, List, [], _∷_, _++_, Bool, true, false, not, _&&_, _||_, cond, arith, length}
-use Rattle.prelude.proofs.Prelude.{getD, replicate, leb, eqb, eqb-true, eq-eqb, true≢false}
+use Rattle.prelude.proofs.Prelude.{getD, replicate, leb, eqb, eqb-true, eq-eqb}
 use Rattle.prelude.proofs.Ways.{by-cases}
 use Rattle.coding.{specs.Codec.sameList, specs.Reader.part, proofs.Tests.ands, proofs.Tests.and-assoc, proofs.Tests.and-true, proofs.Tests.and-false, proofs.Basic.and-left, proofs.Basic.and-right, proofs.Basic.picked, proofs.Basic.unpicked}
 use Rattle.types.specs.{declared.Figure.Figure, Charges.noMoney, Charges.noAssociation, Charges.sameAssociation, Charges.money, Charges.association}
 use Rattle.types.specs.{Stored.figureIn, Stored.moneyIn, Stored.associationIn, Arguments.sameMoney}
 use Rattle.types.proofs.Stored.{spread, by-octets}
 use Rattle.write_tests.specs.{inner.Fine.figureFine, inner.Fine.marksFine, inner.Fine.moneyFine, inner.Fine.associationFine, inner.Fine.pricedMarks, inner.Fine.bareKind}
-use Rattle.write_tests.specs.inner.Masks.{masked, moneyMask, unitsMask, arrangedMask, bareMask, clearBut, billedFine, pricedFine, arrangedFine, associated, maskedFine}
+use Rattle.write_tests.specs.inner.Masks.{masked, withMoney, withoutMoney, clearBut, billedFine, pricedFine, arrangedFine, associated, maskedFine}
 use Rattle.write_tests.proofs.{Truth.same-truth, Tests.association-0}
 
 -- ---- zeros, in runs of octets
@@ -15,9 +15,9 @@ use Rattle.write_tests.proofs.{Truth.same-truth, Tests.association-0}
 abbrev zeros : List ℕ → Bool
 zeros xs = sameList eqb (replicate (length xs) 0) xs
 
-zeros-both : (xs ys : List ℕ) → zeros (xs ++ ys) ≡ zeros xs && zeros ys
-zeros-both [] ys = refl
-zeros-both (x ∷ xs) ys = ap (λ (b : Bool). eqb 0 x && b) (zeros-both xs ys) ∙ sym (and-assoc (eqb 0 x) (zeros xs) (zeros ys))
+zeros-then : (xs ys zs : List ℕ) → sameList eqb (replicate (length xs) 0 ++ zs) (xs ++ ys) ≡ zeros xs && sameList eqb zs ys
+zeros-then [] ys zs = refl
+zeros-then (x ∷ xs) ys zs = ap (λ (b : Bool). eqb 0 x && b) (zeros-then xs ys zs) ∙ sym (and-assoc (eqb 0 x) (zeros xs) (sameList eqb zs ys))
 
 -- a number of two octets, and one of four
 two-zero : (x y : ℕ) → eqb 0 (x + 256 * y) ≡ eqb 0 x && eqb 0 y
@@ -55,7 +55,7 @@ masked-at (u ∷ us) (x ∷ xs) (suc i) h l = masked-at us xs i (omega arith) (o
 -- ---- the parts of a figure that lie in 48 octets
 
 module _ (f : ℕ → ℕ) where
-  abbrev s : List ℕ
+  abbrev pub s : List ℕ
   s = spread 48 f
 
   abbrev moneyOctets : List ℕ
@@ -64,16 +64,22 @@ module _ (f : ℕ → ℕ) where
   abbrev associationOctets : List ℕ
   associationOctets = spread 26 (λ i. f (16 + i))
 
-  money-zero : zeros moneyOctets ≡ sameMoney noMoney (moneyIn s)
+  abbrev pub noneMoney : Bool
+  noneMoney = sameMoney noMoney (moneyIn s)
+
+  abbrev pub noneAssociated : Bool
+  noneAssociated = sameAssociation noAssociation (associationIn s)
+
+  money-zero : zeros moneyOctets ≡ noneMoney
   unfolding part
   money-zero =
-      ap (λ (b : Bool). eqb 0 (f 0) && b) (zeros-both (spread 10 (λ i. f (1 + i))) (spread 5 (λ i. f (11 + i))))
+      ap (λ (b : Bool). eqb 0 (f 0) && b) (zeros-then (spread 10 (λ i. f (1 + i))) (spread 5 (λ i. f (11 + i))) (replicate 5 0))
       ∙ rw (four-zero (f 12) (f 13) (f 14) (f 15)) (go (eqb 0 (f 0)) (zeros (spread 10 (λ i. f (1 + i)))) (eqb 0 (f 11)) (eqb 0 (f 12)) (eqb 0 (f 13)) (eqb 0 (f 14)) (eqb 0 (f 15)))
     where
       go : (c o m x y z w : Bool) → c && (o && (m && (x && (y && (z && (w && true)))))) ≡ (c && o) && (m && (x && (y && (z && w))))
       go c o m x y z w = simp ands
 
-  association-zero : zeros associationOctets ≡ sameAssociation noAssociation (associationIn s)
+  association-zero : zeros associationOctets ≡ noneAssociated
   unfolding part
   association-zero =
       rw (two-zero (f 16) (f 17), two-zero (f 18) (f 19))
@@ -82,46 +88,58 @@ module _ (f : ℕ → ℕ) where
       go : (a b c d k p z : Bool) → a && (b && (c && (d && (k && (p && z))))) ≡ ((a && b) && (c && d)) && ((k && p) && z)
       go a b c d k p z = simp ands
 
-  -- what must be zero of a figure with money, and of one with none and of which some small fields must be zero
-  money-clear : clearBut moneyMask s ≡ sameAssociation noAssociation (associationIn s) && eqb 0 (f 46)
+  -- what a mask says of the association's octets and of the small fields
+  abbrev pub unassociated : Bool → Bool
+  unassociated a = cond a true noneAssociated
+
+  abbrev smallOctets : List ℕ → List ℕ
+  smallOctets small = masked small (spread 6 (λ i. f (42 + i)))
+
+  abbrev pub smallClear : List ℕ → Bool
+  smallClear small = sameList eqb (replicate 6 0) (smallOctets small)
+
+  pub with-money : (a : Bool) (small : List ℕ) → clearBut (withMoney a small) s ≡ unassociated a && smallClear small
   unfolding clearBut
-  money-clear = zeros-both associationOctets (f 46 ∷ []) ∙ ap₂ (λ (a b : Bool). a && b) association-zero (and-true (eqb 0 (f 46)))
+  with-money true small = refl
+  with-money false small = zeros-then associationOctets (smallOctets small) (replicate 6 0) ∙ ap (λ (b : Bool). b && smallClear small) association-zero
 
-  none-clear : (xs : List ℕ) → zeros (moneyOctets ++ (associationOctets ++ xs)) ≡ (sameMoney noMoney (moneyIn s) && sameAssociation noAssociation (associationIn s)) && zeros xs
-  none-clear xs =
-      zeros-both moneyOctets (associationOctets ++ xs)
-      ∙ ap₂ (λ (a b : Bool). a && b) money-zero (zeros-both associationOctets xs ∙ ap (λ (a : Bool). a && zeros xs) association-zero)
-      ∙ simp ands
+  pub without-money : (a : Bool) (small : List ℕ) → clearBut (withoutMoney a small) s ≡ noneMoney && (unassociated a && smallClear small)
+  unfolding clearBut
+  without-money true small =
+      zeros-then moneyOctets (replicate 26 0 ++ smallOctets small) (replicate 32 0) ∙ ap (λ (b : Bool). b && smallClear small) money-zero
+  without-money false small =
+      zeros-then moneyOctets (associationOctets ++ smallOctets small) (replicate 32 0)
+      ∙ ap₂ (λ (b c : Bool). b && c) money-zero
+      (zeros-then associationOctets (smallOctets small) (replicate 6 0) ∙ ap (λ (b : Bool). b && smallClear small) association-zero)
 
-  -- ---- a figure without an association, by its kind
+  -- ---- a figure by its kind
 
   abbrev g : Figure
   g = figureIn s
 
-  abbrev noneMoney : Bool
-  noneMoney = sameMoney noMoney (moneyIn s)
+  module _ (o : ℕ) where
+    abbrev a : Bool
+    a = associated o g
 
-  abbrev noneAssociated : Bool
-  noneAssociated = sameAssociation noAssociation (associationIn s)
+    -- the association's own test where there is one, and zeros where there is none
+    abbrev fine : Bool
+    fine = cond a ((association false) .valid (associationIn s)) true
 
-  module _ (o : ℕ) (h : associated o (figureIn s) ≡ false) where
-    alone : associationFine o g ≡ noneAssociated
+    by-association : associationFine o g ≡ fine && unassociated a
     unfolding associationFine figureIn
-    alone =
-        by-cases (leb 35 o && not (eqb (f 42) 0))
-        (λ t. picked _ _ t ∙ association-0 false (associationIn s) (eqb-true (f 20) 0 (go (leb 35 o) (not (eqb (f 42) 0)) (eqb (f 20) 0) t h)))
-        (λ t. unpicked _ _ t)
+    by-association =
+        go (leb 35 o) (not (eqb (f 42) 0)) (eqb (f 20) 0) ((association false) .valid (associationIn s)) noneAssociated (λ h. association-0 false (associationIn s) (eqb-true (f 20) 0 h))
       where
-        go : (l k p : Bool) → l && k ≡ true → l && (k && not p) ≡ false → p ≡ true
-        go true true true t q = refl
-        go true true false t q = absurd (true≢false q)
-        go true false p t q = absurd (true≢false (sym t))
-        go false k p t q = absurd (true≢false (sym t))
+        go : (l k p v n : Bool) → (p ≡ true → v ≡ n) → cond (l && k) v n ≡ cond (l && (k && not p)) v true && cond (l && (k && not p)) true n
+        go true true true v n e = e refl
+        go true true false v n e = sym (and-true v)
+        go true false p v n e = refl
+        go false k p v n e = refl
 
     -- the parts, each by what it is
-    as-parts : {m p : Bool} → marksFine o g ≡ m → moneyFine g ≡ p → figureFine o g ≡ m && (p && noneAssociated)
+    as-parts : {m p : Bool} → marksFine o g ≡ m → moneyFine g ≡ p → figureFine o g ≡ m && (p && (fine && unassociated a))
     unfolding figureFine
-    as-parts e q = rw (e, q, alone)
+    as-parts e q = rw (e, q, by-association)
 
     marks-priced : (during ending : ℕ) → pricedMarks during ending o g ≡ eqb 0 (f 46) && pricedFine during ending o (f 43) (f 44) (f 45)
     unfolding figureIn
@@ -132,55 +150,62 @@ module _ (f : ℕ → ℕ) where
         go : (t r b : Bool) → (t && r) && b ≡ r && (t && b)
         go t r b = simp ands
 
-    of-money : eqb (f 42) 2 ≡ true → figureFine o g ≡ maskedFine o s
+    abbrev Masked : Type 0
+    Masked = figureFine o g ≡ fine && maskedFine a o s
+
+    of-money : eqb (f 42) 2 ≡ true → Masked
     unfolding marksFine moneyFine maskedFine figureIn
     of-money q =
         as-parts (picked _ _ q ∙ marks-priced 33 35) (picked _ _ q)
-        ∙ go (eqb 0 (f 46)) (pricedFine 33 35 o (f 43) (f 44) (f 45)) ((money false) .valid (moneyIn s)) noneAssociated
-        ∙ sym (picked _ _ q ∙ ap (λ (b : Bool). b && (pricedFine 33 35 o (f 43) (f 44) (f 45) && (money false) .valid (moneyIn s))) money-clear)
+        ∙ go (eqb 0 (f 46)) (pricedFine 33 35 o (f 43) (f 44) (f 45)) ((money false) .valid (moneyIn s)) fine (unassociated a)
+        ∙ ap (λ (b : Bool). fine && b)
+        (sym (picked _ _ q ∙ ap (λ (b : Bool). b && (pricedFine 33 35 o (f 43) (f 44) (f 45) && (money false) .valid (moneyIn s))) (with-money a _)))
       where
-        go : (r p m a : Bool) → (r && p) && (m && a) ≡ (a && r) && (p && m)
-        go r p m a = simp ands
+        go : (r p m v n : Bool) → (r && p) && (m && (v && n)) ≡ v && ((n && (r && true)) && (p && m))
+        go r p m v n = simp ands
 
     module _ (n2 : eqb (f 42) 2 ≡ false) where
-      of-units : eqb (f 42) 3 ≡ true → figureFine o g ≡ maskedFine o s
-      unfolding marksFine moneyFine maskedFine clearBut figureIn
+      of-units : eqb (f 42) 3 ≡ true → Masked
+      unfolding marksFine moneyFine maskedFine figureIn
       of-units q =
           as-parts (unpicked _ _ n2 ∙ picked _ _ q ∙ marks-priced 34 36) (unpicked _ _ n2)
-          ∙ go (eqb 0 (f 46)) (pricedFine 34 36 o (f 43) (f 44) (f 45)) noneMoney noneAssociated
-          ∙ sym (unpicked _ _ n2 ∙ picked _ _ q ∙ ap (λ (b : Bool). b && pricedFine 34 36 o (f 43) (f 44) (f 45)) (none-clear (f 46 ∷ [])))
+          ∙ go (eqb 0 (f 46)) (pricedFine 34 36 o (f 43) (f 44) (f 45)) noneMoney fine (unassociated a)
+          ∙ ap (λ (b : Bool). fine && b)
+          (sym (unpicked _ _ n2 ∙ picked _ _ q ∙ ap (λ (b : Bool). b && pricedFine 34 36 o (f 43) (f 44) (f 45)) (without-money a _)))
         where
-          go : (r p m a : Bool) → (r && p) && (m && a) ≡ ((m && a) && (r && true)) && p
-          go r p m a = simp ands
+          go : (r p m v n : Bool) → (r && p) && (m && (v && n)) ≡ v && ((m && (n && (r && true))) && p)
+          go r p m v n = simp ands
 
       module _ (n3 : eqb (f 42) 3 ≡ false) where
-        of-arrangement : eqb (f 42) 5 ≡ true → figureFine o g ≡ maskedFine o s
-        unfolding marksFine moneyFine maskedFine clearBut figureIn
+        of-arrangement : eqb (f 42) 5 ≡ true → Masked
+        unfolding marksFine moneyFine maskedFine figureIn
         of-arrangement q =
             as-parts (unpicked _ _ n2 ∙ unpicked _ _ n3 ∙ picked _ _ q) (unpicked _ _ n2)
-            ∙ go (eqb o 30 || eqb o 32) (eqb 0 (f 43)) (leb 1 (f 46) && leb (f 46) 10) (eqb 0 (f 44)) (eqb 0 (f 45)) noneMoney noneAssociated
-            ∙ sym (unpicked _ _ n2 ∙ unpicked _ _ n3 ∙ picked _ _ q ∙ ap (λ (b : Bool). b && arrangedFine o (f 46)) (none-clear (f 43 ∷ f 44 ∷ f 45 ∷ [])))
+            ∙ go (eqb o 30 || eqb o 32) (eqb 0 (f 43)) (leb 1 (f 46) && leb (f 46) 10) (eqb 0 (f 44)) (eqb 0 (f 45)) noneMoney fine (unassociated a)
+            ∙ ap (λ (b : Bool). fine && b)
+            (sym (unpicked _ _ n2 ∙ unpicked _ _ n3 ∙ picked _ _ q ∙ ap (λ (b : Bool). b && arrangedFine o (f 46)) (without-money a _)))
           where
-            go : (w t l d b m a : Bool) → (w && ((t && l) && (d && b))) && (m && a) ≡ ((m && a) && (t && (d && (b && true)))) && (w && l)
-            go w t l d b m a = simp ands
+            go : (w t l d b m v n : Bool) → (w && ((t && l) && (d && b))) && (m && (v && n)) ≡ v && ((m && (n && (t && (d && (b && true))))) && (w && l))
+            go w t l d b m v n = simp ands
 
-        of-bare : eqb (f 42) 5 ≡ false → figureFine o g ≡ maskedFine o s
-        unfolding marksFine moneyFine maskedFine clearBut figureIn
+        of-bare : eqb (f 42) 5 ≡ false → Masked
+        unfolding marksFine moneyFine maskedFine figureIn
         of-bare n5 =
             as-parts (unpicked _ _ n2 ∙ unpicked _ _ n3 ∙ unpicked _ _ n5) (unpicked _ _ n2)
-            ∙ go (bareKind o (f 42)) (eqb 0 (f 43)) (eqb 0 (f 46)) (eqb 0 (f 44)) (eqb 0 (f 45)) noneMoney noneAssociated
-            ∙ sym (unpicked _ _ n2 ∙ unpicked _ _ n3 ∙ unpicked _ _ n5 ∙ ap (λ (b : Bool). b && bareKind o (f 42)) (none-clear (f 43 ∷ f 44 ∷ f 45 ∷ f 46 ∷ [])))
+            ∙ go (bareKind o (f 42)) (eqb 0 (f 43)) (eqb 0 (f 46)) (eqb 0 (f 44)) (eqb 0 (f 45)) noneMoney fine (unassociated a)
+            ∙ ap (λ (b : Bool). fine && b)
+            (sym (unpicked _ _ n2 ∙ unpicked _ _ n3 ∙ unpicked _ _ n5 ∙ ap (λ (b : Bool). b && bareKind o (f 42)) (without-money a _)))
           where
-            go : (k t r d b m a : Bool) → (k && ((t && r) && (d && b))) && (m && a) ≡ ((m && a) && (t && (d && (b && (r && true))))) && k
-            go k t r d b m a = simp ands
+            go : (k t r d b m v n : Bool) → (k && ((t && r) && (d && b))) && (m && (v && n)) ≡ v && ((m && (n && (t && (d && (b && (r && true)))))) && k)
+            go k t r d b m v n = simp ands
 
-    by-kind : figureFine o g ≡ maskedFine o s
+    by-kind : Masked
     by-kind =
         by-cases (eqb (f 42) 2) of-money (λ n2. by-cases (eqb (f 42) 3) (of-units n2) (λ n3. by-cases (eqb (f 42) 5) (of-arrangement n2 n3) (of-bare n2 n3)))
 
-pub figure-masked : (o : ℕ) (s : List ℕ) → length s ≡ 48 → associated o (figureIn s) ≡ false → figureFine o (figureIn s) ≡ maskedFine o s
-figure-masked o s = by-octets 48 (λ (s : List ℕ). associated o (figureIn s) ≡ false → figureFine o (figureIn s) ≡ maskedFine o s) (λ f. by-kind f o) s
-
--- by the test that the code made
-pub by-masks : {r x : Bool} (o : ℕ) (s : List ℕ) → length s ≡ 48 → r ≡ associated o (figureIn s) → r ≡ false → x ≡ maskedFine o s → x ≡ figureFine o (figureIn s)
-by-masks o s e a h q = q ∙ sym (figure-masked o s e (sym a ∙ h))
+-- by the tests that the code made
+pub by-masks : {a x : Bool} (o : ℕ) (s : List ℕ) → length s ≡ 48 → a ≡ associated o (figureIn s)
+    → x ≡ cond a ((association false) .valid (associationIn s)) true && maskedFine a o s → x ≡ figureFine o (figureIn s)
+by-masks o s e h q =
+    q ∙ ap (λ (a : Bool). cond a ((association false) .valid (associationIn s)) true && maskedFine a o s) h
+    ∙ sym (by-octets 48 (λ (s : List ℕ). figureFine o (figureIn s) ≡ cond (associated o (figureIn s)) ((association false) .valid (associationIn s)) true && maskedFine (associated o (figureIn s)) o s) (λ f. by-kind f o) s e)

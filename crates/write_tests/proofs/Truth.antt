@@ -64,6 +64,9 @@ identified-order c k p z = simp ands
 pub digits-order : (n z o d : Bool) → (n && z) && (o && (true && d)) ≡ ((o && n) && z) && d
 digits-order n z o d = simp ands
 
+pub currency-order : (n z o d : Bool) → (n && z) && (o && (true && d)) ≡ o && (n && (z && d))
+currency-order n z o d = simp ands
+
 pub public-order : (i l k s p d : Bool) → ((i && l) && ((k && true) && s)) && (p && d) ≡ (k && (i && p)) && ((l && s) && d)
 public-order i l k s p d = simp ands
 

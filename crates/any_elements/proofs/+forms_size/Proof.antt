@@ -62,12 +62,13 @@ pub +forms-size-spec : {M : Type 1} → statement M
     (λ c κs. let n = c .before .before in let g = goes (element t (n .before .before)) in (omega (arith, g), omega arith))
     (λ c κs.
     let e = element t (c .before .before .before .before .before) in
-    (c .before .if4 .left, sized-small (e .place .limit) (goes e .3) (c .forms-size2 .ensures)))
+    (omega arith, sized-small (e .place .limit) (goes e .3) (c .forms-size2 .ensures)))
     (λ c.
     let r = c .before in
     let f = r .before .before in
-    node-joined (element t (f .before .before .before)) (eq-eqb _ 1 (f .before .if3 .taken)) (f .forms-size .ensures)
-    (r .before .if4 .left) (r .forms-size2 .ensures) (c .joined .ensures))
+    let e = element t (f .before .before .before) in
+    let node = node-joined e (eq-eqb _ 1 (f .before .if3 .taken)) (f .forms-size .ensures) (r .before .if4 .left) (r .forms-size2 .ensures) in
+    omega (arith, c .joined .ensures, node))
     (λ c κs. let g = goes (element t (c .before .before)) in (omega (arith, g), omega arith))
     (λ c κs.
     let e = element t (c .before .before .before) in
@@ -76,4 +77,5 @@ pub +forms-size-spec : {M : Type 1} → statement M
     (λ c.
     let r = c .before in
     let n = r .before in
-    leaf-joined (element t (n .before .before)) (ne-eqb _ 1 (n .if3 .left)) (r .forms-size3 .ensures) (c .joined2 .ensures))
+    let leaf = leaf-joined (element t (n .before .before)) (ne-eqb _ 1 (n .if3 .left)) (r .forms-size3 .ensures) in
+    omega (arith, c .joined2 .ensures, leaf))

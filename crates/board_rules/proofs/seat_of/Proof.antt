@@ -7,8 +7,7 @@ pub seat-of-spec : {M : Type 1} → statement M
 unfolding seatOf
 seat-of-spec =
     tie.close
-    (tie.spec
-    (omega arith)
+    (tie.spec (omega arith)
     (λ c. let e = c .before in let f = e .before .before in
     rw (ne-eqb _ 1 (e .if1 .taken), ← f .slot-at .ensures, eq-eqb _ 64 (c .if2 .taken)) refl)
     (λ c. let e = c .before in let f = e .before .before in

@@ -34,14 +34,6 @@ returns-2 c =
 pub slot-of-spec : {M : Type 1} → statement M
 slot-of-spec =
     tie.close
-    (tie.spec
-    Inv-loop
-    μ-loop
+    (tie.spec Inv-loop μ-loop
     (λ c. (omega arith, search-begins _ _))
-    (omega arith)
-    (omega arith)
-    returns
-    (omega arith)
-    (omega arith)
-    loop-again
-    returns-2)
+    (omega arith) (omega arith) returns (omega arith) (omega arith) loop-again returns-2)

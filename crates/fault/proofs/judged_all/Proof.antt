@@ -52,20 +52,9 @@ returns c =
 pub judged-all-spec : {M : Type 1} → statement M
 judged-all-spec =
     tie.close
-    (tie.spec
-    Inv-loop
-    μ-loop
-    (omega arith)
-    begin
-    (omega arith)
+    (tie.spec Inv-loop μ-loop (omega arith) begin (omega arith)
     (λ c. omega (arith, ends c))
-    (omega arith)
-    (omega arith)
-    (omega arith)
-    (omega arith)
+    (omega arith) (omega arith) (omega arith) (omega arith)
     (λ c. omega (arith, ends (c .before)))
     (λ c κs. let in-loop = c .before .before .before in let call = in-loop .before .before .before in (call .before .before .pre, omega (arith, in-loop .loop-test .taken)))
-    (omega arith)
-    loop-again
-    (omega arith)
-    returns)
+    (omega arith) loop-again (omega arith) returns)

@@ -52,19 +52,12 @@ returns c =
 pub last-in-spec : {M : Type 1} → statement M
 last-in-spec =
     tie.close
-    (tie.spec
-    Inv-loop
-    μ-loop
-    (omega arith)
-    begin
+    (tie.spec Inv-loop μ-loop (omega arith) begin
     (λ c κs. let call = c .before .before .before in omega (arith, c .loop-test .taken, call .before .before .pre .1))
     (λ c. omega (arith, ends c))
     (λ c κs. omega (arith, c .before .loop-test .taken, start c .pre .1))
-    (omega arith)
-    (omega arith)
+    (omega arith) (omega arith)
     (λ c. omega (arith, ends (c .before)))
     (omega arith)
     (λ c. let n = c .before .before .before in omega (arith, n .before .loop-test .taken, start n .fits .k .fits))
-    (omega arith)
-    loop-again
-    returns)
+    (omega arith) loop-again returns)

@@ -27,10 +27,7 @@ module _ (m : tie.After-counted-money) where
 pub last-next-spec : {M : Type 1} → statement M
 last-next-spec =
     tie.close
-    (tie.spec
-    (omega arith)
-    (omega arith)
-    (omega arith)
+    (tie.spec (omega arith) (omega arith) (omega arith)
     (λ c. sym (leaves (c .before) (sym (not-true _ (c .if1 .taken))) refl))
     (omega arith)
     (λ c. let e = c .before .before in

@@ -25,12 +25,8 @@ last-of-spec =
     tie.close
     (tie.spec
     (λ c. search ways)
-    (omega arith)
-    (omega arith)
+    (omega arith) (omega arith)
     (λ c. rw (c .thousandths .ensures .0) (search ways))
     (λ c. search ways)
-    (omega arith)
-    (omega arith)
-    returns-4
-    (λ c κs. search needs)
+    (omega arith) (omega arith) returns-4 (λ c κs. search needs)
     (λ c. rw (c .last-in .ensures) (search ways)))

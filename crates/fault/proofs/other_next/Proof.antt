@@ -19,10 +19,7 @@ returns-4 c =
 pub other-next-spec : {M : Type 1} → statement M
 other-next-spec =
     tie.close
-    (tie.spec
-    (omega arith)
+    (tie.spec (omega arith)
     (λ c. rw (sym (c .before .counted-money .ensures) ∙ not-true _ (c .if1 .taken)) refl)
     (λ c. let e = c .before .before in rw (sym (e .before .counted-money .ensures) ∙ not-false _ (e .if1 .left), ne-eqb _ 1 (c .if2 .taken)) refl)
-    (omega arith)
-    returns-3
-    returns-4)
+    (omega arith) returns-3 returns-4)

@@ -38,18 +38,7 @@ returns-2 c =
 pub zero-units-spec : {M : Type 1} → statement M
 zero-units-spec =
     tie.close
-    (tie.spec
-    Inv-loop
-    μ-loop
-    (omega arith)
+    (tie.spec Inv-loop μ-loop (omega arith)
     (λ c. (omega arith, refl))
-    (λ c. omega arith)
-    (λ c. omega arith)
-    (λ c. omega arith)
-    (λ c. omega arith)
-    (omega arith)
-    returns
-    (λ c. omega arith)
-    (λ c. omega arith)
-    loop-again
+    (λ c. omega arith) (λ c. omega arith) (λ c. omega arith) (λ c. omega arith) (omega arith) returns (λ c. omega arith) (λ c. omega arith) loop-again
     returns-2)

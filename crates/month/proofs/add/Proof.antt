@@ -64,25 +64,5 @@ with-money-requires c κs =
 pub add-spec : {M : Type 1} → statement M
 add-spec =
     tie.close
-    (tie.spec
-    (omega arith)
-    (omega arith)
-    returns
-    (omega arith)
-    returns-2
-    (omega arith)
-    (omega arith)
-    (omega arith)
-    returns-3
-    with-money-requires
-    (omega arith)
-    (omega arith)
-    returns-4
-    (omega arith)
-    (omega arith)
-    (omega arith)
-    returns-5
-    (omega arith)
-    (omega arith)
-    (omega arith)
-    returns-6)
+    (tie.spec (omega arith) (omega arith) returns (omega arith) returns-2 (omega arith) (omega arith) (omega arith) returns-3 with-money-requires
+    (omega arith) (omega arith) returns-4 (omega arith) (omega arith) (omega arith) returns-5 (omega arith) (omega arith) (omega arith) returns-6)

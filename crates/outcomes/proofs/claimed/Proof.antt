@@ -1,6 +1,5 @@
-use Rattle.prelude.proofs.Prelude.{eq-eqb, ne-eqb, arith}
 use Rattle.outcomes.specs.inner.ByNumber.{claimRecord}
-use Rattle.outcomes.proofs.claimed.Statement.{statement}
+use Rattle.outcomes.proofs.{Cited.{eq-eqb, ne-eqb, arith}, claimed.Statement.statement}
 use Rattle.outcomes.proofs.claimed.Tie as tie
 
 pub claimed-spec : {M : Type 1} → statement M

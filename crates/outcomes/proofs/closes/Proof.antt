@@ -1,5 +1,4 @@
-use Rattle.phases.proofs.Choice.{tests}
-use Rattle.outcomes.proofs.closes.Statement.{statement}
+use Rattle.outcomes.proofs.{Cited.tests, closes.Statement.statement}
 use Rattle.outcomes.proofs.closes.Tie as tie
 
 pub closes-spec : {M : Type 1} → statement M

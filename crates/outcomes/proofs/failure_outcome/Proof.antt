@@ -1,5 +1,4 @@
-use Rattle.phases.proofs.Choice.{tests}
-use Rattle.outcomes.proofs.failure_outcome.Statement.{statement}
+use Rattle.outcomes.proofs.{Cited.tests, failure_outcome.Statement.statement}
 use Rattle.outcomes.proofs.failure_outcome.Tie as tie
 
 pub failure-outcome-spec : {M : Type 1} → statement M

@@ -1,5 +1,4 @@
-use Rattle.phases.proofs.Choice.{tests}
-use Rattle.outcomes.proofs.fits.Statement.{statement}
+use Rattle.outcomes.proofs.{Cited.tests, fits.Statement.statement}
 use Rattle.outcomes.proofs.fits.Tie as tie
 
 pub fits-spec : {M : Type 1} → statement M

@@ -1,5 +1,4 @@
-use Rattle.prelude.proofs.Prelude.{eq-eqb, ne-eqb, arith}
-use Rattle.outcomes.proofs.frame_outcome.Statement.{statement}
+use Rattle.outcomes.proofs.{Cited.{eq-eqb, ne-eqb, arith}, frame_outcome.Statement.statement}
 use Rattle.outcomes.proofs.frame_outcome.Tie as tie
 
 returns-2 : tie.Need-returns-2

@@ -1,6 +1,4 @@
-use Rattle.prelude.proofs.Prelude.{arith}
-use Rattle.prelude.proofs.Ways.{ways}
-use Rattle.outcomes.proofs.holder.Statement.{statement}
+use Rattle.outcomes.proofs.{Cited.{arith, ways}, holder.Statement.statement}
 use Rattle.outcomes.proofs.holder.Tie as tie
 
 pub holder-spec : {M : Type 1} → statement M

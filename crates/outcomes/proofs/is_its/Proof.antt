@@ -1,5 +1,4 @@
-use Rattle.phases.proofs.Choice.{tests}
-use Rattle.outcomes.proofs.is_its.Statement.{statement}
+use Rattle.outcomes.proofs.{Cited.tests, is_its.Statement.statement}
 use Rattle.outcomes.proofs.is_its.Tie as tie
 
 pub is-its-spec : {M : Type 1} → statement M

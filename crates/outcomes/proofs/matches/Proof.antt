@@ -1,5 +1,4 @@
-use Rattle.phases.proofs.Choice.{tests}
-use Rattle.outcomes.proofs.matches.Statement.{statement}
+use Rattle.outcomes.proofs.{Cited.tests, matches.Statement.statement}
 use Rattle.outcomes.proofs.matches.Tie as tie
 
 pub matches-spec : {M : Type 1} → statement M

@@ -1,6 +1,5 @@
 use Rattle.prelude.proofs.Prelude.{or-false, arith}
-use Rattle.phases.proofs.Choice.{tests}
-use Rattle.outcomes.proofs.noted.Statement.{statement}
+use Rattle.outcomes.proofs.{Cited.tests, noted.Statement.statement}
 use Rattle.outcomes.proofs.noted.Tie as tie
 
 pub noted-spec : {M : Type 1} → statement M

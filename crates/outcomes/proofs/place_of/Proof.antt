@@ -1,6 +1,4 @@
-use Rattle.phases.proofs.Choice.{tests}
-use Rattle.prelude.proofs.Ways.{ways}
-use Rattle.outcomes.proofs.place_of.Statement.{statement}
+use Rattle.outcomes.proofs.{Cited.{tests, ways}, place_of.Statement.statement}
 use Rattle.outcomes.proofs.place_of.Tie as tie
 
 pub place-of-spec : {M : Type 1} → statement M

@@ -1,6 +1,4 @@
-use Rattle.prelude.proofs.Prelude.{arith}
-use Rattle.prelude.proofs.Ways.{ways}
-use Rattle.outcomes.proofs.result_outcome.Statement.{statement}
+use Rattle.outcomes.proofs.{Cited.{arith, ways}, result_outcome.Statement.statement}
 use Rattle.outcomes.proofs.result_outcome.Tie as tie
 
 pub result-outcome-spec : {M : Type 1} → statement M

@@ -1,5 +1,4 @@
-use Rattle.phases.proofs.Choice.{tests}
-use Rattle.outcomes.proofs.runs.Statement.{statement}
+use Rattle.outcomes.proofs.{Cited.tests, runs.Statement.statement}
 use Rattle.outcomes.proofs.runs.Tie as tie
 
 pub runs-spec : {M : Type 1} → statement M

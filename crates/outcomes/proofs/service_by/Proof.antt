@@ -1,6 +1,4 @@
-use Rattle.prelude.proofs.Prelude.{arith}
-use Rattle.phases.proofs.Choice.{tests}
-use Rattle.outcomes.proofs.service_by.Statement.{statement}
+use Rattle.outcomes.proofs.{Cited.{arith, tests}, service_by.Statement.statement}
 use Rattle.outcomes.proofs.service_by.Tie as tie
 
 pub service-by-spec : {M : Type 1} → statement M

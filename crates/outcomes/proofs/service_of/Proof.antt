@@ -1,5 +1,4 @@
-use Rattle.phases.proofs.Choice.{tests}
-use Rattle.outcomes.proofs.service_of.Statement.{statement}
+use Rattle.outcomes.proofs.{Cited.tests, service_of.Statement.statement}
 use Rattle.outcomes.proofs.service_of.Tie as tie
 
 pub service-of-spec : {M : Type 1} → statement M

@@ -1,5 +1,4 @@
-use Rattle.prelude.proofs.Ways.{ways}
-use Rattle.outcomes.proofs.settled.Statement.{statement}
+use Rattle.outcomes.proofs.{Cited.ways, settled.Statement.statement}
 use Rattle.outcomes.proofs.settled.Tie as tie
 
 pub settled-spec : {M : Type 1} → statement M

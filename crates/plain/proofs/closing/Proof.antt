@@ -1,7 +1,5 @@
-use Rattle.prelude.proofs.Prelude.{sym, _∙_, not-false, arith}
-use Rattle.prelude.proofs.Ways.{ways}
 use Rattle.plain.specs.Answers.{plainClosing}
-use Rattle.plain.proofs.closing.Statement.{statement}
+use Rattle.plain.proofs.{Cited.{sym, _∙_, not-false, arith, ways}, closing.Statement.statement}
 use Rattle.plain.proofs.closing.Tie as tie
 
 pub closing-spec : {M : Type 1} → statement M

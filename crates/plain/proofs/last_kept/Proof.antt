@@ -1,8 +1,7 @@
-use Rattle.prelude.proofs.Prelude.{_≤_, _/_, _-_, length, reverse, _≡_, sym, _∙_, true, false, arith, eqb, eq-eqb, ne-eqb}
+use Rattle.prelude.proofs.Prelude.{_≤_, _/_, length, reverse, _≡_, sym, _∙_, true, false, arith, eqb, eq-eqb, ne-eqb}
 use Rattle.outcomes.specs.Status.{placeOf}
 use Rattle.account.specs.History.{last, judged}
-use Rattle.events.specs.Events.{eventsOf}
-use Rattle.events.specs.inner.Prefix.{before}
+use Rattle.events.specs.{Events.eventsOf, inner.Prefix.before}
 use Rattle.plain.proofs.{Figures.whole, Figures.last-step, Figures.nothing-left, last_kept.Statement.statement}
 use Rattle.plain.proofs.last_kept.Tie as tie
 

@@ -1,7 +1,5 @@
-use Rattle.prelude.proofs.Prelude.{sym, _∙_, not-false, arith}
-use Rattle.prelude.proofs.Ways.{ways}
 use Rattle.plain.specs.Answers.{plainMarks}
-use Rattle.plain.proofs.marks.Statement.{statement}
+use Rattle.plain.proofs.{Cited.{sym, _∙_, not-false, arith, ways}, marks.Statement.statement}
 use Rattle.plain.proofs.marks.Tie as tie
 
 pub marks-spec : {M : Type 1} → statement M

@@ -1,7 +1,5 @@
-use Rattle.prelude.proofs.Prelude.{sym, _∙_, not-false, arith}
-use Rattle.prelude.proofs.Ways.{ways}
 use Rattle.plain.specs.Answers.{plainOutcome}
-use Rattle.plain.proofs.outcome.Statement.{statement}
+use Rattle.plain.proofs.{Cited.{sym, _∙_, not-false, arith, ways}, outcome.Statement.statement}
 use Rattle.plain.proofs.outcome.Tie as tie
 
 pub outcome-spec : {M : Type 1} → statement M

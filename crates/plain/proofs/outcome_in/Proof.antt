@@ -1,7 +1,6 @@
-use Rattle.prelude.proofs.Prelude.{sym, _∙_, ap, arith, _-_, []}
-use Rattle.events.specs.Events.{eventsOf}
+use Rattle.prelude.proofs.Prelude.{sym, _∙_, ap, arith, []}
 use Rattle.plain.specs.Answers.{outcomeAt}
-use Rattle.plain.proofs.{Numbered.none-at, Numbered.outcome-numbered, Numbered.outcome-past, outcome_in.Statement.statement}
+use Rattle.plain.proofs.{Cited.eventsOf, Numbered.{none-at, outcome-numbered, outcome-past}, outcome_in.Statement.statement}
 use Rattle.plain.proofs.outcome_in.Tie as tie
 
 returns : tie.Need-returns

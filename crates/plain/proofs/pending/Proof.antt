@@ -1,7 +1,5 @@
-use Rattle.prelude.proofs.Prelude.{sym, _∙_, not-false, arith}
-use Rattle.prelude.proofs.Ways.{ways}
 use Rattle.plain.specs.Answers.{plainPending}
-use Rattle.plain.proofs.pending.Statement.{statement}
+use Rattle.plain.proofs.{Cited.{sym, _∙_, not-false, arith, ways}, pending.Statement.statement}
 use Rattle.plain.proofs.pending.Tie as tie
 
 pub pending-spec : {M : Type 1} → statement M

@@ -1,7 +1,5 @@
-use Rattle.prelude.proofs.Prelude.{sym, _∙_, not-false, arith}
-use Rattle.prelude.proofs.Ways.{ways}
 use Rattle.plain.specs.Answers.{plainPhase}
-use Rattle.plain.proofs.phase.Statement.{statement}
+use Rattle.plain.proofs.{Cited.{sym, _∙_, not-false, arith, ways}, phase.Statement.statement}
 use Rattle.plain.proofs.phase.Tie as tie
 
 pub phase-spec : {M : Type 1} → statement M

@@ -1,6 +1,5 @@
-use Rattle.prelude.proofs.Prelude.{_∙_, arith}
 use Rattle.account.specs.History.{phase}
-use Rattle.plain.proofs.{Figures.whole, phase_in.Statement.statement}
+use Rattle.plain.proofs.{Cited.{_∙_, arith}, Figures.whole, phase_in.Statement.statement}
 use Rattle.plain.proofs.phase_in.Tie as tie
 
 returns : tie.Need-returns

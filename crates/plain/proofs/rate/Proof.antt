@@ -1,7 +1,5 @@
-use Rattle.prelude.proofs.Prelude.{sym, _∙_, not-false, arith}
-use Rattle.prelude.proofs.Ways.{ways}
 use Rattle.plain.specs.Answers.{plainCurrentRate}
-use Rattle.plain.proofs.rate.Statement.{statement}
+use Rattle.plain.proofs.{Cited.{sym, _∙_, not-false, arith, ways}, rate.Statement.statement}
 use Rattle.plain.proofs.rate.Tie as tie
 
 pub rate-spec : {M : Type 1} → statement M

@@ -1,7 +1,5 @@
-use Rattle.prelude.proofs.Prelude.{sym, _∙_, not-false, arith}
-use Rattle.prelude.proofs.Ways.{ways}
 use Rattle.plain.specs.Answers.{plainRunning}
-use Rattle.plain.proofs.running.Statement.{statement}
+use Rattle.plain.proofs.{Cited.{sym, _∙_, not-false, arith, ways}, running.Statement.statement}
 use Rattle.plain.proofs.running.Tie as tie
 
 pub running-spec : {M : Type 1} → statement M

@@ -1,7 +1,4 @@
-use Rattle.prelude.proofs.Prelude.{_∙_, reverse}
-use Rattle.account.specs.History.{judged}
-use Rattle.events.specs.Events.{eventsOf}
-use Rattle.plain.proofs.{Figures.running-kept, running_in.Statement.statement}
+use Rattle.plain.proofs.{Cited.{_∙_, reverse, judged, eventsOf}, Figures.running-kept, running_in.Statement.statement}
 use Rattle.plain.proofs.running_in.Tie as tie
 
 returns : tie.Need-returns

@@ -1,8 +1,7 @@
-use Rattle.prelude.proofs.Prelude.{_≤_, _/_, _-_, length, reverse, _≡_, sym, _∙_, true, false, arith}
+use Rattle.prelude.proofs.Prelude.{_≤_, _/_, length, reverse, _≡_, sym, _∙_, true, false, arith}
 use Rattle.outcomes.specs.Outcome.{its}
 use Rattle.account.specs.History.{any, judged}
-use Rattle.events.specs.Events.{eventsOf}
-use Rattle.events.specs.inner.Prefix.{before}
+use Rattle.events.specs.{Events.eventsOf, inner.Prefix.before}
 use Rattle.plain.proofs.{Figures.whole, Figures.any-step, Figures.nothing-left, told.Statement.statement}
 use Rattle.plain.proofs.told.Tie as tie
 

@@ -1,6 +1,4 @@
-use Rattle.prelude.proofs.Prelude.{arith}
-use Rattle.types.specs.Charges.{flag}
-use Rattle.plain.proofs.told_set.Statement.{statement}
+use Rattle.plain.proofs.{Cited.arith, told_set.Statement.statement}
 use Rattle.plain.proofs.told_set.Tie as tie
 
 returns : tie.Need-returns

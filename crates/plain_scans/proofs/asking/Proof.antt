@@ -1,5 +1,4 @@
-use Rattle.prelude.proofs.Ways.{ways}
-use Rattle.plain_scans.proofs.asking.Statement.{statement}
+use Rattle.plain_scans.proofs.{Cited.ways, asking.Statement.statement}
 use Rattle.plain_scans.proofs.asking.Tie as tie
 
 pub asking-spec : {M : Type 1} → statement M

@@ -1,5 +1,4 @@
-use Rattle.prelude.proofs.Prelude.{arith}
-use Rattle.plain_scans.proofs.bare.Statement.{statement}
+use Rattle.plain_scans.proofs.{Cited.arith, bare.Statement.statement}
 use Rattle.plain_scans.proofs.bare.Tie as tie
 
 pub bare-spec : {M : Type 1} → statement M

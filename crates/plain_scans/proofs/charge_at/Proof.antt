@@ -1,8 +1,6 @@
-use Rattle.prelude.proofs.Prelude.{_+_, _-_, _≤_, _∙_, ap, arith, length}
-use Rattle.types.specs.declared.Answer.{Answer}
-use Rattle.types.specs.Frames.{readOf}
+use Rattle.types.specs.{declared.Answer.Answer, Frames.readOf}
 use Rattle.events.proofs.Prefix.{turn-inside, part-at}
-use Rattle.plain_scans.proofs.charge_at.Statement.{statement}
+use Rattle.plain_scans.proofs.{Cited.{_+_, _≤_, _∙_, ap, arith, length}, charge_at.Statement.statement}
 use Rattle.plain_scans.proofs.charge_at.Tie as tie
 
 -- the octets of the event end inside

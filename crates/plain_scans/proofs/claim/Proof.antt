@@ -1,11 +1,8 @@
-use Rattle.prelude.proofs.Prelude.{_≡_, _≤_, true, ap, arith}
-use Rattle.prelude.proofs.Ways.{ways}
 use Rattle.types.specs.declared.Answer.{Answer}
-use Rattle.phases.specs.Phases.{allowed}
-use Rattle.phases.proofs.Transitions.{next-none, next-some}
+use Rattle.phases.{specs.Phases.allowed, proofs.Transitions.{next-none, next-some}}
 use Rattle.outcomes.proofs.Refusals.{number-fits}
 use Rattle.plain_scans.specs.inner.Claim.{claimOf}
-use Rattle.plain_scans.proofs.claim.Statement.{statement}
+use Rattle.plain_scans.proofs.{Cited.{_≡_, _≤_, true, ap, arith, ways}, claim.Statement.statement}
 use Rattle.plain_scans.proofs.claim.Tie as tie
 
 returns-2 : tie.Need-returns-2

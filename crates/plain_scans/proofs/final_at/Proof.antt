@@ -2,8 +2,7 @@ use Rattle.prelude.proofs.Prelude.{_≡_, Bool, true, false, cond, sym, _∙_, 
 use Rattle.phases.specs.Phases.{outcome}
 use Rattle.outcomes.specs.Outcome.{judgeFinal, firstFinal}
 use Rattle.account.specs.History.{known, judged}
-use Rattle.events.specs.inner.Prefix.{before}
-use Rattle.plain_scans.proofs.{Scans.final-first, Scans.final-again, final_at.Statement.statement}
+use Rattle.plain_scans.proofs.{Cited.before, Scans.{final-first, final-again}, final_at.Statement.statement}
 use Rattle.plain_scans.proofs.final_at.Tie as tie
 
 returns : tie.Need-returns

@@ -1,13 +1,10 @@
-use Rattle.prelude.proofs.Prelude.{ℕ, List, _+_, _-_, _≤_, _≡_, refl, sym, _∙_, ap, arith, eq-eqb, ne-eqb, length, true}
 use Rattle.phases.specs.declared.Event.{Event}
-use Rattle.outcomes.specs.Outcome.{Known, Requests, chargeIn, judge, was}
-use Rattle.outcomes.specs.inner.ByNumber.{compared}
+use Rattle.outcomes.specs.{Outcome.{Known, Requests, chargeIn, judge, was}, inner.ByNumber.compared}
 use Rattle.account.specs.History.{known, judged}
-use Rattle.events.specs.Events.{rowAt}
-use Rattle.events.specs.inner.Prefix.{octetsAt, before}
+use Rattle.events.{specs.Events.rowAt, specs.inner.Prefix.{octetsAt, before}, proofs.Prefix.{turn-inside, part-at}}
 use Rattle.plain_scans.specs.inner.Claim.{claimOf}
-use Rattle.events.proofs.Prefix.{turn-inside, part-at}
-use Rattle.plain_scans.proofs.{Claims.claim-service, Claims.component-outcome, Claims.phase-outcome, outcome_at.Statement.statement}
+use Rattle.plain_scans.proofs.Cited.{ℕ, List, _+_, _≤_, _≡_, refl, sym, _∙_, ap, arith, eq-eqb, ne-eqb, length, true}
+use Rattle.plain_scans.proofs.{Claims.{claim-service, component-outcome, phase-outcome}, outcome_at.Statement.statement}
 use Rattle.plain_scans.proofs.outcome_at.Tie as tie
 
 -- an event that is no component
@@ -82,18 +79,13 @@ outcome-at-spec =
     (tie.spec
     (λ c κs. c .before .before .pre .1)
     (λ c κs. let far = c .before .before .before in omega (arith, far .before .before .pre .1))
-    (omega arith)
-    (omega arith)
-    returns
+    (omega arith) (omega arith) returns
     (λ c κs. let far = c .before .before .before in let s = far .before .before in (s .pre .0, omega (arith, s .pre .1)))
     (λ c κs. let far = c .before .before .before in far .before .before .before .pre .1)
     (λ c. omega (arith, ends c))
     (λ c κs. record { list = start c .pre .0; some = omega (arith, start c .pre .1) })
-    (omega arith)
-    (omega arith)
+    (omega arith) (omega arith)
     (λ c. omega (arith, ends (c .before)))
-    (omega arith)
-    returns-2
+    (omega arith) returns-2
     (λ c κs. start (c .before .before .before .before .before) .pre)
-    final-at-requires
-    returns-3)
+    final-at-requires returns-3)

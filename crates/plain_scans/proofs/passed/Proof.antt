@@ -1,7 +1,5 @@
-use Rattle.prelude.proofs.Prelude.{_∙_, ap, arith}
 use Rattle.phases.specs.{declared.Moving.Moving}
-use Rattle.plain_scans.proofs.Histories.{moving-phase}
-use Rattle.plain_scans.proofs.passed.Statement.{statement}
+use Rattle.plain_scans.proofs.{Cited.{_∙_, ap, arith}, Histories.moving-phase, passed.Statement.statement}
 use Rattle.plain_scans.proofs.passed.Tie as tie
 
 returns : tie.Need-returns

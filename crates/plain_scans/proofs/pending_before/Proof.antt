@@ -1,8 +1,6 @@
-use Rattle.prelude.proofs.Prelude.{_≡_, sym, _∙_, ap, arith}
 use Rattle.account.specs.History.{named, judged}
-use Rattle.events.specs.inner.Prefix.{before}
 use Rattle.plain_scans.specs.inner.Claim.{askOf, requestOf}
-use Rattle.plain_scans.proofs.{Scans.names, Scans.pending-last, pending_before.Statement.statement}
+use Rattle.plain_scans.proofs.{Cited.{_≡_, sym, _∙_, ap, arith, before}, Scans.{names, pending-last}, pending_before.Statement.statement}
 use Rattle.plain_scans.proofs.pending_before.Tie as tie
 
 -- what the Setup asks for is what was named

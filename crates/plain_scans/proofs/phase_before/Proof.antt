@@ -1,7 +1,5 @@
-use Rattle.prelude.proofs.Prelude.{ℕ, List, _≤_, _-_, _≡_, refl, _∙_, ap, arith}
 use Rattle.account.specs.History.{phase, judged}
-use Rattle.events.specs.inner.Prefix.{before}
-use Rattle.plain_scans.proofs.{Histories.phase-more, phase_before.Statement.statement}
+use Rattle.plain_scans.proofs.{Cited.{ℕ, List, _≤_, _-_, _≡_, refl, _∙_, ap, arith, before}, Histories.phase-more, phase_before.Statement.statement}
 use Rattle.plain_scans.proofs.phase_before.Tie as tie
 
 abbrev Inv-loop : tie.InvT-loop

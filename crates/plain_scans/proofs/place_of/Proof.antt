@@ -1,7 +1,5 @@
-use Rattle.prelude.proofs.Prelude.{_≤_, _-_, _≡_, refl, _∙_, ap, arith}
-use Rattle.events.specs.inner.Prefix.{placeAt}
-use Rattle.events.proofs.Prefix.{next-place, place-fits}
-use Rattle.plain_scans.proofs.place_of.Statement.{statement}
+use Rattle.events.{specs.inner.Prefix.placeAt, proofs.Prefix.{next-place, place-fits}}
+use Rattle.plain_scans.proofs.{Cited.{_≤_, _-_, _≡_, refl, _∙_, ap, arith}, place_of.Statement.statement}
 use Rattle.plain_scans.proofs.place_of.Tie as tie
 
 abbrev Inv-loop : tie.InvT-loop

@@ -1,5 +1,4 @@
-use Rattle.prelude.proofs.Prelude.{_∙_, sym, arith}
-use Rattle.plain_scans.proofs.settles.Statement.{statement}
+use Rattle.plain_scans.proofs.{Cited.{_∙_, sym, arith}, settles.Statement.statement}
 use Rattle.plain_scans.proofs.settles.Tie as tie
 
 pub settles-spec : {M : Type 1} → statement M

@@ -1,7 +1,6 @@
-use Rattle.prelude.proofs.Prelude.{ℕ, List, _≤_, _-_, _≡_, refl, sym, _∙_, ap, arith}
 use Rattle.account.specs.History.{phase, judged}
-use Rattle.events.specs.inner.Prefix.{before}
-use Rattle.plain_scans.proofs.{Scans.idle-more, Scans.setup-found, Scans.setup-none, setup_before.Statement.statement}
+use Rattle.plain_scans.proofs.Cited.{ℕ, List, _≤_, _-_, _≡_, refl, sym, _∙_, ap, arith, before}
+use Rattle.plain_scans.proofs.{Scans.{idle-more, setup-found, setup-none}, setup_before.Statement.statement}
 use Rattle.plain_scans.proofs.setup_before.Tie as tie
 
 abbrev Inv-loop : tie.InvT-loop

@@ -1,5 +1,4 @@
-use Rattle.prelude.proofs.Prelude.{refl, arith}
-use Rattle.plain_scans.proofs.status_before.Statement.{statement}
+use Rattle.plain_scans.proofs.{Cited.{refl, arith}, status_before.Statement.statement}
 use Rattle.plain_scans.proofs.status_before.Tie as tie
 
 returns : tie.Need-returns

@@ -14,11 +14,9 @@ pub price-spec : {M : Type 1} → statement M
 unfolding priceOf
 price-spec =
     tie.close
-    (tie.spec
-    (omega arith)
+    (tie.spec (omega arith)
     (λ c. search ways)
-    (omega arith)
-    (omega arith)
+    (omega arith) (omega arith)
     (λ c. search ways)
     (omega arith)
     (λ c. search ways)

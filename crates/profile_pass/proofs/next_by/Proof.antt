@@ -1,6 +1,6 @@
-use Rattle.prelude.proofs.Prelude.{arith, sym, _∙_}
+use Rattle.prelude.proofs.Prelude.{arith}
 use Rattle.coding.specs.Reader.{part}
-use Rattle.profile_read.proofs.Reading.{by-line, no-parts, beside}
+use Rattle.profile_read.proofs.Reading.{by-line, beside}
 use Rattle.profile_pass.proofs.next_by.Statement.{statement}
 use Rattle.profile_pass.proofs.Passing.{next-none, next-some, line-here, no-line-here, inside}
 use Rattle.profile_pass.proofs.next_by.Tie as tie
@@ -37,7 +37,7 @@ returns-3 c =
     let i = p .before .before in
     let n = i .before .next-into in (
       next-some _ _ _ (n .ensures) (i .if1 .left)
-          (beside (no-line-here _ _ _ (n .ensures) (i .if1 .left) (p .if2 .left) ∙ sym no-parts) (c .trunk-by .ensures .0)),
+          (beside (no-line-here _ _ _ (n .ensures) (i .if1 .left) (p .if2 .left)) (c .trunk-by .ensures .0)),
       c .trunk-by .ensures .1,
     )
 

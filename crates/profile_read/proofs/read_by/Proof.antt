@@ -1,5 +1,5 @@
-use Rattle.prelude.proofs.Prelude.{arith, sym, _∙_}
-use Rattle.profile_read.proofs.{Reading.by-line, Reading.no-parts, Reading.beside, read_by.Statement.statement}
+use Rattle.prelude.proofs.Prelude.{arith}
+use Rattle.profile_read.proofs.{Reading.by-line, Reading.beside, read_by.Statement.statement}
 use Rattle.profile_read.proofs.read_by.Tie as tie
 
 returns : tie.Need-returns
@@ -22,7 +22,7 @@ returns-2 : tie.Need-returns-2
 returns-2 c =
     let lent = c .before .before .before in
     let l = lent .before .before .before in
-    (beside (l .no-line .ensures ∙ sym no-parts) (c .trunk-by .ensures .0), c .trunk-by .ensures .1)
+    (beside (l .no-line .ensures) (c .trunk-by .ensures .0), c .trunk-by .ensures .1)
 
 pub read-by-spec : {M : Type 1} → statement M
 read-by-spec = tie.close (tie.spec (omega arith) (omega arith) returns (omega arith) trunk-by-requires returns-2)

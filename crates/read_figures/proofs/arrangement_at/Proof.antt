@@ -1,8 +1,7 @@
 -- Each return by the answers that led to it.
-use Rattle.prelude.proofs.Prelude.{arith}
 use Rattle.coding.{specs.Reader.part, specs.Codec.canonical, specs.Codec.over, proofs.Reading.reading}
 use Rattle.types.specs.{Arguments.arrangement, Stored.figureIn}
-use Rattle.read_figures.proofs.{Answers.storing, arrangement_at.Statement.statement}
+use Rattle.read_figures.proofs.{Cited.arith, Answers.storing, arrangement_at.Statement.statement}
 use Rattle.read_figures.proofs.arrangement_at.Tie as tie
 
 pub arrangement-at-spec : {M : Type 1} → statement M

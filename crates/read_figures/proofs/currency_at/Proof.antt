@@ -1,8 +1,7 @@
 -- Each return by the answers that led to it.
-use Rattle.prelude.proofs.Prelude.{arith, needs}
 use Rattle.coding.{specs.Reader.primitive, specs.Codec.prim, proofs.Reading.reading}
 use Rattle.types.specs.Charges.{currency}
-use Rattle.read_figures.proofs.{Answers.storing, Kept.blank-currency, currency_at.Statement.statement}
+use Rattle.read_figures.proofs.{Cited.{arith, needs}, Answers.storing, Kept.blank-currency, currency_at.Statement.statement}
 use Rattle.read_figures.proofs.currency_at.Tie as tie
 
 pub currency-at-spec : {M : Type 1} → statement M

@@ -1,7 +1,6 @@
 -- Each return by the answers that led to it.
-use Rattle.prelude.proofs.Prelude.{arith, needs, refl}
 use Rattle.coding.{specs.Reader.primitive, proofs.Reading.reading}
-use Rattle.read_figures.proofs.{Answers.storing, digits_at.Statement.statement}
+use Rattle.read_figures.proofs.{Cited.{arith, needs, refl}, Answers.storing, digits_at.Statement.statement}
 use Rattle.read_figures.proofs.digits_at.Tie as tie
 
 pub digits-at-spec : {M : Type 1} → statement M

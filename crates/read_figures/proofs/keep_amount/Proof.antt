@@ -1,5 +1,4 @@
-use Rattle.prelude.proofs.Prelude.{arith}
-use Rattle.read_figures.proofs.{Kept.amount-kept, keep_amount.Statement.statement}
+use Rattle.read_figures.proofs.{Cited.arith, Kept.amount-kept, keep_amount.Statement.statement}
 use Rattle.read_figures.proofs.keep_amount.Tie as tie
 
 pub keep-amount-spec : {M : Type 1} → statement M

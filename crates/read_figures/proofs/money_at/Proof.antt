@@ -1,8 +1,7 @@
 -- Each return by the answers that led to it.
-use Rattle.prelude.proofs.Prelude.{arith, needs}
 use Rattle.coding.{specs.Codec.shape, specs.Codec.over, specs.Codec.pair, proofs.Reading.flat, proofs.Reading.reading}
 use Rattle.types.specs.Charges.{money}
-use Rattle.read_figures.proofs.{Answers.storing, Kept.blank-amount, money_at.Statement.statement}
+use Rattle.read_figures.proofs.{Cited.{arith, needs}, Answers.storing, Kept.blank-amount, money_at.Statement.statement}
 use Rattle.read_figures.proofs.money_at.Tie as tie
 
 pub money-at-spec : {M : Type 1} → statement M

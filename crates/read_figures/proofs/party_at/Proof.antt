@@ -1,8 +1,7 @@
 -- Each return by the answers that led to it.
-use Rattle.prelude.proofs.Prelude.{arith, needs, refl}
 use Rattle.coding.{specs.Reader.constructed, specs.Codec.cons, proofs.Reading.reading}
 use Rattle.types.specs.Charges.{party}
-use Rattle.read_figures.proofs.{Answers.storing, party_at.Statement.statement}
+use Rattle.read_figures.proofs.{Cited.{arith, needs, refl}, Answers.storing, party_at.Statement.statement}
 use Rattle.read_figures.proofs.party_at.Tie as tie
 
 pub party-at-spec : {M : Type 1} → statement M

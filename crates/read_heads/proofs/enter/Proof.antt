@@ -1,8 +1,7 @@
-use Rattle.prelude.proofs.Prelude.{arith}
 use Rattle.coding.proofs.{Reading.gives, Frames.any-told, Frames.any-lacks, Frames.any-strange, Frames.any-over, Frames.any-enters}
 use Rattle.read_heads.specs.inner.Heads.{outsideCode}
-use Rattle.read_heads.proofs.{Codes.outside-code, Entered.by-lengths, Entered.alone, Entered.refused, Entered.tag-below, Entered.tag-above, Entered.tag-among}
-use Rattle.read_heads.proofs.{enter.Statement.statement}
+use Rattle.read_heads.proofs.Cited.{arith}
+use Rattle.read_heads.proofs.{Codes.outside-code, Entered.{by-lengths, alone, refused, tag-below, tag-above, tag-among}, enter.Statement.statement}
 use Rattle.read_heads.proofs.enter.Tie as tie
 
 pub enter-spec : {M : Type 1} → statement M

@@ -1,9 +1,7 @@
 -- Each return by what was read so far.
-use Rattle.prelude.proofs.Prelude.{arith}
 use Rattle.coding.{specs.Codec.leads, specs.Codec.canonical, specs.Codec.over, proofs.Reading.flat}
 use Rattle.types.specs.Frames.{returnError, failed}
-use Rattle.read_heads.specs.inner.Heads.{contentsOf, restOf}
-use Rattle.read_heads.proofs.{Answers.heading, error_head.Statement.statement}
+use Rattle.read_heads.proofs.{Cited.{arith, contentsOf, restOf}, Answers.heading, error_head.Statement.statement}
 use Rattle.read_heads.proofs.error_head.Tie as tie
 
 pub error-head-spec : {M : Type 1} → statement M

@@ -1,8 +1,6 @@
 use Rattle.prelude.proofs.Prelude.{arith, sym, _∙_}
-use Rattle.types.proofs.Theorems.{read-long}
-use Rattle.types.specs.Frames.{frame}
-use Rattle.read_heads.specs.inner.Heads.{restOf}
-use Rattle.read_heads.proofs.{Entered.framing, head_of.Statement.statement}
+use Rattle.types.{proofs.Theorems.read-long, specs.Frames.frame}
+use Rattle.read_heads.proofs.{Cited.restOf, Entered.framing, head_of.Statement.statement}
 use Rattle.read_heads.proofs.head_of.Tie as tie
 
 pub head-of-spec : {M : Type 1} → statement M

@@ -1,9 +1,7 @@
 -- Each return by what was read so far.
-use Rattle.prelude.proofs.Prelude.{arith}
 use Rattle.coding.{specs.Codec.leads, proofs.Reading.flat}
 use Rattle.types.specs.Frames.{invoke}
-use Rattle.read_heads.specs.inner.Heads.{contentsOf, restOf}
-use Rattle.read_heads.proofs.{Answers.heading, Answers.tail-one, invoke_head.Statement.statement}
+use Rattle.read_heads.proofs.{Cited.{arith, contentsOf, restOf}, Answers.{heading, tail-one}, invoke_head.Statement.statement}
 use Rattle.read_heads.proofs.invoke_head.Tie as tie
 
 pub invoke-head-spec : {M : Type 1} → statement M

@@ -1,5 +1,4 @@
-use Rattle.coding.proofs.Tests.{tests}
-use Rattle.read_heads.proofs.outer.Statement.{statement}
+use Rattle.read_heads.proofs.{Cited.tests, outer.Statement.statement}
 use Rattle.read_heads.proofs.outer.Tie as tie
 
 pub outer-spec : {M : Type 1} → statement M

@@ -1,7 +1,5 @@
-use Rattle.prelude.proofs.Prelude.{arith}
-use Rattle.coding.proofs.Reading.{reading}
 use Rattle.read_heads.specs.inner.Heads.{problemIn}
-use Rattle.read_heads.proofs.problem_at.Statement.{statement}
+use Rattle.read_heads.proofs.{Cited.{arith, reading}, problem_at.Statement.statement}
 use Rattle.read_heads.proofs.problem_at.Tie as tie
 
 pub problem-at-spec : {M : Type 1} → statement M

@@ -1,7 +1,5 @@
-use Rattle.prelude.proofs.Prelude.{arith}
-use Rattle.coding.proofs.Reading.{reading}
 use Rattle.read_heads.specs.inner.Heads.{problemsIn}
-use Rattle.read_heads.proofs.problems_at.Statement.{statement}
+use Rattle.read_heads.proofs.{Cited.{arith, reading}, problems_at.Statement.statement}
 use Rattle.read_heads.proofs.problems_at.Tie as tie
 
 pub problems-at-spec : {M : Type 1} → statement M

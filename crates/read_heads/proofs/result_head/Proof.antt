@@ -1,9 +1,8 @@
 -- Each return by what was read so far.
-use Rattle.prelude.proofs.Prelude.{arith}
 use Rattle.coding.{specs.Reader.constructed, specs.Codec.leads, specs.Codec.cons, proofs.Reading.flat}
 use Rattle.types.specs.Frames.{returnResult}
 use Rattle.read_heads.specs.inner.Heads.{contentsOf, tailOf, restOf}
-use Rattle.read_heads.proofs.{Answers.heading, result_head.Statement.statement}
+use Rattle.read_heads.proofs.{Cited.arith, Answers.heading, result_head.Statement.statement}
 use Rattle.read_heads.proofs.result_head.Tie as tie
 
 pub result-head-spec : {M : Type 1} → statement M

@@ -40,25 +40,14 @@ returns-4 c =
 pub same-entries-spec : {M : Type 1} → statement M
 same-entries-spec =
     tie.close
-    (tie.spec
-    Inv-loop
-    μ-loop
-    (omega arith)
+    (tie.spec Inv-loop μ-loop (omega arith)
     (λ c. (omega arith, refl))
-    (λ c. omega arith)
-    (λ c. omega arith)
-    (λ c. omega arith)
-    (λ c. omega arith)
-    (λ c. omega arith)
-    (λ c. omega arith)
+    (λ c. omega arith) (λ c. omega arith) (λ c. omega arith) (λ c. omega arith) (λ c. omega arith) (λ c. omega arith)
     (λ c. stops (c .before .before .before) (search tests))
-    (λ c. omega arith)
-    (λ c. omega arith)
+    (λ c. omega arith) (λ c. omega arith)
     (λ c. let one = c .before .before .before in stops (one .before .before .before) (search tests))
-    (λ c. omega arith)
-    (λ c. omega arith)
+    (λ c. omega arith) (λ c. omega arith)
     (λ c. let two = c .before .before .before in let one = two .before .before .before in stops (one .before .before .before) (search tests))
-    (λ c. omega arith)
-    (λ c. omega arith)
+    (λ c. omega arith) (λ c. omega arith)
     (λ c. let two = c .before .before .before in let one = two .before .before .before in (omega arith, goes-on (one .before .before .before) (search tests)))
     returns-4)

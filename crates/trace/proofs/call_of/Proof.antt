@@ -1,5 +1,4 @@
-use Rattle.prelude.proofs.Prelude.{arith}
-use Rattle.trace.proofs.{Whole.no-call, Whole.first-inside, Whole.first-framed, Whole.first-call, call_of.Statement.statement}
+use Rattle.trace.proofs.{Cited.arith, Whole.{no-call, first-inside, first-framed, first-call}, call_of.Statement.statement}
 use Rattle.trace.proofs.call_of.Tie as tie
 
 -- the function's start, from where the first message's size is known

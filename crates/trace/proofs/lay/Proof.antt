@@ -1,6 +1,5 @@
 use Rattle.prelude.proofs.Prelude.{arith, sym}
-use Rattle.trace.proofs.{Laying.rooms-as, Laying.puts-as, Whole.events-few, Whole.octets-few, Whole.too-many, Whole.too-long, Whole.room-for, Whole.lays}
-use Rattle.trace.proofs.lay.Statement.{statement}
+use Rattle.trace.proofs.{Laying.{rooms-as, puts-as}, Whole.{events-few, octets-few, too-many, too-long, room-for, lays}, lay.Statement.statement}
 use Rattle.trace.proofs.lay.Tie as tie
 
 put-trace-requires : tie.Need-put-trace-requires

@@ -1,4 +1,4 @@
-use Rattle.prelude.proofs.Prelude.{_≡_, sym, ap, arith, _-_}
+use Rattle.prelude.proofs.Prelude.{_≡_, sym, ap, arith}
 use Rattle.coding.{specs.Reader.part, proofs.Parts.part-length}
 use Rattle.trace_messages.{specs.Trace.componentsIn, specs.Trace.componentsAt, specs.Trace.componentEvents, proofs.Walk.at-under, proofs.Walk.at-other, proofs.Walk.at-facility}
 use Rattle.trace.proofs.{Laying.puts-none, Laying.puts-as, Laying.rooms-as, put_at.Statement.statement}

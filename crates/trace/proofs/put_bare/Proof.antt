@@ -1,5 +1,4 @@
-use Rattle.prelude.proofs.Prelude.{arith, refl}
-use Rattle.trace.proofs.{Laying.bare-put, put_bare.Statement.statement}
+use Rattle.trace.proofs.{Cited.{arith, refl}, Laying.bare-put, put_bare.Statement.statement}
 use Rattle.trace.proofs.put_bare.Tie as tie
 
 pub put-bare-spec : {M : Type 1} → statement M

@@ -1,5 +1,4 @@
-use Rattle.prelude.proofs.Prelude.{arith}
-use Rattle.trace.proofs.put_component.Statement.{statement}
+use Rattle.trace.proofs.{Cited.arith, put_component.Statement.statement}
 use Rattle.trace.proofs.put_component.Tie as tie
 
 pub put-component-spec : {M : Type 1} → statement M

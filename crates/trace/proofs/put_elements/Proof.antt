@@ -3,8 +3,7 @@ use Rattle.prelude.proofs.Prelude.{_<_, _-_, _+_, refl, ap, arith, length, getD
 use Rattle.trace_framing.{specs.Framing.Elements, proofs.Laws.end-past, proofs.Laws.end-near, proofs.Laws.elements-on}
 use Rattle.trace_messages.{specs.Trace.componentsLeft, specs.Trace.componentsAfter, specs.Trace.componentEvents, proofs.Walk.events-more, proofs.Walk.from-over}
 use Rattle.trace.specs.inner.Putting.{Progress}
-use Rattle.trace.proofs.Laying.{rooms-head, rooms-as, progress-starts, progress-as, progress-more, progress-ends}
-use Rattle.trace.proofs.put_elements.Statement.{statement}
+use Rattle.trace.proofs.{Laying.{rooms-head, rooms-as, progress-starts, progress-as, progress-more, progress-ends}, put_elements.Statement.statement}
 use Rattle.trace.proofs.put_elements.Tie as tie
 
 abbrev Inv-loop : tie.InvT-loop

@@ -1,5 +1,4 @@
-use Rattle.prelude.proofs.Prelude.{arith, refl}
-use Rattle.trace.proofs.{Laying.row-room, Laying.run-room, Laying.event-put, put_event.Statement.statement}
+use Rattle.trace.proofs.{Cited.{arith, refl}, Laying.{row-room, run-room, event-put}, put_event.Statement.statement}
 use Rattle.trace.proofs.put_event.Tie as tie
 
 -- the function's start, from where the row is put

@@ -1,5 +1,4 @@
-use Rattle.prelude.proofs.Prelude.{arith, not-true, not-false}
-use Rattle.trace.proofs.{Laying.puts-none, put_given.Statement.statement}
+use Rattle.trace.proofs.{Cited.{arith, not-true, not-false}, Laying.puts-none, put_given.Statement.statement}
 use Rattle.trace.proofs.put_given.Tie as tie
 
 put-elements-requires : tie.Need-put-elements-requires

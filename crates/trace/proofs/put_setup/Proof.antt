@@ -1,5 +1,4 @@
-use Rattle.prelude.proofs.Prelude.{arith, not-true, not-false}
-use Rattle.trace.proofs.{Laying.puts-none, Laying.bare-room, put_setup.Statement.statement}
+use Rattle.trace.proofs.{Cited.{arith, not-true, not-false}, Laying.{puts-none, bare-room}, put_setup.Statement.statement}
 use Rattle.trace.proofs.put_setup.Tie as tie
 
 put-bare-requires : tie.Need-put-bare-requires

@@ -4,8 +4,7 @@ use Rattle.trace_framing.specs.Framing.{Passing, messagesLeft, messagesOf}
 use Rattle.trace_framing.proofs.Laws.{passing-starts, passes-on, ends-inside, from-start, next-message, nothing-left}
 use Rattle.trace_messages.{specs.Trace.allFramed, specs.Trace.traceFrom, proofs.Walk.trace-more, proofs.Walk.framed-more, proofs.Walk.trace-over}
 use Rattle.trace.specs.inner.Putting.{Progress}
-use Rattle.trace.proofs.Laying.{rooms-head, rooms-as, progress-starts, progress-as, progress-more, progress-ends}
-use Rattle.trace.proofs.put_trace.Statement.{statement}
+use Rattle.trace.proofs.{Laying.{rooms-head, rooms-as, progress-starts, progress-as, progress-more, progress-ends}, put_trace.Statement.statement}
 use Rattle.trace.proofs.put_trace.Tie as tie
 
 abbrev Inv-loop : tie.InvT-loop

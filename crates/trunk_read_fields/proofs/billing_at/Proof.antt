@@ -1,5 +1,4 @@
-use Rattle.prelude.proofs.Prelude.{arith}
-use Rattle.trunk_read_fields.proofs.{Steps.billed-one, Steps.billed-other, billing_at.Statement.statement}
+use Rattle.trunk_read_fields.proofs.{Cited.arith, Steps.{billed-one, billed-other}, billing_at.Statement.statement}
 use Rattle.trunk_read_fields.proofs.billing_at.Tie as tie
 
 pub billing-at-spec : {M : Type 1} → statement M

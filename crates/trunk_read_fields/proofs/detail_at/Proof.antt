@@ -1,9 +1,7 @@
 -- Each return by the answers that led to it.
-use Rattle.prelude.proofs.Prelude.{arith}
 use Rattle.coding.{specs.Codec.canonical, specs.Codec.over, proofs.Reading.reading}
 use Rattle.trunk_types.specs.Bodies.{detail}
-use Rattle.read_figures.proofs.Answers.{storing}
-use Rattle.trunk_read_fields.proofs.{Stores.detail-stored, Stores.detail-spare, Stores.zero-spare, detail_at.Statement.statement}
+use Rattle.trunk_read_fields.proofs.{Cited.{arith, storing}, Stores.{detail-stored, detail-spare, zero-spare}, detail_at.Statement.statement}
 use Rattle.trunk_read_fields.proofs.detail_at.Tie as tie
 
 pub detail-at-spec : {M : Type 1} → statement M

@@ -1,8 +1,7 @@
 -- Each return by the answers that led to it.
-use Rattle.prelude.proofs.Prelude.{arith, needs}
 use Rattle.coding.proofs.Reading.{reading, step, gives}
-use Rattle.read_figures.proofs.Answers.{storing, goes}
-use Rattle.trunk_read_fields.proofs.{Stores.zero-clear, Stores.user-spare, Stores.detailed-spare, Stores.diverting-read, Stores.diverting-arrived, diverting_at.Statement.statement}
+use Rattle.trunk_read_fields.proofs.{Cited.{arith, needs, storing, goes}, Stores.{zero-clear, user-spare, detailed-spare, diverting-read}}
+use Rattle.trunk_read_fields.proofs.{Stores.diverting-arrived, diverting_at.Statement.statement}
 use Rattle.trunk_read_fields.proofs.diverting_at.Tie as tie
 
 -- where the number is read

@@ -1,5 +1,4 @@
-use Rattle.prelude.proofs.Prelude.{needs}
-use Rattle.trunk_read_fields.proofs.interim_at.Statement.{statement}
+use Rattle.trunk_read_fields.proofs.{Cited.needs, interim_at.Statement.statement}
 use Rattle.trunk_read_fields.proofs.interim_at.Tie as tie
 
 pub interim-at-spec : {M : Type 1} → statement M

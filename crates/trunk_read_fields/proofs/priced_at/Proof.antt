@@ -1,8 +1,7 @@
 -- Each return by the answers that led to it.
 use Rattle.prelude.proofs.Prelude.{needs, arith, _≡_, refl, _∙_, _≤_, drop, replicate, true}
 use Rattle.coding.{specs.Reader.after, specs.Reader.closed, specs.inner.Shown.shown, proofs.Reading.reading, proofs.Reading.step, proofs.Reading.shut, proofs.Reading.remains}
-use Rattle.types.specs.{Arguments.plain, Arguments.moneyFigure, Arguments.noCharge, Arguments.inMoney, Arguments.ending, Stored.moneyIn}
-use Rattle.types.proofs.Stored.{money-unassociated}
+use Rattle.types.{specs.Arguments.{plain, moneyFigure, noCharge, inMoney, ending}, specs.Stored.moneyIn, proofs.Stored.money-unassociated}
 use Rattle.read_lengths.specs.inner.Bounds.{Bounded}
 use Rattle.read_figures.proofs.Answers.{storing, surplus, goes}
 use Rattle.read_charges.proofs.Steps.{inner, shut-in}

@@ -1,8 +1,7 @@
 -- Each return by the answers that led to it.
-use Rattle.prelude.proofs.Prelude.{arith, needs}
 use Rattle.coding.proofs.Reading.{reading, gives}
-use Rattle.read_figures.proofs.Answers.{storing, goes}
-use Rattle.trunk_read_fields.proofs.{Stores.zero-clear, Stores.user-spare, Stores.users-read, Stores.users-arrived, users_at.Statement.statement}
+use Rattle.trunk_read_fields.proofs.Cited.{arith, needs, storing, goes}
+use Rattle.trunk_read_fields.proofs.{Stores.{zero-clear, user-spare, users-read, users-arrived}, users_at.Statement.statement}
 use Rattle.trunk_read_fields.proofs.users_at.Tie as tie
 
 pub users-at-spec : {M : Type 1} → statement M

@@ -1,15 +1,18 @@
 use Rattle.prelude.proofs.Prelude.{sym, _∙_, arith, needs, not-false}
-use Rattle.trunk_types.specs.{declared.Trunk.Trunk, Stored.trunkIn}
+use Rattle.trunk_types.specs.Stored.{trunkIn}
 use Rattle.trunk_write_frames.{specs.inner.Octets.given, proofs.Frames.known-frame}
-use Rattle.trunk_write.specs.Outcome.{spareZero}
+use Rattle.trunk_write.specs.Outcome.{spareZero, Offered}
 use Rattle.trunk_write.proofs.{Outcomes.Sized, Outcomes.Whole, Outcomes.not-spare, Outcomes.not-fine, Outcomes.too-long, Outcomes.no-room, Outcomes.lead-room, Outcomes.contents-room}
 use Rattle.trunk_write.proofs.{Outcomes.written, Outcomes.written-few, write_from.Statement.statement}
 use Rattle.trunk_write.proofs.write_from.Tie as tie
 
 -- ---- what is known on the way
 
-abbrev held : tie.Start → Trunk
-held s = let a = s .args in given (a .front .now) (a .extension .now) (a .figure .now) (a .numbers .now) (a .rows .now)
+abbrev held : tie.Start → Offered
+held s = let a = s .args in record {
+  trunk = given (a .front .now) (a .extension .now) (a .figure .now) (a .numbers .now) (a .rows .now);
+  spare = spareZero (a .front .now);
+}
 
 -- the four octets are zero
 abbrev tested : tie.After-contents-size → tie.After-trunk-fine
@@ -18,7 +21,7 @@ tested c = c .before .before
 abbrev start : tie.After-contents-size → tie.Start
 start c = let f = tested c in let z = f .before .before in z .before .before
 
-sized : (c : tie.After-contents-size) → Sized (spareZero (start c .args .front .now)) (held (start c)) (c .contents-size .result)
+sized : (c : tie.After-contents-size) → Sized (held (start c)) (c .contents-size .result)
 sized c =
     let f = tested c in record {
       clear = sym (f .before .before .spare-zero .ensures) ∙ not-false _ (f .before .if1 .left);
@@ -29,8 +32,7 @@ sized c =
 abbrev measured : tie.After-element-size → tie.After-contents-size
 measured c = c .before .before
 
-whole : (c : tie.After-element-size) → let m = measured c in
-    Whole (spareZero (start m .args .front .now)) (held (start m)) (m .contents-size .result) (c .element-size .result)
+whole : (c : tie.After-element-size) → let m = measured c in Whole (held (start m)) (m .contents-size .result) (c .element-size .result)
 whole c = record { sized = sized (measured c); most = c .before .if3 .left; is = c .element-size .ensures .0 }
 
 -- its lead is written

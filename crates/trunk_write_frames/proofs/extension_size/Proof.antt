@@ -1,6 +1,5 @@
-use Rattle.prelude.proofs.Prelude.{arith}
 use Rattle.trunk_types.specs.Stored.{extensionIn}
-use Rattle.trunk_write_frames.proofs.{Extensions.size-none, Extensions.size-kept, extension_size.Statement.statement}
+use Rattle.trunk_write_frames.proofs.{Cited.arith, Extensions.{size-none, size-kept}, extension_size.Statement.statement}
 use Rattle.trunk_write_frames.proofs.extension_size.Tie as tie
 
 pub extension-size-spec : {M : Type 1} → statement M

@@ -1,7 +1,6 @@
 -- One line for a form.
-use Rattle.prelude.proofs.Prelude.{_≡_, arith, length}
-use Rattle.trunk_write_frames.proofs.{Dispatch.form-size, Forms.form-1, Forms.form-2, Forms.form-59, Forms.form-64, Forms.form-65, Forms.form-charge}
-use Rattle.trunk_write_frames.proofs.{Forms.size-detail, Forms.size-59, Forms.size-65, inner_size.Statement.statement}
+use Rattle.trunk_write_frames.proofs.{Cited.{_≡_, arith, length}, Dispatch.form-size, Forms.{form-1, form-2, form-59, form-64, form-65, form-charge}}
+use Rattle.trunk_write_frames.proofs.{Forms.{size-detail, size-59, size-65}, inner_size.Statement.statement}
 use Rattle.trunk_write_frames.proofs.inner_size.Tie as tie
 
 abbrev start : tie.Else1 → tie.Start

@@ -1,5 +1,4 @@
-use Rattle.prelude.proofs.Prelude.{arith}
-use Rattle.trunk_write_frames.proofs.{Frames.invoke-body, Frames.invoke-length, invoke_size.Statement.statement}
+use Rattle.trunk_write_frames.proofs.{Cited.arith, Frames.{invoke-body, invoke-length}, invoke_size.Statement.statement}
 use Rattle.trunk_write_frames.proofs.invoke_size.Tie as tie
 
 pub invoke-size-spec : {M : Type 1} → statement M

@@ -1,6 +1,5 @@
-use Rattle.prelude.proofs.Prelude.{arith}
 use Rattle.write_figures.proofs.Sizes.{wrote-nothing}
-use Rattle.trunk_write_frames.proofs.{Dispatch.form-room, Dispatch.form-wrote, Sizes.address-none, Sizes.address-some, put_address.Statement.statement}
+use Rattle.trunk_write_frames.proofs.{Cited.arith, Dispatch.{form-room, form-wrote}, Sizes.{address-none, address-some}, put_address.Statement.statement}
 use Rattle.trunk_write_frames.proofs.put_address.Tie as tie
 
 pub put-address-spec : {M : Type 1} → statement M

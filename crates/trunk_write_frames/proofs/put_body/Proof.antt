@@ -1,7 +1,5 @@
-use Rattle.prelude.proofs.Prelude.{arith}
-use Rattle.coding.proofs.Writing.{room-as}
-use Rattle.write_figures.proofs.Sizes.{wrote-is}
-use Rattle.trunk_write_frames.proofs.{Dispatch.form-room, Dispatch.form-fits, Dispatch.form-wrote, Bodies.asked-plain, Bodies.form-asked, Bodies.form-extended, put_body.Statement.statement}
+use Rattle.trunk_write_frames.proofs.{Cited.{arith, room-as, wrote-is}, Dispatch.{form-room, form-fits, form-wrote}}
+use Rattle.trunk_write_frames.proofs.{Bodies.{asked-plain, form-asked, form-extended}, put_body.Statement.statement}
 use Rattle.trunk_write_frames.proofs.put_body.Tie as tie
 
 abbrev start : tie.Then1 → tie.Start

@@ -1,7 +1,4 @@
-use Rattle.prelude.proofs.Prelude.{arith}
-use Rattle.coding.proofs.Writing.{room-as}
-use Rattle.write_figures.proofs.Sizes.{wrote-is}
-use Rattle.trunk_write_frames.proofs.{Sizes.caller-null, Sizes.caller-id, put_caller.Statement.statement}
+use Rattle.trunk_write_frames.proofs.{Cited.{arith, room-as, wrote-is}, Sizes.{caller-null, caller-id}, put_caller.Statement.statement}
 use Rattle.trunk_write_frames.proofs.put_caller.Tie as tie
 
 abbrev start : tie.After-if12 → tie.Start

@@ -1,6 +1,5 @@
 -- One line for a frame with its room, and one with what is put of it.
-use Rattle.prelude.proofs.Prelude.{arith}
-use Rattle.trunk_write_frames.proofs.{Dispatch.form-room, Dispatch.form-fits, Dispatch.form-wrote, Frames.holds-1, Frames.holds-2, Frames.holds-3, Frames.holds-4, Frames.holds-10}
+use Rattle.trunk_write_frames.proofs.{Cited.arith, Dispatch.{form-room, form-fits, form-wrote}, Frames.{holds-1, holds-2, holds-3, holds-4, holds-10}}
 use Rattle.trunk_write_frames.proofs.put_contents.Statement.{statement}
 use Rattle.trunk_write_frames.proofs.put_contents.Tie as tie
 

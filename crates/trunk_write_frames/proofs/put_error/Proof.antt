@@ -1,7 +1,5 @@
-use Rattle.prelude.proofs.Prelude.{arith}
-use Rattle.coding.proofs.Writing.{room-as, room-head}
 use Rattle.write_figures.proofs.Sizes.{room-2, room-3, wrote-three}
-use Rattle.trunk_write_frames.proofs.{Sizes.error-split, put_error.Statement.statement}
+use Rattle.trunk_write_frames.proofs.{Cited.{arith, room-as, room-head}, Sizes.error-split, put_error.Statement.statement}
 use Rattle.trunk_write_frames.proofs.put_error.Tie as tie
 
 abbrev error : tie.After-id-of → tie.After-error-of

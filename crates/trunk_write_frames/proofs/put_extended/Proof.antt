@@ -1,7 +1,6 @@
-use Rattle.prelude.proofs.Prelude.{arith}
-use Rattle.coding.proofs.Writing.{room-as, room-head}
 use Rattle.write_figures.proofs.Sizes.{room-2, room-3, wrote-three}
-use Rattle.trunk_write_frames.proofs.{Bodies.extended-valid, Bodies.extended-counted, Bodies.extended-length, Bodies.extended-octets, put_extended.Statement.statement}
+use Rattle.trunk_write_frames.proofs.Cited.{arith, room-as, room-head}
+use Rattle.trunk_write_frames.proofs.{Bodies.{extended-valid, extended-counted, extended-length, extended-octets}, put_extended.Statement.statement}
 use Rattle.trunk_write_frames.proofs.put_extended.Tie as tie
 
 abbrev start : tie.After-extension-size → tie.Start

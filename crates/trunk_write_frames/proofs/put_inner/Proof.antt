@@ -1,7 +1,6 @@
 -- One line for a form with its room, and one with what is put of it.
-use Rattle.prelude.proofs.Prelude.{_≡_, ap, arith, length}
-use Rattle.trunk_write_frames.proofs.{Dispatch.form-room, Dispatch.form-wrote, Forms.form-1, Forms.form-2, Forms.form-59, Forms.form-64, Forms.form-65, Forms.form-charge}
-use Rattle.trunk_write_frames.proofs.put_inner.Statement.{statement}
+use Rattle.trunk_write_frames.proofs.{Cited.{_≡_, ap, arith, length}, Dispatch.{form-room, form-wrote}}
+use Rattle.trunk_write_frames.proofs.{Forms.{form-1, form-2, form-59, form-64, form-65, form-charge}, put_inner.Statement.statement}
 use Rattle.trunk_write_frames.proofs.put_inner.Tie as tie
 
 abbrev start : tie.After-octets → tie.Start

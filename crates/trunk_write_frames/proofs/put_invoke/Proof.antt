@@ -1,7 +1,6 @@
-use Rattle.prelude.proofs.Prelude.{arith}
-use Rattle.coding.proofs.Writing.{room-as, room-head}
 use Rattle.write_figures.proofs.Sizes.{room-2, room-3, wrote-three}
-use Rattle.trunk_write_frames.proofs.{Frames.invoke-body, Frames.invoke-operation, Frames.invoke-split, Frames.invoke-within, put_invoke.Statement.statement}
+use Rattle.trunk_write_frames.proofs.Cited.{arith, room-as, room-head}
+use Rattle.trunk_write_frames.proofs.{Frames.{invoke-body, invoke-operation, invoke-split, invoke-within}, put_invoke.Statement.statement}
 use Rattle.trunk_write_frames.proofs.put_invoke.Tie as tie
 
 abbrev start : tie.After-id-of → tie.Start

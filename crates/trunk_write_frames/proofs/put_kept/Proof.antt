@@ -1,7 +1,4 @@
-use Rattle.prelude.proofs.Prelude.{arith}
-use Rattle.coding.proofs.Writing.{room-as}
-use Rattle.write_figures.proofs.Sizes.{wrote-is}
-use Rattle.trunk_write_frames.proofs.{Sizes.kept-slice, Sizes.slice-fits, put_kept.Statement.statement}
+use Rattle.trunk_write_frames.proofs.{Cited.{arith, room-as, wrote-is}, Sizes.{kept-slice, slice-fits}, put_kept.Statement.statement}
 use Rattle.trunk_write_frames.proofs.put_kept.Tie as tie
 
 put-string-requires : tie.Need-put-string-requires

@@ -1,7 +1,5 @@
-use Rattle.prelude.proofs.Prelude.{arith}
-use Rattle.coding.proofs.Writing.{room-as, room-head}
-use Rattle.write_figures.proofs.Sizes.{room-2, wrote-two}
-use Rattle.trunk_write_frames.proofs.{Sizes.modes-split, Sizes.modes-fine, put_modes.Statement.statement}
+use Rattle.trunk_write_frames.proofs.Cited.{arith, room-as, room-head, room-2, wrote-two}
+use Rattle.trunk_write_frames.proofs.{Sizes.{modes-split, modes-fine}, put_modes.Statement.statement}
 use Rattle.trunk_write_frames.proofs.put_modes.Tie as tie
 
 abbrev start : tie.After-wide → tie.Start

@@ -1,6 +1,4 @@
-use Rattle.prelude.proofs.Prelude.{arith}
-use Rattle.coding.proofs.Writing.{room-as, room-head, wrote-both, room-tail}
-use Rattle.write_figures.proofs.Sizes.{room-2, wrote-two}
+use Rattle.trunk_write_frames.proofs.Cited.{arith, room-as, room-head, wrote-both, room-tail, room-2, wrote-two}
 use Rattle.trunk_write_frames.proofs.{Sizes.network-split, put_network.Statement.statement}
 use Rattle.trunk_write_frames.proofs.put_network.Tie as tie
 

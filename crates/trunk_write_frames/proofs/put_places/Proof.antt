@@ -1,9 +1,7 @@
 use Rattle.prelude.proofs.Prelude.{_-_, refl, arith}
-use Rattle.coding.proofs.Writing.{room-as}
 use Rattle.write_rates.proofs.Tables.{Putting, putting-none, putting-room, putting-more, putting-done, left-valid}
 use Rattle.trunk_write_frames.specs.inner.Octets.{mode, modeAt}
-use Rattle.write_figures.proofs.Sizes.{wrote-is}
-use Rattle.trunk_write_frames.proofs.{Forms.mode-low, Forms.mode-write, put_places.Statement.statement}
+use Rattle.trunk_write_frames.proofs.{Cited.{room-as, wrote-is}, Forms.{mode-low, mode-write}, put_places.Statement.statement}
 use Rattle.trunk_write_frames.proofs.put_places.Tie as tie
 
 abbrev Inv-loop : tie.InvT-loop

@@ -1,7 +1,5 @@
-use Rattle.prelude.proofs.Prelude.{arith}
-use Rattle.coding.proofs.Writing.{room-as, room-head, wrote-both, room-tail}
-use Rattle.write_figures.proofs.Sizes.{room-2, wrote-two}
-use Rattle.trunk_write_frames.proofs.{Frames.result-body, Frames.result-operation, Frames.result-split, Frames.result-within, put_result.Statement.statement}
+use Rattle.trunk_write_frames.proofs.Cited.{arith, room-as, room-head, wrote-both, room-tail, room-2, wrote-two}
+use Rattle.trunk_write_frames.proofs.{Frames.{result-body, result-operation, result-split, result-within}, put_result.Statement.statement}
 use Rattle.trunk_write_frames.proofs.put_result.Tie as tie
 
 abbrev sized : tie.After-put-id → tie.After-body-size

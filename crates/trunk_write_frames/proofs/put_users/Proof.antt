@@ -1,8 +1,5 @@
-use Rattle.prelude.proofs.Prelude.{arith, ap, _∙_, true}
-use Rattle.types.specs.declared.Association.{Association}
-use Rattle.types.specs.Charges.{partyNumber, association}
-use Rattle.coding.proofs.Writing.{room-as, room-head}
-use Rattle.write_figures.proofs.Sizes.{room-2, wrote-two}
+use Rattle.types.specs.{declared.Association.Association, Charges.{partyNumber, association}}
+use Rattle.trunk_write_frames.proofs.Cited.{arith, ap, _∙_, true, room-as, room-head, room-2, wrote-two}
 use Rattle.trunk_write_frames.proofs.{Sizes.users-split, put_users.Statement.statement}
 use Rattle.trunk_write_frames.proofs.put_users.Tie as tie
 

@@ -1,5 +1,4 @@
-use Rattle.prelude.proofs.Prelude.{arith}
-use Rattle.trunk_write_frames.proofs.{Sizes.reject-null, Sizes.reject-named, reject_size.Statement.statement}
+use Rattle.trunk_write_frames.proofs.{Cited.arith, Sizes.{reject-null, reject-named}, reject_size.Statement.statement}
 use Rattle.trunk_write_frames.proofs.reject_size.Tie as tie
 
 pub reject-size-spec : {M : Type 1} → statement M

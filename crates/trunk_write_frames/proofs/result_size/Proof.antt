@@ -1,5 +1,4 @@
-use Rattle.prelude.proofs.Prelude.{arith}
-use Rattle.trunk_write_frames.proofs.{Frames.result-body, Frames.result-length, result_size.Statement.statement}
+use Rattle.trunk_write_frames.proofs.{Cited.arith, Frames.{result-body, result-length}, result_size.Statement.statement}
 use Rattle.trunk_write_frames.proofs.result_size.Tie as tie
 
 pub result-size-spec : {M : Type 1} → statement M

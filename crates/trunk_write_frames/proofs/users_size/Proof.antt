@@ -1,7 +1,5 @@
-use Rattle.prelude.proofs.Prelude.{ap, _∙_, arith, true}
-use Rattle.types.specs.declared.Association.{Association}
-use Rattle.types.specs.Charges.{partyNumber, association}
-use Rattle.trunk_write_frames.proofs.{Sizes.users-length, users_size.Statement.statement}
+use Rattle.types.specs.{declared.Association.Association, Charges.{partyNumber, association}}
+use Rattle.trunk_write_frames.proofs.{Cited.{ap, _∙_, arith, true}, Sizes.users-length, users_size.Statement.statement}
 use Rattle.trunk_write_frames.proofs.users_size.Tie as tie
 
 pub users-size-spec : {M : Type 1} → statement M

@@ -1,9 +1,6 @@
-use Rattle.prelude.proofs.Prelude.{arith}
 use Rattle.coding.proofs.Tests.{tests}
-use Rattle.trunk_write_tests.specs.inner.Fine.{billedFine}
 use Rattle.trunk_write_tests.proofs.billed_fine.Statement.{statement}
 use Rattle.trunk_write_tests.proofs.billed_fine.Tie as tie
 
 pub billed-fine-spec : {M : Type 1} → statement M
-unfolding billedFine
-billed-fine-spec = tie.close (tie.spec (λ c. search tests) (omega arith) (λ c. search tests) (λ c. search tests) (λ c. search tests) (λ c. search tests))
+billed-fine-spec = tie.close (tie.spec (λ c κs. search) (λ c. search tests) (λ c. search tests) (λ c. search tests) (λ c. search tests))

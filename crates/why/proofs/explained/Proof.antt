@@ -36,20 +36,10 @@ returns c =
 pub explained-spec : {M : Type 1} → statement M
 explained-spec =
     tie.close
-    (tie.spec
-    Inv-loop
-    μ-loop
-    (omega arith)
+    (tie.spec Inv-loop μ-loop (omega arith)
     (λ c. let start = c .before .before .before in (begins _ _ (start .pre), rw (c .fresh .ensures) (run-start (start .args .rows .now) (start .args .octets .now))))
     (omega arith)
     (λ c. let at = c .before .before in omega (arith, c .count-at .ensures, inside _ _ _ _ (at .loop .inv .0) (c .before .loop-test .taken)))
-    (omega arith)
-    (omega arith)
-    (omega arith)
-    (omega arith)
+    (omega arith) (omega arith) (omega arith) (omega arith)
     (λ c. let counted = c .before in let at = counted .before .before in omega (arith, counted .count-at .ensures, inside _ _ _ _ (at .loop .inv .0) (counted .before .loop-test .taken)))
-    (omega arith)
-    (omega arith)
-    loop-again
-    (omega arith)
-    returns)
+    (omega arith) (omega arith) loop-again (omega arith) returns)

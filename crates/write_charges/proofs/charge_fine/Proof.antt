@@ -1,8 +1,7 @@
 use Rattle.prelude.proofs.Prelude.{_≡_, sym, ap, _∙_, needs}
-use Rattle.coding.proofs.Tests.{tests}
 use Rattle.write_rate.proofs.Prices.{was-true, was-false}
 use Rattle.write_tests.{specs.inner.Fine.figureFine, proofs.Valid.charge-fine}
-use Rattle.write_charges.proofs.charge_fine.Statement.{statement}
+use Rattle.write_charges.proofs.{Cited.tests, charge_fine.Statement.statement}
 use Rattle.write_charges.proofs.charge_fine.Tie as tie
 
 -- the figure is the one that lies in the octets

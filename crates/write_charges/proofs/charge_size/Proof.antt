@@ -1,10 +1,8 @@
 use Rattle.prelude.proofs.Prelude.{ap, sym, _∙_, true, arith, length, needs}
-use Rattle.types.specs.{declared.Charge.Charge, Arguments.chargeOf}
+use Rattle.types.specs.{declared.Charge.Charge, Arguments.chargeOf, Stored.withList}
 use Rattle.write_figures.proofs.Plain.{unlisted-plain, unlisted-write}
 use Rattle.write_rates.proofs.Listed.{rates-valid, rates-length, list-wider}
-use Rattle.types.specs.Stored.{withList}
-use Rattle.write_charges.proofs.Charged.{figure-fine, units-fine, units-valid, rates-fine, units-octets, rates-octets}
-use Rattle.write_charges.proofs.charge_size.Statement.{statement}
+use Rattle.write_charges.proofs.{Charged.{figure-fine, units-fine, units-valid, rates-fine, units-octets, rates-octets}, charge_size.Statement.statement}
 use Rattle.write_charges.proofs.charge_size.Tie as tie
 
 abbrev held : tie.Start → Charge

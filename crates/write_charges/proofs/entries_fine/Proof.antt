@@ -1,7 +1,5 @@
-use Rattle.prelude.proofs.Prelude.{needs}
-use Rattle.coding.proofs.Tests.{tests}
 use Rattle.write_tests.specs.inner.Fine.{entriesFine}
-use Rattle.write_charges.proofs.entries_fine.Statement.{statement}
+use Rattle.write_charges.proofs.{Cited.{needs, tests}, entries_fine.Statement.statement}
 use Rattle.write_charges.proofs.entries_fine.Tie as tie
 
 pub entries-fine-spec : {M : Type 1} → statement M

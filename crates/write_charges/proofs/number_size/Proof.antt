@@ -1,7 +1,6 @@
-use Rattle.prelude.proofs.Prelude.{arith, eq-eqb, ne-eqb, needs}
 use Rattle.coding.proofs.{Writing.width-range, Writing.number-length, Small.null-length}
 use Rattle.write_charges.specs.inner.Octets.{numberOctets}
-use Rattle.write_charges.proofs.number_size.Statement.{statement}
+use Rattle.write_charges.proofs.{Cited.{arith, eq-eqb, ne-eqb, needs}, number_size.Statement.statement}
 use Rattle.write_charges.proofs.number_size.Tie as tie
 
 pub number-size-spec : {M : Type 1} → statement M

@@ -1,11 +1,9 @@
 use Rattle.prelude.proofs.Prelude.{ap, _∙_, arith, needs, length}
-use Rattle.types.specs.{declared.Charge.Charge, Arguments.chargeOf}
+use Rattle.types.specs.{declared.Charge.Charge, Arguments.chargeOf, Stored.withList}
 use Rattle.write_figures.proofs.Plain.{unlisted-plain, unlisted-write}
 use Rattle.write_rate.proofs.Three.{named, room-by}
 use Rattle.write_rates.proofs.Listed.{list-wider}
-use Rattle.types.specs.Stored.{withList}
-use Rattle.write_charges.proofs.Charged.{figure-fine, units-fine, rates-fine, units-octets, rates-octets}
-use Rattle.write_charges.proofs.put_charge.Statement.{statement}
+use Rattle.write_charges.proofs.{Charged.{figure-fine, units-fine, rates-fine, units-octets, rates-octets}, put_charge.Statement.statement}
 use Rattle.write_charges.proofs.put_charge.Tie as tie
 
 abbrev held : tie.Start → Charge

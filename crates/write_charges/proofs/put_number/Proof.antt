@@ -1,8 +1,6 @@
-use Rattle.prelude.proofs.Prelude.{needs}
-use Rattle.coding.proofs.Tests.{tests}
 use Rattle.write_rate.proofs.Three.{named}
 use Rattle.write_charges.specs.inner.Octets.{numberOctets}
-use Rattle.write_charges.proofs.put_number.Statement.{statement}
+use Rattle.write_charges.proofs.{Cited.{needs, tests}, put_number.Statement.statement}
 use Rattle.write_charges.proofs.put_number.Tie as tie
 
 pub put-number-spec : {M : Type 1} → statement M

@@ -1,8 +1,6 @@
-use Rattle.prelude.proofs.Prelude.{_-_, arith}
 use Rattle.types.specs.Entries.{unit, unitAt}
-use Rattle.write_tests.specs.inner.Fine.{laid}
 use Rattle.write_rates.proofs.Tables.{Putting, putting-none, putting-room, putting-more, putting-done, left-valid}
-use Rattle.write_charges.proofs.put_units.Statement.{statement}
+use Rattle.write_charges.proofs.{Cited.{_-_, arith, laid}, put_units.Statement.statement}
 use Rattle.write_charges.proofs.put_units.Tie as tie
 
 abbrev Inv-loop : tie.InvT-loop

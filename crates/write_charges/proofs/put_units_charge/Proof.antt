@@ -1,6 +1,5 @@
-use Rattle.prelude.proofs.Prelude.{arith, needs}
-use Rattle.write_tests.specs.inner.Fine.{laid}
-use Rattle.write_charges.proofs.Charged.{units-valid, units-length, put-units-1, put-units-2, put-units-3, put-units-4}
+use Rattle.write_rate.proofs.Three.{wrote-3}
+use Rattle.write_charges.proofs.{Cited.{arith, needs, laid}, Charged.{units-valid, units-length, put-units-1, put-units-2, put-units-3, units-parts}}
 use Rattle.write_charges.proofs.put_units_charge.Statement.{statement}
 use Rattle.write_charges.proofs.put_units_charge.Tie as tie
 
@@ -19,4 +18,4 @@ put-units-charge-spec =
     (tie.spec (λ c. search needs) (λ c κs. units-valid _ _ (c .before .before .pre .0 .1)) put-before-requires
     (λ c κs. let c3 = c .before .before .before in let c6 = c3 .before .before .before in let v = units-valid _ _ (c6 .before .before .pre .0 .1) in
     (v .0, (v .1, search put-units-2))) (λ c κs. search put-units-3)
-    (λ c. search needs) (λ c. search put-units-4))
+    (λ c. search needs) (λ c. search (wrote-3, units-parts)))

@@ -1,7 +1,6 @@
-use Rattle.prelude.proofs.Prelude.{arith, eq-eqb, ne-eqb}
 use Rattle.coding.proofs.Small.{small-length}
 use Rattle.write_charges.specs.inner.Octets.{typeOctets}
-use Rattle.write_charges.proofs.type_size.Statement.{statement}
+use Rattle.write_charges.proofs.{Cited.{arith, eq-eqb, ne-eqb}, type_size.Statement.statement}
 use Rattle.write_charges.proofs.type_size.Tie as tie
 
 pub type-size-spec : {M : Type 1} → statement M

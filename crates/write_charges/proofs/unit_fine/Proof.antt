@@ -1,5 +1,4 @@
-use Rattle.coding.proofs.Tests.{tests}
-use Rattle.write_charges.proofs.{Entry.unit-is, unit_fine.Statement.statement}
+use Rattle.write_charges.proofs.{Cited.tests, Entry.unit-is, unit_fine.Statement.statement}
 use Rattle.write_charges.proofs.unit_fine.Tie as tie
 
 pub unit-fine-spec : {M : Type 1} → statement M

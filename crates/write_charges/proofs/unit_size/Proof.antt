@@ -1,5 +1,4 @@
-use Rattle.prelude.proofs.Prelude.{arith, needs}
-use Rattle.write_charges.proofs.{Entry.unit-type, Entry.unit-length, unit_size.Statement.statement}
+use Rattle.write_charges.proofs.{Cited.{arith, needs}, Entry.{unit-type, unit-length}, unit_size.Statement.statement}
 use Rattle.write_charges.proofs.unit_size.Tie as tie
 
 pub unit-size-spec : {M : Type 1} → statement M

@@ -12,13 +12,7 @@ abbrev μ-put-digits : Measures 1 put-digits-kinds.ps ℕ
 pub +put-digits-spec : {M : Type 1} → statement M
 +put-digits-spec = close μ-put-digits λ t. put-digits-lts.spec (_, put-digits.Post) _ put-digits.Post
     (λ c. wrote-no-digit _ _ _ _ (c .if1 .taken))
-    (omega arith)
-    (omega arith)
-    (λ c. omega arith)
-    (λ c. omega arith)
-    (omega arith)
-    (omega arith)
-    (omega arith)
+    (omega arith) (omega arith) (λ c. omega arith) (λ c. omega arith) (omega arith) (omega arith) (omega arith)
     (λ c κs. (omega arith, (omega arith, simp length-set (omega arith))))
     (λ c. simp length-set at (c .before .before .put-digits .ensures .kept))
     (λ c. wrote-digit _ _ _ (omega arith) (c .before .before .put-digits .ensures))

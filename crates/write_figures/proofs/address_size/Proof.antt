@@ -1,5 +1,4 @@
-use Rattle.prelude.proofs.Prelude.{arith, needs}
-use Rattle.write_figures.proofs.{Sizes.address-length, address_size.Statement.statement}
+use Rattle.write_figures.proofs.{Cited.{arith, needs}, Sizes.address-length, address_size.Statement.statement}
 use Rattle.write_figures.proofs.address_size.Tie as tie
 
 pub address-size-spec : {M : Type 1} → statement M

@@ -1,6 +1,5 @@
-use Rattle.prelude.proofs.Prelude.{ap, arith, length}
 use Rattle.coding.proofs.Small.{small-length}
-use Rattle.write_figures.proofs.{Frames.billing-some, Frames.billing-none, billing_size.Statement.statement}
+use Rattle.write_figures.proofs.{Cited.{ap, arith, length}, Frames.{billing-some, billing-none}, billing_size.Statement.statement}
 use Rattle.write_figures.proofs.billing_size.Tie as tie
 
 pub billing-size-spec : {M : Type 1} → statement M

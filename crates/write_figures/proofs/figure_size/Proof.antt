@@ -1,6 +1,5 @@
-use Rattle.prelude.proofs.Prelude.{needs}
-use Rattle.write_figures.proofs.Plain.{figure-fine, figure-valid, figure-none-length, figure-arranged-length, figure-free-length, figure-money-length}
-use Rattle.write_figures.proofs.figure_size.Statement.{statement}
+use Rattle.write_figures.proofs.{Cited.needs, Plain.{figure-fine, figure-valid, figure-none-length, figure-arranged-length, figure-free-length}}
+use Rattle.write_figures.proofs.{Plain.figure-money-length, figure_size.Statement.statement}
 use Rattle.write_figures.proofs.figure_size.Tie as tie
 
 pub figure-size-spec : {M : Type 1} → statement M

@@ -1,5 +1,4 @@
-use Rattle.prelude.proofs.Prelude.{arith, needs}
-use Rattle.write_figures.proofs.{Frames.fine-association, Frames.free-during-length, Frames.free-length, free_size.Statement.statement}
+use Rattle.write_figures.proofs.{Cited.{arith, needs}, Frames.{fine-association, free-during-length, free-length}, free_size.Statement.statement}
 use Rattle.write_figures.proofs.free_size.Tie as tie
 
 pub free-size-spec : {M : Type 1} → statement M

@@ -1,5 +1,4 @@
-use Rattle.prelude.proofs.Prelude.{ap, arith, length}
-use Rattle.write_figures.proofs.{Frames.marks-during-length, Frames.marks-ending, marks_size.Statement.statement}
+use Rattle.write_figures.proofs.{Cited.{ap, arith, length}, Frames.{marks-during-length, marks-ending}, marks_size.Statement.statement}
 use Rattle.write_figures.proofs.marks_size.Tie as tie
 
 returns : tie.Need-returns

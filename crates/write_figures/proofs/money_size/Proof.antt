@@ -1,6 +1,5 @@
-use Rattle.prelude.proofs.Prelude.{arith}
 use Rattle.coding.proofs.Writing.{width-range}
-use Rattle.write_figures.proofs.{Sizes.money-length, Sizes.money-count, money_size.Statement.statement}
+use Rattle.write_figures.proofs.{Cited.arith, Sizes.{money-length, money-count}, money_size.Statement.statement}
 use Rattle.write_figures.proofs.money_size.Tie as tie
 
 pub money-size-spec : {M : Type 1} → statement M

@@ -1,5 +1,4 @@
-use Rattle.prelude.proofs.Prelude.{arith}
-use Rattle.write_figures.proofs.{Sizes.number-count, Sizes.planned-length, Sizes.plain-length, Sizes.told, number_size.Statement.statement}
+use Rattle.write_figures.proofs.{Cited.arith, Sizes.{number-count, planned-length, plain-length, told}, number_size.Statement.statement}
 use Rattle.write_figures.proofs.number_size.Tie as tie
 
 pub number-size-spec : {M : Type 1} → statement M

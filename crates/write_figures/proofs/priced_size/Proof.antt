@@ -1,5 +1,4 @@
-use Rattle.prelude.proofs.Prelude.{arith}
-use Rattle.write_figures.proofs.Frames.{fine-total, fine-billing, fine-association, priced-during-length, priced-ending-length}
+use Rattle.write_figures.proofs.{Cited.arith, Frames.{fine-total, fine-billing, fine-association, priced-during-length, priced-ending-length}}
 use Rattle.write_figures.proofs.priced_size.Statement.{statement}
 use Rattle.write_figures.proofs.priced_size.Tie as tie
 

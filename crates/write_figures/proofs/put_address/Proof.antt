@@ -1,5 +1,4 @@
-use Rattle.prelude.proofs.Prelude.{arith, needs}
-use Rattle.write_figures.proofs.{Sizes.address-octets, Sizes.address-1, Sizes.room-2, Sizes.wrote-two, put_address.Statement.statement}
+use Rattle.write_figures.proofs.{Cited.{arith, needs}, Sizes.{address-octets, address-1, room-2, wrote-two}, put_address.Statement.statement}
 use Rattle.write_figures.proofs.put_address.Tie as tie
 
 pub put-address-spec : {M : Type 1} → statement M

@@ -1,7 +1,5 @@
-use Rattle.prelude.proofs.Prelude.{arith}
-use Rattle.coding.proofs.Writing.{room-as}
-use Rattle.write_figures.proofs.{Sizes.wrote-is, Sizes.room-2, Sizes.wrote-two, Frames.fine-total, Frames.fine-billing, Frames.fine-association, Frames.after-during}
-use Rattle.write_figures.proofs.{Frames.after-ending, Frames.after-1, put_after.Statement.statement}
+use Rattle.write_figures.proofs.{Cited.{arith, room-as}, Sizes.{wrote-is, room-2, wrote-two}}
+use Rattle.write_figures.proofs.{Frames.{fine-total, fine-billing, fine-association, after-during, after-ending, after-1}, put_after.Statement.statement}
 use Rattle.write_figures.proofs.put_after.Tie as tie
 
 pub put-after-spec : {M : Type 1} → statement M

@@ -1,7 +1,5 @@
-use Rattle.prelude.proofs.Prelude.{arith, needs}
-use Rattle.coding.proofs.Writing.{room-as}
-use Rattle.write_figures.proofs.{Sizes.wrote-is, Sizes.wrote-two, Frames.fine-total, Frames.fine-billing, Frames.fine-association, Frames.during-few, Frames.before-during}
-use Rattle.write_figures.proofs.{Frames.before-ending, Frames.before-1, Frames.before-2, put_before.Statement.statement}
+use Rattle.write_figures.proofs.{Cited.{arith, needs, room-as}, Sizes.{wrote-is, wrote-two}, Frames.{fine-total, fine-billing, fine-association}}
+use Rattle.write_figures.proofs.{Frames.{during-few, before-during, before-ending, before-1, before-2}, put_before.Statement.statement}
 use Rattle.write_figures.proofs.put_before.Tie as tie
 
 put-lead-requires : tie.Need-put-lead-requires

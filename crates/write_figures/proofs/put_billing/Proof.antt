@@ -1,6 +1,5 @@
-use Rattle.prelude.proofs.Prelude.{arith, needs}
-use Rattle.coding.proofs.Writing.{room-as}
-use Rattle.write_figures.proofs.{Sizes.wrote-is, Sizes.wrote-nothing, Frames.billing-some, Frames.billing-none, put_billing.Statement.statement}
+use Rattle.write_figures.proofs.Cited.{arith, needs, room-as}
+use Rattle.write_figures.proofs.{Sizes.{wrote-is, wrote-nothing}, Frames.{billing-some, billing-none}, put_billing.Statement.statement}
 use Rattle.write_figures.proofs.put_billing.Tie as tie
 
 pub put-billing-spec : {M : Type 1} → statement M

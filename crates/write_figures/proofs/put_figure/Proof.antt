@@ -1,7 +1,6 @@
-use Rattle.prelude.proofs.Prelude.{arith}
 use Rattle.coding.proofs.Writing.{room-as, room-head}
-use Rattle.write_figures.proofs.{Sizes.wrote-is, Plain.figure-fine, Plain.figure-small, Plain.figure-none, Plain.figure-free, Plain.figure-arranged, Plain.figure-valid}
-use Rattle.write_figures.proofs.{Plain.figure-few, Plain.figure-1, Plain.figure-octets, Sizes.room-2, Sizes.room-3, Sizes.wrote-three, put_figure.Statement.statement}
+use Rattle.write_figures.proofs.{Cited.arith, Sizes.{wrote-is, room-2, room-3, wrote-three}, Plain.{figure-fine, figure-small, figure-none, figure-free}}
+use Rattle.write_figures.proofs.{Plain.{figure-arranged, figure-valid, figure-few, figure-1, figure-octets}, put_figure.Statement.statement}
 use Rattle.write_figures.proofs.put_figure.Tie as tie
 
 put-money-requires : tie.Need-put-money-requires

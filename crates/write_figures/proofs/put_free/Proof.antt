@@ -1,7 +1,5 @@
-use Rattle.prelude.proofs.Prelude.{arith, needs}
-use Rattle.coding.proofs.Writing.{room-as}
-use Rattle.write_figures.proofs.{Sizes.wrote-is, Frames.fine-association, Frames.ended-during, Frames.free-1, Frames.free-2, Frames.free-octets, Frames.free-3, Sizes.wrote-three}
-use Rattle.write_figures.proofs.{put_free.Statement.statement}
+use Rattle.write_figures.proofs.{Cited.{arith, needs, room-as}, Sizes.{wrote-is, wrote-three}}
+use Rattle.write_figures.proofs.{Frames.{fine-association, ended-during, free-1, free-2, free-octets, free-3}, put_free.Statement.statement}
 use Rattle.write_figures.proofs.put_free.Tie as tie
 
 pub put-free-spec : {M : Type 1} → statement M

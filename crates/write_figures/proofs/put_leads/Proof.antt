@@ -1,6 +1,5 @@
-use Rattle.prelude.proofs.Prelude.{arith}
 use Rattle.coding.proofs.Writing.{wrote-both, room-head, room-tail}
-use Rattle.write_figures.proofs.put_leads.Statement.{statement}
+use Rattle.write_figures.proofs.{Cited.arith, put_leads.Statement.statement}
 use Rattle.write_figures.proofs.put_leads.Tie as tie
 
 pub put-leads-spec : {M : Type 1} → statement M

@@ -1,6 +1,5 @@
-use Rattle.prelude.proofs.Prelude.{arith, needs}
-use Rattle.coding.proofs.Writing.{room-as}
-use Rattle.write_figures.proofs.{Sizes.wrote-is, Sizes.room-2, Sizes.wrote-two, Frames.marks-during, Frames.marks-ending, Frames.marks-1, put_marks.Statement.statement}
+use Rattle.write_figures.proofs.Cited.{arith, needs, room-as}
+use Rattle.write_figures.proofs.{Sizes.{wrote-is, room-2, wrote-two}, Frames.{marks-during, marks-ending, marks-1}, put_marks.Statement.statement}
 use Rattle.write_figures.proofs.put_marks.Tie as tie
 
 pub put-marks-spec : {M : Type 1} → statement M

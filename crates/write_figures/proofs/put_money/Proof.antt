@@ -1,5 +1,4 @@
-use Rattle.prelude.proofs.Prelude.{arith, needs}
-use Rattle.write_figures.proofs.Sizes.{money-count, money-fits, money-multiplier, money-octets, money-1, room-2, wrote-two}
+use Rattle.write_figures.proofs.{Cited.{arith, needs}, Sizes.{money-count, money-fits, money-multiplier, money-octets, money-1, room-2, wrote-two}}
 use Rattle.write_figures.proofs.put_money.Statement.{statement}
 use Rattle.write_figures.proofs.put_money.Tie as tie
 

@@ -1,6 +1,5 @@
-use Rattle.prelude.proofs.Prelude.{arith, needs}
-use Rattle.coding.proofs.Writing.{room-as}
-use Rattle.write_figures.proofs.{Sizes.number-count, Sizes.number-fits, Sizes.plain-octets, Sizes.told, Sizes.wrote-is, put_party.Statement.statement}
+use Rattle.write_figures.proofs.Cited.{arith, needs, room-as}
+use Rattle.write_figures.proofs.{Sizes.{number-count, number-fits, plain-octets, told, wrote-is}, put_party.Statement.statement}
 use Rattle.write_figures.proofs.put_party.Tie as tie
 
 pub put-party-spec : {M : Type 1} → statement M

@@ -1,6 +1,5 @@
-use Rattle.prelude.proofs.Prelude.{arith}
 use Rattle.coding.proofs.Writing.{width-range}
-use Rattle.write_figures.proofs.{Sizes.scaled-length, scaled_size.Statement.statement}
+use Rattle.write_figures.proofs.{Cited.arith, Sizes.scaled-length, scaled_size.Statement.statement}
 use Rattle.write_figures.proofs.scaled_size.Tie as tie
 
 pub scaled-size-spec : {M : Type 1} → statement M

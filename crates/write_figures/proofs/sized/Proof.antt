@@ -1,5 +1,4 @@
-use Rattle.prelude.proofs.Prelude.{arith, needs}
-use Rattle.write_figures.proofs.{Sizes.lead-two, sized.Statement.statement}
+use Rattle.write_figures.proofs.{Cited.{arith, needs}, Sizes.lead-two, sized.Statement.statement}
 use Rattle.write_figures.proofs.sized.Tie as tie
 
 pub sized-spec : {M : Type 1} → statement M

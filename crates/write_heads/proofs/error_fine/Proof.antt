@@ -1,6 +1,4 @@
-use Rattle.prelude.proofs.Prelude.{arith}
-use Rattle.write_heads.specs.inner.Fronts.{frontFine}
-use Rattle.write_heads.proofs.{Fine.fine, error_fine.Statement.statement}
+use Rattle.write_heads.proofs.{Cited.{arith, frontFine}, Fine.fine, error_fine.Statement.statement}
 use Rattle.write_heads.proofs.error_fine.Tie as tie
 
 pub error-fine-spec : {M : Type 1} → statement M

@@ -1,7 +1,4 @@
-use Rattle.prelude.proofs.Prelude.{arith}
-use Rattle.coding.proofs.Tests.{tests}
-use Rattle.write_heads.specs.inner.Fronts.{frontFine}
-use Rattle.write_heads.proofs.front_fine.Statement.{statement}
+use Rattle.write_heads.proofs.{Cited.{arith, tests, frontFine}, front_fine.Statement.statement}
 use Rattle.write_heads.proofs.front_fine.Tie as tie
 
 pub front-fine-spec : {M : Type 1} → statement M

@@ -1,5 +1,4 @@
-use Rattle.prelude.proofs.Prelude.{arith}
-use Rattle.write_heads.proofs.{Sizes.sizing, front_size.Statement.statement}
+use Rattle.write_heads.proofs.{Cited.arith, Sizes.sizing, front_size.Statement.statement}
 use Rattle.write_heads.proofs.front_size.Tie as tie
 
 pub front-size-spec : {M : Type 1} → statement M

@@ -1,6 +1,4 @@
-use Rattle.prelude.proofs.Prelude.{arith, needs}
-use Rattle.write_heads.specs.inner.Fronts.{frontFine}
-use Rattle.write_heads.proofs.{Fine.fine, Fine.told-no, Fine.invoke-yes, invoke_fine.Statement.statement}
+use Rattle.write_heads.proofs.{Cited.{arith, needs, frontFine}, Fine.{fine, told-no, invoke-yes}, invoke_fine.Statement.statement}
 use Rattle.write_heads.proofs.invoke_fine.Tie as tie
 
 pub invoke-fine-spec : {M : Type 1} → statement M

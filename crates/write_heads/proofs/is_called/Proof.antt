@@ -1,5 +1,4 @@
-use Rattle.coding.proofs.Tests.{tests}
-use Rattle.write_heads.proofs.is_called.Statement.{statement}
+use Rattle.write_heads.proofs.{Cited.tests, is_called.Statement.statement}
 use Rattle.write_heads.proofs.is_called.Tie as tie
 
 pub is-called-spec : {M : Type 1} → statement M

@@ -1,5 +1,4 @@
-use Rattle.coding.proofs.Tests.{tests}
-use Rattle.write_heads.proofs.{Fine.one-two, is_charged.Statement.statement}
+use Rattle.write_heads.proofs.{Cited.tests, Fine.one-two, is_charged.Statement.statement}
 use Rattle.write_heads.proofs.is_charged.Tie as tie
 
 pub is-charged-spec : {M : Type 1} → statement M

@@ -1,5 +1,4 @@
-use Rattle.coding.proofs.Tests.{tests}
-use Rattle.write_heads.proofs.problem_fine.Statement.{statement}
+use Rattle.write_heads.proofs.{Cited.tests, problem_fine.Statement.statement}
 use Rattle.write_heads.proofs.problem_fine.Tie as tie
 
 pub problem-fine-spec : {M : Type 1} → statement M

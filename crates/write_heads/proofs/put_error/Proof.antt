@@ -1,6 +1,4 @@
-use Rattle.prelude.proofs.Prelude.{arith}
-use Rattle.coding.proofs.Writing.{room}
-use Rattle.write_heads.proofs.put_error.Statement.{statement}
+use Rattle.write_heads.proofs.{Cited.{arith, room}, put_error.Statement.statement}
 use Rattle.write_heads.proofs.put_error.Tie as tie
 
 pub put-error-spec : {M : Type 1} → statement M

@@ -1,7 +1,6 @@
-use Rattle.prelude.proofs.Prelude.{arith}
 use Rattle.coding.proofs.{Tests.tests, Writing.room-as}
 use Rattle.write_heads.specs.inner.Fronts.{frontOctets}
-use Rattle.write_heads.proofs.{Sizes.small-operation, Sizes.small-error, Sizes.small-detail, put_front.Statement.statement}
+use Rattle.write_heads.proofs.{Cited.arith, Sizes.{small-operation, small-error, small-detail}, put_front.Statement.statement}
 use Rattle.write_heads.proofs.put_front.Tie as tie
 
 ruleset fronts = (tests, room-as, small-operation, small-error, small-detail)

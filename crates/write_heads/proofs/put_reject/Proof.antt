@@ -1,6 +1,4 @@
-use Rattle.prelude.proofs.Prelude.{arith}
-use Rattle.coding.proofs.Writing.{room}
-use Rattle.write_heads.proofs.put_reject.Statement.{statement}
+use Rattle.write_heads.proofs.{Cited.{arith, room}, put_reject.Statement.statement}
 use Rattle.write_heads.proofs.put_reject.Tie as tie
 
 pub put-reject-spec : {M : Type 1} → statement M

@@ -1,6 +1,5 @@
-use Rattle.prelude.proofs.Prelude.{arith, needs}
 use Rattle.coding.proofs.Writing.{room, room-third}
-use Rattle.write_heads.proofs.put_result.Statement.{statement}
+use Rattle.write_heads.proofs.{Cited.{arith, needs}, put_result.Statement.statement}
 use Rattle.write_heads.proofs.put_result.Tie as tie
 
 pub put-result-spec : {M : Type 1} → statement M

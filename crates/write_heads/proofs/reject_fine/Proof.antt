@@ -1,6 +1,4 @@
-use Rattle.prelude.proofs.Prelude.{arith}
-use Rattle.coding.proofs.Tests.{tests}
-use Rattle.write_heads.proofs.{Fine.reject-is, Fine.told-no, Fine.told-yes, reject_fine.Statement.statement}
+use Rattle.write_heads.proofs.{Cited.{arith, tests}, Fine.{reject-is, told-no, told-yes}, reject_fine.Statement.statement}
 use Rattle.write_heads.proofs.reject_fine.Tie as tie
 
 pub reject-fine-spec : {M : Type 1} → statement M

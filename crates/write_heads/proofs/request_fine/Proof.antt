@@ -1,6 +1,5 @@
 use Rattle.coding.specs.Codec.{oneOf}
-use Rattle.write_heads.specs.inner.Fronts.{frontFine}
-use Rattle.write_heads.proofs.{Fine.fine, request_fine.Statement.statement}
+use Rattle.write_heads.proofs.{Cited.frontFine, Fine.fine, request_fine.Statement.statement}
 use Rattle.write_heads.proofs.request_fine.Tie as tie
 
 pub request-fine-spec : {M : Type 1} → statement M

@@ -1,6 +1,5 @@
 use Rattle.coding.specs.Codec.{oneOf}
-use Rattle.write_heads.specs.inner.Fronts.{frontFine}
-use Rattle.write_heads.proofs.{Fine.fine, result_fine.Statement.statement}
+use Rattle.write_heads.proofs.{Cited.frontFine, Fine.fine, result_fine.Statement.statement}
 use Rattle.write_heads.proofs.result_fine.Tie as tie
 
 pub result-fine-spec : {M : Type 1} → statement M

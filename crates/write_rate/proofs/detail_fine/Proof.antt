@@ -1,7 +1,6 @@
 use Rattle.prelude.proofs.Prelude.{sym, ne-eqb, le-leb, needs}
-use Rattle.coding.proofs.Tests.{tests}
 use Rattle.write_rate.specs.inner.Prices.{detailFine}
-use Rattle.write_rate.proofs.{Prices.zero-first, Prices.was-true, Prices.was-false, detail_fine.Statement.statement}
+use Rattle.write_rate.proofs.{Cited.tests, Prices.{zero-first, was-true, was-false}, detail_fine.Statement.statement}
 use Rattle.write_rate.proofs.detail_fine.Tie as tie
 
 -- past the kinds that have a detail

@@ -1,6 +1,5 @@
-use Rattle.prelude.proofs.Prelude.{refl, arith, eqb, eq-eqb, ne-eqb, lt-leb, needs}
+use Rattle.prelude.proofs.{Prelude.{refl, arith, eqb, eq-eqb, ne-eqb, lt-leb, needs}, Ways.by-cases}
 use Rattle.coding.proofs.Small.{small-length, null-length}
-use Rattle.prelude.proofs.Ways.{by-cases}
 use Rattle.write_rate.specs.inner.Prices.{priceOctets}
 use Rattle.write_rate.proofs.{Octets.rate-parts, Octets.price-length, price_size.Statement.statement}
 use Rattle.write_rate.proofs.price_size.Tie as tie

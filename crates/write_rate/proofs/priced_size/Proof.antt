@@ -1,5 +1,4 @@
-use Rattle.prelude.proofs.Prelude.{true}
-use Rattle.prelude.proofs.Prelude.{ap, _∙_, arith, length, needs}
+use Rattle.prelude.proofs.Prelude.{true, ap, _∙_, arith, length, needs}
 use Rattle.types.specs.{declared.Money.Money, Charges.money}
 use Rattle.write_rate.proofs.{Octets.rate-parts, Octets.priced-length, priced_size.Statement.statement}
 use Rattle.write_rate.proofs.priced_size.Tie as tie

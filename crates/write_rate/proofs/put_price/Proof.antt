@@ -1,7 +1,5 @@
-use Rattle.prelude.proofs.Prelude.{arith, needs}
-use Rattle.coding.proofs.Tests.{tests}
 use Rattle.write_rate.specs.inner.Prices.{priceOctets}
-use Rattle.write_rate.proofs.{Three.named, Octets.rate-parts, put_price.Statement.statement}
+use Rattle.write_rate.proofs.{Cited.{arith, needs, tests}, Three.named, Octets.rate-parts, put_price.Statement.statement}
 use Rattle.write_rate.proofs.put_price.Tie as tie
 
 pub put-price-spec : {M : Type 1} → statement M

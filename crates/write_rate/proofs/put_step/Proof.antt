@@ -1,7 +1,6 @@
-use Rattle.prelude.proofs.Prelude.{needs}
 use Rattle.coding.{proofs.Tests.tests, specs.Codec.maybe}
 use Rattle.write_rate.specs.inner.Prices.{stepOctets}
-use Rattle.write_rate.proofs.{Three.named, Octets.rate-parts, put_step.Statement.statement}
+use Rattle.write_rate.proofs.{Cited.needs, Three.named, Octets.rate-parts, put_step.Statement.statement}
 use Rattle.write_rate.proofs.put_step.Tie as tie
 
 pub put-step-spec : {M : Type 1} → statement M

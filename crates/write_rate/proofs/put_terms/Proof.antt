@@ -1,7 +1,6 @@
-use Rattle.prelude.proofs.Prelude.{arith, needs}
-use Rattle.coding.proofs.Tests.{tests}
 use Rattle.write_rate.specs.inner.Prices.{termOctets}
-use Rattle.write_rate.proofs.{Three.named, Octets.rate-parts, Octets.put-terms-1, Octets.put-terms-2, Octets.put-terms-3, Octets.put-terms-4, put_terms.Statement.statement}
+use Rattle.write_rate.proofs.{Cited.{arith, needs, tests}, Octets.{rate-parts, put-terms-1, put-terms-2, put-terms-3, terms-parts}}
+use Rattle.write_rate.proofs.{Three.{named, wrote-3}, put_terms.Statement.statement}
 use Rattle.write_rate.proofs.put_terms.Tie as tie
 
 pub put-terms-spec : {M : Type 1} → statement M
@@ -14,4 +13,4 @@ put-terms-spec =
     (λ c κs. let c3 = c .before .before .before in let v = rate-parts _ (c3 .before .before .before .pre .0) in (omega arith, search put-terms-1))
     (λ c κs. let c3 = c .before .before .before in let c6 = c3 .before .before .before in let c9 = c6 .before .before .before in
     (rate-parts _ (c9 .before .pre .0) .scale, search put-terms-2))
-    (λ c κs. search put-terms-3) (λ c. search needs) (λ c. search put-terms-4))
+    (λ c κs. search put-terms-3) (λ c. search needs) (λ c. search (wrote-3, terms-parts)))

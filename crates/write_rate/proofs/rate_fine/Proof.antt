@@ -1,7 +1,5 @@
-use Rattle.prelude.proofs.Prelude.{needs}
-use Rattle.coding.proofs.Tests.{tests}
 use Rattle.write_rate.specs.inner.Prices.{priceFine}
-use Rattle.write_rate.proofs.{Prices.rate-is, Prices.was-true, Prices.was-false, rate_fine.Statement.statement}
+use Rattle.write_rate.proofs.{Cited.{needs, tests}, Prices.{rate-is, was-true, was-false}, rate_fine.Statement.statement}
 use Rattle.write_rate.proofs.rate_fine.Tie as tie
 
 returns-3 : tie.Need-returns-3

@@ -1,5 +1,4 @@
-use Rattle.prelude.proofs.Prelude.{arith, needs}
-use Rattle.write_rate.proofs.{Octets.rate-length, rate_size.Statement.statement}
+use Rattle.write_rate.proofs.{Cited.{arith, needs}, Octets.rate-length, rate_size.Statement.statement}
 use Rattle.write_rate.proofs.rate_size.Tie as tie
 
 pub rate-size-spec : {M : Type 1} → statement M

@@ -1,6 +1,4 @@
-use Rattle.prelude.proofs.Prelude.{needs}
-use Rattle.coding.proofs.Tests.{tests}
-use Rattle.write_rate.proofs.step_fine.Statement.{statement}
+use Rattle.write_rate.proofs.{Cited.{needs, tests}, step_fine.Statement.statement}
 use Rattle.write_rate.proofs.step_fine.Tie as tie
 
 pub step-fine-spec : {M : Type 1} → statement M

@@ -1,7 +1,6 @@
-use Rattle.prelude.proofs.Prelude.{arith, eq-eqb, ne-eqb, needs}
 use Rattle.coding.proofs.Small.{small-length}
 use Rattle.write_rate.specs.inner.Prices.{termOctets}
-use Rattle.write_rate.proofs.{Octets.rate-parts, Octets.terms-length, terms_size.Statement.statement}
+use Rattle.write_rate.proofs.{Cited.{arith, eq-eqb, ne-eqb, needs}, Octets.{rate-parts, terms-length}, terms_size.Statement.statement}
 use Rattle.write_rate.proofs.terms_size.Tie as tie
 
 returns-2 : tie.Need-returns-2

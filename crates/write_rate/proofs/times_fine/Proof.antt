@@ -1,7 +1,5 @@
-use Rattle.prelude.proofs.Prelude.{needs}
-use Rattle.coding.proofs.Tests.{tests}
 use Rattle.write_rate.specs.inner.Prices.{timesFine}
-use Rattle.write_rate.proofs.{Prices.zero-first, Prices.was-true, Prices.was-false, times_fine.Statement.statement}
+use Rattle.write_rate.proofs.{Cited.{needs, tests}, Prices.{zero-first, was-true, was-false}, times_fine.Statement.statement}
 use Rattle.write_rate.proofs.times_fine.Tie as tie
 
 pub times-fine-spec : {M : Type 1} → statement M

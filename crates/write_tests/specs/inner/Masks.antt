@@ -2,7 +2,7 @@
 use Prim.Native.Nat.{ℕ}
 use mathlib.Core.Bool.{Bool, false, not, _&&_, _||_, cond}
 use mathlib.Core.List.{List, [], _∷_, _++_}
-use lib.ListN.{length, getD, replicate}
+use lib.ListN.{getD, replicate}
 use lib.Dec.{leb, eqb}
 use Rattle.coding.specs.Codec.{sameList}
 use Rattle.types.specs.declared.Figure.{Figure}
@@ -11,25 +11,30 @@ use Rattle.types.specs.Stored.{moneyIn}
 use Rattle.write_tests.specs.inner.Fine.{bareKind}
 
 -- A mask is text, an x for an octet that is used and a point for one that must be zero: 16 of money, 26 of an association, then the small fields.
--- The last is the count, which goes with the list.
+-- The last of these is the count, which goes with the list.
 abbrev pub isUsed : ℕ → List ℕ
 isUsed n = replicate n 0x78
 
 abbrev pub isZero : ℕ → List ℕ
 isZero n = replicate n 0x2e
 
-abbrev pub moneyMask : List ℕ
-moneyMask = isUsed 16 ++ (isZero 26 ++ (isUsed 4 ++ (isZero 1 ++ isUsed 1)))
+-- by whether there is an association
+abbrev pub withMoney : Bool → List ℕ → List ℕ
+withMoney a small = cond a (isUsed 16 ++ (isUsed 26 ++ small)) (isUsed 16 ++ (isZero 26 ++ small))
 
-abbrev pub unitsMask : List ℕ
-unitsMask = isZero 16 ++ (isZero 26 ++ (isUsed 4 ++ (isZero 1 ++ isUsed 1)))
+abbrev pub withoutMoney : Bool → List ℕ → List ℕ
+withoutMoney a small = cond a (isZero 16 ++ (isUsed 26 ++ small)) (isZero 16 ++ (isZero 26 ++ small))
+
+-- the small fields: the kind, the total, two of the billing, the arrangement, the count
+abbrev pub pricedMask : List ℕ
+pricedMask = isUsed 4 ++ (isZero 1 ++ isUsed 1)
 
 abbrev pub arrangedMask : List ℕ
-arrangedMask = isZero 16 ++ (isZero 26 ++ (isUsed 1 ++ (isZero 3 ++ isUsed 2)))
+arrangedMask = isUsed 1 ++ (isZero 3 ++ isUsed 2)
 
 -- not available, free and rates
 abbrev pub bareMask : List ℕ
-bareMask = isZero 16 ++ (isZero 26 ++ (isUsed 1 ++ (isZero 4 ++ isUsed 1)))
+bareMask = isUsed 1 ++ (isZero 4 ++ isUsed 1)
 
 -- what must be zero of octets
 abbrev pub masked : List ℕ → List ℕ → List ℕ
@@ -58,9 +63,11 @@ arrangedFine o arrangement = (eqb o 30 || eqb o 32) && (leb 1 arrangement && leb
 abbrev pub associated : ℕ → Figure → Bool
 associated o f = leb 35 o && (not (eqb (f .kind) 0) && not (eqb (f .association .kind) 0))
 
-unfoldable pub maskedFine : ℕ → List ℕ → Bool
-maskedFine o s =
-    cond (eqb (getD s 42 0) 2) (clearBut moneyMask s && (pricedFine 33 35 o (getD s 43 0) (getD s 44 0) (getD s 45 0) && (money false) .valid (moneyIn s)))
-    (cond (eqb (getD s 42 0) 3) (clearBut unitsMask s && pricedFine 34 36 o (getD s 43 0) (getD s 44 0) (getD s 45 0))
-    (cond (eqb (getD s 42 0) 5) (clearBut arrangedMask s && arrangedFine o (getD s 46 0))
-    (clearBut bareMask s && bareKind o (getD s 42 0))))
+-- all but the association
+unfoldable pub maskedFine : Bool → ℕ → List ℕ → Bool
+maskedFine a o s =
+    cond (eqb (getD s 42 0) 2)
+    (clearBut (withMoney a pricedMask) s && (pricedFine 33 35 o (getD s 43 0) (getD s 44 0) (getD s 45 0) && (money false) .valid (moneyIn s)))
+    (cond (eqb (getD s 42 0) 3) (clearBut (withoutMoney a pricedMask) s && pricedFine 34 36 o (getD s 43 0) (getD s 44 0) (getD s 45 0))
+    (cond (eqb (getD s 42 0) 5) (clearBut (withoutMoney a arrangedMask) s && arrangedFine o (getD s 46 0))
+    (clearBut (withoutMoney a bareMask) s && bareKind o (getD s 42 0))))

@@ -1,6 +1,4 @@
-use Rattle.prelude.proofs.Prelude.{arith}
-use Rattle.coding.proofs.Tests.{tests}
-use Rattle.read_heads.proofs.values.is_known.Statement.{statement}
+use Rattle.read_heads.proofs.{Cited.{arith, tests}, values.is_known.Statement.statement}
 use Rattle.read_heads.proofs.values.is_known.Tie as tie
 
 pub is-known-spec : {M : Type 1} → statement M

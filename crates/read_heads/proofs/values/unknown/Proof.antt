@@ -1,5 +1,4 @@
-use Rattle.coding.proofs.Tests.{tests}
-use Rattle.read_heads.proofs.values.unknown.Statement.{statement}
+use Rattle.read_heads.proofs.{Cited.tests, values.unknown.Statement.statement}
 use Rattle.read_heads.proofs.values.unknown.Tie as tie
 
 pub unknown-spec : {M : Type 1} → statement M

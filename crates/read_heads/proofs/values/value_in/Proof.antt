@@ -1,5 +1,4 @@
-use Rattle.prelude.proofs.Prelude.{arith}
-use Rattle.read_heads.proofs.{Codes.valuing, Codes.value-low, values.value_in.Statement.statement}
+use Rattle.read_heads.proofs.{Cited.arith, Codes.{valuing, value-low}, values.value_in.Statement.statement}
 use Rattle.read_heads.proofs.values.value_in.Tie as tie
 
 pub value-in-spec : {M : Type 1} → statement M

@@ -1,8 +1,7 @@
 -- Each return by the answers that led to it.
-use Rattle.prelude.proofs.Prelude.{arith}
 use Rattle.coding.{specs.Reader.primitive, specs.Codec.barring, specs.Codec.prim, specs.Leaves.listed, proofs.Reading.reading, proofs.Reading.picks, proofs.Reading.halts}
 use Rattle.types.specs.Frames.{value}
-use Rattle.read_heads.proofs.values.value_long.Statement.{statement}
+use Rattle.read_heads.proofs.{Cited.arith, values.value_long.Statement.statement}
 use Rattle.read_heads.proofs.values.value_long.Tie as tie
 
 pub value-long-spec : {M : Type 1} → statement M
