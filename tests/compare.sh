@@ -19,14 +19,18 @@ library() {
     count=$1
     shift
     # shellcheck disable=SC2086
-    python3 second/inputs.py "$seed" "$count" $2 | tee "$work/$1" | python3 second/answer.py >"$work/second"
-    [ "$(wc -l <"$work/second")" -eq "$count" ] || { echo "compare: the second program did not answer"; exit 1; }
-    sh tools/exec "$work/driver" <"$work/$1" >"$work/library" || exit 1
-    differences "the library" "$work/$1" "$work/second" "$work/library" "$work/driver" || exit 1
+    python3 second/inputs.py "$seed" "$count" $2 | tee "$work/$1" | python3 second/answer.py >"$work/$1.second"
+    [ "$(wc -l <"$work/$1.second")" -eq "$count" ] || { echo "compare: the second program did not answer"; exit 1; }
+    sh tools/exec "$work/driver" <"$work/$1" >"$work/$1.library" || exit 1
+    differences "the library" "$work/$1" "$work/$1.second" "$work/$1.library" "$work/driver" || exit 1
 }
-library "$whole" inputs
-library "$whole" trunks trunks
-library $((whole / 2)) extensions extensions
+# side by side, so that no processor waits for the second program
+library "$whole" inputs & lines=$!
+library "$whole" trunks trunks & trunks=$!
+library $((whole / 2)) extensions extensions & extensions=$!
+status=0
+for family in $lines $trunks $extensions; do wait "$family" || status=1; done
+[ "$status" -eq 0 ] || exit 1
 
 sh tools/prove lines || exit 1
 python3 tests/line_inputs.py "$seed" "$work/inputs" "$work/text" "$work/second" || exit 1
