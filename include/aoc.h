@@ -22,8 +22,8 @@
 #include <stdint.h>
 #include <string.h>
 
-#define AOC_VERSION 50000       /* 5.0.0: ten thousand times the first number, a hundred times the second, the third */
-#define AOC_VERSION_TEXT "5.0.0"
+#define AOC_VERSION 50001       /* 5.0.1: ten thousand times the first number, a hundred times the second, the third */
+#define AOC_VERSION_TEXT "5.0.1"
 
 #ifdef __cplusplus
 extern "C" {

@@ -9,13 +9,10 @@ use Rattle.prelude.proofs.Ways.{by-cases}
 use Rattle.phases.{proofs.Choice.first-of, proofs.Transitions.to-idle, proofs.Transitions.setup-idle, proofs.Transitions.to-ended, proofs.Transitions.component-stays}
 use Rattle.account.specs.declared.Account.{Account}
 use Rattle.account.specs.History.{Judged, any, last, phase, hasFinal, final, noClosing, closing, currentRate, running, known, judged, accountBy, fresh, steppedBy, Shown, shown, picked}
-use Rattle.account.specs.History.{Calls, Obeys, answers}
-use Rattle.account.specs.Step.{knownOf, changeBy, put, changeOf, steppedOf, closingOf, ours}
+use Rattle.account.specs.{History.{Calls, Obeys, answers}, Step.{knownOf, changeBy, put, changeOf, steppedOf, closingOf, ours}}
 use Rattle.coding.specs.Reader.{among}
-use Rattle.outcomes.specs.Outcome.{isRefusal, judge, chargeIn, was, its, settles}
-use Rattle.outcomes.specs.Status.{isGiven, noted, statusAfter}
-use Rattle.outcomes.proofs.Refusals.{none-of, fails, apart}
-use Rattle.outcomes.proofs.Judging.{phased, phased-judge, unsettled-now, ended-judge, keeps, kept-given}
+use Rattle.outcomes.specs.{Outcome.{isRefusal, judge, chargeIn, was, its, settles}, Status.{isGiven, noted, statusAfter}}
+use Rattle.outcomes.proofs.{Refusals.{none-of, fails, apart}, Judging.{phased, phased-judge, unsettled-now, ended-judge, keeps, kept-given}}
 
 abbrev told : Event → List ℕ → Outcome → Judged
 told e o r = record { event = e; octets = o; outcome = r }
@@ -109,12 +106,6 @@ last-given t w (g ∷ h) =
 
 pub final-given : (s : ℕ) (h : List Given) → isGiven (final s (judged h)) ≡ hasFinal s (judged h)
 final-given s h = last-given (its s 22) (λ r q. rw (eqb-true (r .number) 22 (first-of (was 22 r) (eqb (r .service) s) q))) h
-
-pub rate-given : (h : List Given) → isGiven (currentRate (judged h)) ≡ any (λ j. was 20 (j .outcome) || its S 24 (j .outcome)) (judged h)
-rate-given h = last-given (λ r. was 20 r || its S 24 r) (λ r q. rw q) h
-
-pub running-given : (h : List Given) → isGiven (running (judged h)) ≡ any (λ j. was 21 (j .outcome)) (judged h)
-running-given h = last-given (was 21) (λ r q. rw (eqb-true (r .number) 21 q)) h
 
 -- ---- what the account knows is what the list says
 

@@ -1,7 +1,6 @@
 -- Document 02, request 5: while a call is parked, whatever comes leaves every figure, mark and pending request as it was.
-use Rattle.prelude.proofs.Prelude.{ℕ, _≡_, ap, List, true, false, eqb, eqb-true}
+use Rattle.prelude.proofs.{Prelude.{ℕ, _≡_, ap, List, true, false, eqb, eqb-true}, Ways.by-cases}
 use Rattle.phases.specs.{declared.Event.Event, Phases.Suspended, Phases.Setup, Phases.Component, Phases.allowed}
-use Rattle.prelude.proofs.Ways.{by-cases}
 use Rattle.types.specs.Frames.{readOf}
 use Rattle.outcomes.{specs.Outcome.isRefusal, specs.Outcome.judge, specs.Outcome.judgeRecord, proofs.Refusals.decoding-refusal}
 use Rattle.account.specs.{declared.Account.Account, Step.knownOf, Step.changeOf, Step.steppedOf, Noise.isNoise}

@@ -1,7 +1,6 @@
 -- Elements up to an end that are read: their shortest forms, by the first of them.
 use Rattle.prelude.proofs.Prelude.{ℕ, _-_, _≤_, _<_, _≡_, refl, sym, ap, _∙_, List, [], _++_, append-assoc, true, false, true≢false, arith, length, length-append, getD, take, drop}
-use Rattle.prelude.proofs.Prelude.{leb, leb-true, leb-false, le-leb, take-length, add-zero}
-use Rattle.prelude.proofs.Ways.{by-cases}
+use Rattle.prelude.proofs.{Prelude.{leb, leb-true, leb-false, le-leb, take-length, add-zero}, Ways.by-cases}
 use Rattle.coding.{specs.declared.Extent.Extent, specs.Reader.Ans, specs.Reader.got, specs.Reader.halt, specs.Reader.after, specs.Reader.composite}
 use Rattle.coding.{specs.Reader.part, specs.inner.Written.lead, specs.inner.Written.Wrote, proofs.Parts.part-length}
 use Rattle.coding.specs.Normal.{Any, ofOctets, ofElements, Several, more, writeAny, severalAt}

@@ -1,7 +1,6 @@
 -- Elements up to an end, by the first of them: what the numbers that tell of them say.
 use Rattle.prelude.proofs.Prelude.{ℕ, _+_, _-_, _*_, _/_, _%_, _≤_, _<_, _≡_, refl, sym, ap, _∙_, List, _∷_, _++_, true, false, not, cond, arith, length, getD, length-append}
-use Rattle.prelude.proofs.Ways.{by-cases}
-use Rattle.prelude.proofs.Prelude.{eqb, ltb, leb, lt-leb, le-leb, lt-ltb, le-ltb, eq-eqb, ne-eqb, eqb-true, eqb-false, and-false}
+use Rattle.prelude.proofs.{Ways.by-cases, Prelude.{eqb, ltb, leb, lt-leb, le-leb, lt-ltb, le-ltb, eq-eqb, ne-eqb, eqb-true, eqb-false, and-false}}
 use Rattle.coding.{specs.declared.Extent.Extent, specs.Reader.Ans, specs.Reader.Fault, specs.Reader.got, specs.Reader.halt, specs.Reader.code, specs.Reader.after, specs.Reader.opened, specs.Reader.composite, specs.Reader.constructed, specs.Reader.choice, specs.Reader.lengthAt, specs.Reader.numberedAt}
 use Rattle.coding.{specs.Reader.closed, specs.Reader.primitive, specs.Reader.ruled, specs.Reader.part, specs.Reader.mapped, specs.Codec.isTag, specs.Codec.simple, specs.Codec.lengthOctets}
 use Rattle.coding.specs.Normal.{asJudged, octetString, Any, ofOctets, ofElements, Several, more, opening, writeAny, writeSeveral, anyBy, severalAt}

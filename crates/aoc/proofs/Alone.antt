@@ -9,8 +9,8 @@ use prog.{Memory.Memory, Model.Model, Routine.Routine, Routine.Env, Wp.Heap, Wp.
 use ghost.Atoms.{Atoms, sem}
 use contract.{Monad.Fun, Monad.fact, Notation.connectives, Running.GhostRules, Running.Running, Running.tables}
 use types.Kit.{Given, Item, ‵, raw, some, later, _⊛_, ⋆, _$_, _∵_, !, qed, by, move, keep, drop, use1, use2, split, join, fsplit, fjoin, feqI, pick, suffices, frame, await, done}
-use types.{Tokens.lft-new, Share.arr-parts, Part.agg, Run.look, Run.init, Run.forget, Run.stop, Run.hop, Run.from, Run.lit, Run.load, Run.addr, Run.and-then, Run.no-more, Run.assigns, Run.land}
-use types.{Run.returns, Run.enter, Run.alloc1, Run.alloc0, Run.params1, Run.pass1, Run.pass0, Run.free1, Run.free0}
+use types.{Tokens.lft-new, Share.arr-parts, Part.agg, Run.look, Run.init, Run.stop, Run.hop, Run.from, Run.lit, Run.load, Run.addr, Run.and-then, Run.no-more, Run.assigns, Run.land}
+use types.{Run.returns, Run.enter, Run.alloc1, Run.alloc0, Run.params1, Run.pass1, Run.pass0}
 use sound.WpLaws.{FmC}
 use denote.{RattleType.owns, Laws.Is, Laws.shows, Laws.Tells, Memory.pointee, Memory.shares, Plain.uint-makes, Builtin.u8, Ref.RefT, Ref.now, Ref.MutRef, Ref.ptr-vals, Ref.mut-tells}
 use denote.{Slice.ShrSlice, Slice.Room, Slice.sliceTy, Slice.sliceVal, Slice.shr-slice-lawful, Lend.lends-shr-slice, Signature.plain, Steps.peeks, Steps.heard, Steps.nothing, Steps.owned}
@@ -18,9 +18,8 @@ use denote.{Triple.Statement.Contract, Triple.Statement.Triple, Triple.Call.call
 use denote.{Triple.Clauses.Lasts, Triple.Clauses.lasts, Triple.Clauses.atExit, Triple.Clauses.ensured, Triple.Clauses.closing, Triple.Walked.Stays, Triple.Walked.gave-ref, Triple.Walked.stay-dropped}
 use denote.{Triple.Walked.walkOf, Triple.Walked.goes-gave-ref, Triple.Walked.goes-dropped, Triple.Walked.ends-at, Exit.yes}
 use Rattle.requests.specs.{declared.Services.Services, declared.Three.Three}
-use Rattle.account.specs.{declared.Account.Account, History.stepped}
+use Rattle.account.specs.{declared.Account.Account, History.stepped, Events.{plainEvent, setupEvent, Took}}
 use Rattle.phases.specs.declared.{Event.Event, Outcome.Outcome}
-use Rattle.account.specs.Events.{plainEvent, setupEvent, Took}
 use Rattle.prelude.proofs.Walk.{Coded, by-walk}
 use Rattle.aoc.proofs.Passed.{Callee, tokens, to-callee, goes-in, came-back, came, retold, G, known-step}
 use denote.Struct.Laws as LL
@@ -29,6 +28,7 @@ use Rattle.phases.proofs.Event as E
 use Rattle.phases.proofs.Outcome as O
 use Rattle.requests.proofs.Services as Set
 use Rattle.requests.proofs.Three as Ids
+use Rattle.step.proofs.Leave.{leaves, full, end}
 use Rattle.step.proofs.step_in as callee
 use Rattle.account.proofs.plain_event as maker
 use Rattle.aoc.proofs.aoc_connect as own
@@ -167,9 +167,8 @@ module _ {M : Type 1} (𝓤 : URA M) (H : Heap 𝓤) (A : Atoms 𝓤) (W : Given
           split ! $ move ! (1 ∷ []) $ pick ! (λ ws. move ! (1 ∷ []) $ split ! $ move ! (1 ∷ []) $ peeks ! O.the-row (Is O.the-row) (shows 𝓤 H A O.the-row) r (u ∷ []) (λ is.
           -- [what the outcome owns; the tokens; what came back; true; _6; …; _5; …; _4; …; _3; …; _2; …; _1; …; room for _0; …]
           land ! (from ! (stop !)) (init ! 16 refl (LL.lawful O.the-type O.Laws.the-laws 𝓤 H A W .typed r _ is .0)) $
-          returns ! (look ! 16 refl) $ forget ! 4 refl $ forget ! 6 refl $ forget ! 8 refl $ forget ! 10 refl $ forget ! 12 refl $ forget ! 14 refl $ forget ! 16 refl $
-          move ! (16 ∷ 17 ∷ []) $ free1 ! $ move ! (14 ∷ 15 ∷ []) $ free1 ! $ move ! (12 ∷ 13 ∷ []) $ free1 ! $ move ! (10 ∷ 11 ∷ []) $ free1 ! $ move ! (8 ∷ 9 ∷ []) $ free1 ! $
-          move ! (6 ∷ 7 ∷ []) $ free1 ! $ move ! (4 ∷ 5 ∷ []) $ free1 ! $ free0 ! $ keep ! (0 ∷ 1 ∷ 2 ∷ []) $ by ! (plain-exits α l₃ δ ev v e r u ws))))))))))))))))))
+          returns ! (look ! 16 refl) $ leaves ! 4 (full (full (full (full (full (full (full end))))))) $ keep ! (0 ∷ 1 ∷ 2 ∷ []) $
+          by ! (plain-exits α l₃ δ ev v e r u ws))))))))))))))))))
 
   module _ (asked : Services) (ids : Three) where
     abbrev Maker₁ : Contract 𝓤
@@ -232,11 +231,8 @@ module _ {M : Type 1} (𝓤 : URA M) (H : Heap 𝓤) (A : Atoms 𝓤) (W : Given
           calls-at ! fm (Callee 𝓤 H A W at-mem run) known (to-step α l₅ δ ev v) (and-then ! (load ! (from ! (stop !)) (look ! 5 refl)) (and-then ! (load ! (from ! (stop !)) (look ! 9 refl))
           (and-then ! (load ! (from ! (stop !)) (look ! 1 refl)) (no-more !)))) (λ u. use1 W (came 𝓤 H A W at-mem run κ (α ∷ []) q fullShare a (none l₅ δ) ev v u) (id⊢ 𝓤 _) $ await ! tt $ pick ! (λ r.
           split ! $ move ! (1 ∷ []) $ pick ! (λ ws. move ! (1 ∷ []) $ split ! $ move ! (1 ∷ []) $ peeks ! O.the-row (Is O.the-row) (shows 𝓤 H A O.the-row) r (u ∷ []) (λ is.
-          land ! (from ! (stop !)) (init ! 19 refl (LL.lawful O.the-type O.Laws.the-laws 𝓤 H A W .typed r _ is .0)) $ returns ! (look ! 19 refl) $
-          forget ! 3 refl $ forget ! 5 refl $ forget ! 7 refl $ forget ! 9 refl $ forget ! 11 refl $ forget ! 13 refl $ forget ! 15 refl $ forget ! 17 refl $ forget ! 19 refl $
-          move ! (19 ∷ 20 ∷ []) $ free1 ! $ move ! (17 ∷ 18 ∷ []) $ free1 ! $ move ! (15 ∷ 16 ∷ []) $ free1 ! $ move ! (13 ∷ 14 ∷ []) $ free1 ! $ move ! (11 ∷ 12 ∷ []) $ free1 ! $
-          move ! (9 ∷ 10 ∷ []) $ free1 ! $ move ! (7 ∷ 8 ∷ []) $ free1 ! $ move ! (5 ∷ 6 ∷ []) $ free1 ! $ move ! (3 ∷ 4 ∷ []) $ free1 ! $ free0 ! $
-          by ! (setup-exits α l₅ δ ev v e r u ws))))))))))))))))))))
+          land ! (from ! (stop !)) (init ! 19 refl (LL.lawful O.the-type O.Laws.the-laws 𝓤 H A W .typed r _ is .0)) $
+          returns ! (look ! 19 refl) $ leaves ! 3 (full (full (full (full (full (full (full (full (full end))))))))) $ by ! (setup-exits α l₅ δ ev v e r u ws))))))))))))))))))))
 
 module _ {M : Type 1} (𝓤 : URA M) (H : Heap 𝓤) (𝓜 : Model 𝓤 H) (𝓖 : GhostRules 𝓤 H) (𝓡 : Running 𝓤 H 𝓜) (γ : Env) (calls : γ callee.Symbol.name ≡ callee.Symbol.routine) where
   pub plain-spec : (n : ℕ) → Holds (ltb n (2 ^ bits w8)) → (k : Name) → Coded 𝓤 H 𝓜 𝓖 𝓡 γ k (plain-function n) → γ maker.Symbol.name ≡ maker.Symbol.routine

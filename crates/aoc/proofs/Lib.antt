@@ -1,3 +1,4 @@
+pub mod Onward
 pub mod Passed
 pub mod Alone
 pub mod Readers

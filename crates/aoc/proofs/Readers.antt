@@ -10,7 +10,7 @@ use ghost.Atoms.{Atoms, sem}
 use contract.{Monad.fact, Monad.factI, Monad.fact-use, Notation.connectives, Running.GhostRules, Running.Running, Running.givenOf, Running.tables}
 use types.Kit.{Given, Item, ‵, raw, _⊛_, given, mean, ⋆, some, later, _$_, _∵_, !, qed, by, move, keep, drop, use1, use2, split, learn, pick, fsplit, fsplit3, await, join, fjoin, fjoin3}
 use types.Kit.{feqI, suffices, frame, check, done}
-use types.Run.{look, look-raw, init, forget, stop, hop, from, load, of-opd, and-then, no-more, assigns, land, returns, enter, alloc1, alloc0, params1, pass1, pass0, free1, free0}
+use types.Run.{look, look-raw, init, stop, hop, from, load, of-opd, and-then, no-more, assigns, land, returns, enter, alloc1, alloc0, params1, pass1, pass0}
 use sound.WpLaws.{FmC}
 use denote.{RattleType.RattleType, Laws.Is, Laws.Tells, Laws.Copy, Laws.shows, Memory.cellAt, Memory.partAt, Memory.pointee, Steps.looks, Steps.shuts, Steps.peeks, Steps.heard, Steps.owned}
 use denote.{Steps.nothing, Struct.Steps.spelt, Triple.Call.calls-from, Builtin.RefOf, Ref.now, Ref.ptr-vals, Ref.shr-tells, Signature.plain, Triple.Statement.Contract}
@@ -19,7 +19,7 @@ use denote.{Triple.Walked.walkOf, Triple.Walked.goes-none-ref, Triple.Walked.end
 use denote.{Triple.Clauses.lasts, Triple.Clauses.closing}
 use Rattle.account.specs.{declared.Account.Account, History.Judged, History.judged, History.accountBy}
 use Rattle.phases.specs.Phases.{Given as Past}
-use Rattle.step.proofs.Machine.{vA, tellsA}
+use Rattle.step.proofs.{Leave.{leaves, full, end}, Machine.{vA, tellsA}}
 use Rattle.prelude.proofs.Walk.{Coded, by-walk}
 use denote.Struct.Laws as LL
 use Rattle.account.proofs.Account as T
@@ -71,8 +71,7 @@ module _ {M : Type 1} (𝓤 : URA M) (H : Heap 𝓤) (A : Atoms 𝓤) (W : Given
       split ! $ move ! (1 ∷ []) $ use1 W (raw (fact 𝓤 (Said r))) (said r) $ heard ! (Said r) (λ e. split ! $ move ! (1 ∷ []) $
       -- [what the result owns; true; the token; the fractured borrow; res; _2; …; _1; …; room for _0; …]
       use1 W (given (Holds (hasTy τR v) × WT v) (‵ (OwnX r v))) (opened r v) $ learn ! (λ k.
-      land ! (from ! (stop !)) (init ! 9 refl k) $ returns ! (look ! 9 refl) $ forget ! 5 refl $ forget ! 7 refl $ forget ! 9 refl $
-      move ! (9 ∷ 10 ∷ []) $ free1 ! $ move ! (7 ∷ 8 ∷ []) $ free1 ! $ move ! (5 ∷ 6 ∷ []) $ free1 ! $ free0 ! $ keep ! (2 ∷ 4 ∷ 3 ∷ 0 ∷ []) $ by ! (exits r v e))))))))))
+      land ! (from ! (stop !)) (init ! 9 refl k) $ returns ! (look ! 9 refl) $ leaves ! 5 (full (full (full end))) $ keep ! (2 ∷ 4 ∷ 3 ∷ 0 ∷ []) $ by ! (exits r v e))))))))))
 
 -- the function and the reader that it calls, by the result
 abbrev lentEnded : RattleType → Ended

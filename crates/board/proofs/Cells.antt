@@ -9,10 +9,8 @@ use mir.Val.{Val, vint, vstruct, vcons, vnil, vunit, ofList}
 use denote.Laws.{Is}
 use denote.Array.{Array, arrayVal}
 use denote.Builtin.{u32}
-use Rattle.account.specs.declared.Account.{Account}
-use Rattle.account.specs.History.{fresh}
-use Rattle.board_rules.specs.declared.Board.{Board}
-use Rattle.board_rules.specs.Board.{withSlot}
+use Rattle.account.specs.{declared.Account.Account, History.fresh}
+use Rattle.board_rules.specs.{declared.Board.Board, Board.withSlot}
 use Rattle.board_rules.proofs.Board as T
 use Rattle.account.proofs.Account as AC
 use Rattle.step.proofs.Machine.{vA}

@@ -23,8 +23,8 @@ use contract.Monad.{fact}
 use types.Kit.{Given, Item, atRet, use3, join, ‵, raw, _⊛_, given, mean, ⋆, some, later, _$_, _∵_, !, qed, by, move, keep, drop, use1, use2, split, learn, pick}
 use types.Kit.{fsplit, fsplit3, await, rewrite}
 use types.Part.{Part, agg, whole, sub, look-in, store-in}
-use types.Run.{look, init, store, forget, stop, hop, fld, from, load, lit, of-opd, bin, addr, and-then, no-more, assigns, first, skips, branches, exec}
-use types.Run.{returns-within, land, enter, alloc1, alloc0, params1, pass1, pass0, free1, free0}
+use types.Run.{look, init, store, stop, hop, fld, from, load, lit, of-opd, bin, addr, and-then, no-more, assigns, first, skips, branches, exec}
+use types.Run.{returns-within, land, enter, alloc1, alloc0, params1, pass1, pass0}
 use types.SemTy.{Body}
 use types.Tokens.{lft-new, lft-end}
 use denote.Ref.{MutRef}
@@ -34,10 +34,8 @@ use sound.WpLaws.{FmC}
 use denote.{RattleType.RattleType, Laws.Is, Laws.Makes, Laws.shows, Memory.mem, Memory.cellAt, Slice.sliceTy, Steps.opens, Steps.closes, Steps.owned}
 use denote.{Steps.peeks, Steps.heard, Array.arrayVal}
 use denote.Triple.Call.{calls-from}
-use Rattle.step.proofs.Lent.{Typed}
-use Rattle.board.proofs.Item.{item, big-lit, copied, sets}
-use Rattle.board.proofs.Cells.{boardVal}
-use Rattle.board.proofs.Calls.{Gives, calls-value}
+use Rattle.step.proofs.{Leave.{leaves, locals}, Lent.Typed}
+use Rattle.board.proofs.{Item.{item, big-lit, copied, sets}, Cells.boardVal, Calls.{Gives, calls-value}}
 
 abbrev pub boardTys : Ty → Tys
 boardTys τA = tcons (tyArray (tyInt w32) 64) (tcons (tyArray τA 64) tnil)
@@ -287,13 +285,7 @@ module _ {M : Type 1} (𝓤 : URA M) (H : Heap 𝓤) (A : Atoms 𝓤) (W : Given
       owned ! R (Is R) makes (last₃ (atP r) z) (lentVal vs is (atP r) z ∷ []) (is-last₃ vs is (atP r) z is-z) $ move ! (1 ∷ []) $
       use1 W (‵ (cellAt fullShare (R .mir) (lentVal vs is (atP r) z ∷ []) b o)) (cell-in (lentVal vs is (atP r) z)) $
       closes ! tt R (last₃ (atP r) z) (lentVal vs is (atP r) z ∷ []) b o $
-      returns-within ! End refl (look ! 41 refl) $ forget ! 15 refl $ forget ! 17 refl $ forget ! 19 refl $ forget ! 21 refl $ forget ! 23 refl $ forget ! 25 refl $
-      forget ! 29 refl $ forget ! 31 refl $ forget ! 33 refl $ forget ! 35 refl $ forget ! 37 refl $ forget ! 39 refl $ forget ! 41 refl $
-      move ! (41 ∷ 42 ∷ []) $ free1 ! $ move ! (39 ∷ 40 ∷ []) $ free1 ! $ move ! (37 ∷ 38 ∷ []) $ free1 ! $ move ! (35 ∷ 36 ∷ []) $ free1 ! $ move ! (33 ∷ 34 ∷ []) $ free1 ! $
-      move ! (31 ∷ 32 ∷ []) $ free1 ! $ move ! (29 ∷ 30 ∷ []) $ free1 ! $ move ! (27 ∷ 28 ∷ []) $ free1 ! $ move ! (25 ∷ 26 ∷ []) $ free1 ! $ move ! (23 ∷ 24 ∷ []) $ free1 ! $
-      move ! (21 ∷ 22 ∷ []) $ free1 ! $ move ! (19 ∷ 20 ∷ []) $ free1 ! $ move ! (17 ∷ 18 ∷ []) $ free1 ! $ move ! (15 ∷ 16 ∷ []) $ free1 ! $ move ! (13 ∷ 14 ∷ []) $ free1 ! $
-      move ! (11 ∷ 12 ∷ []) $ free1 ! $ move ! (9 ∷ 10 ∷ []) $ free1 ! $ move ! (7 ∷ 8 ∷ []) $ free1 ! $ move ! (5 ∷ 6 ∷ []) $ free1 ! $ free0 ! $
-      keep ! (0 ∷ 1 ∷ 2 ∷ 3 ∷ 4 ∷ []) $ by ! (exits₃ vs is r y z (n .1) held e₃ (m .2)))))))))))
+      returns-within ! End refl (look ! 41 refl) $ leaves ! 5 (search locals depth 20) $ by ! (exits₃ vs is r y z (n .1) held e₃ (m .2)))))))))))
       (λ no. skips ! $ exec ! C Λ E (otherwise τA τB g) (atRet E End) $
       sets ! (bin ! (load ! (from ! (fld ! refl (stop !))) (look-in ! 32 (sub ! 1 refl (whole !)))) (lit ! tt) tt) (store ! 24 refl (tt, tt)) $
       first ! $ branches ! (copied ! 24 refl)
@@ -304,13 +296,7 @@ module _ {M : Type 1} (𝓤 : URA M) (H : Heap 𝓤) (A : Atoms 𝓤) (W : Given
       owned ! R (Is R) makes h (boardVal (ks vs is) (us vs is) ∷ []) (subst (λ (ws : List Val). Is R h ws) (spelt-so vs is) is) $ move ! (1 ∷ []) $
       use1 W (‵ (cellAt fullShare (R .mir) (boardVal (ks vs is) (us vs is) ∷ []) b o)) (cell-in (boardVal (ks vs is) (us vs is))) $
       closes ! tt R h (boardVal (ks vs is) (us vs is) ∷ []) b o $
-      returns-within ! End refl (look ! 41 refl) $ forget ! 23 refl $ forget ! 25 refl $ forget ! 29 refl $ forget ! 31 refl $ forget ! 33 refl $ forget ! 35 refl $
-      forget ! 37 refl $ forget ! 39 refl $ forget ! 41 refl $
-      move ! (41 ∷ 42 ∷ []) $ free1 ! $ move ! (39 ∷ 40 ∷ []) $ free1 ! $ move ! (37 ∷ 38 ∷ []) $ free1 ! $ move ! (35 ∷ 36 ∷ []) $ free1 ! $ move ! (33 ∷ 34 ∷ []) $ free1 ! $
-      move ! (31 ∷ 32 ∷ []) $ free1 ! $ move ! (29 ∷ 30 ∷ []) $ free1 ! $ move ! (27 ∷ 28 ∷ []) $ free1 ! $ move ! (25 ∷ 26 ∷ []) $ free1 ! $ move ! (23 ∷ 24 ∷ []) $ free1 ! $
-      move ! (21 ∷ 22 ∷ []) $ free1 ! $ move ! (19 ∷ 20 ∷ []) $ free1 ! $ move ! (17 ∷ 18 ∷ []) $ free1 ! $ move ! (15 ∷ 16 ∷ []) $ free1 ! $ move ! (13 ∷ 14 ∷ []) $ free1 ! $
-      move ! (11 ∷ 12 ∷ []) $ free1 ! $ move ! (9 ∷ 10 ∷ []) $ free1 ! $ move ! (7 ∷ 8 ∷ []) $ free1 ! $ move ! (5 ∷ 6 ∷ []) $ free1 ! $ free0 ! $
-      keep ! (0 ∷ 1 ∷ 2 ∷ 3 ∷ 4 ∷ []) $ by ! (exits₂ vs is r (n .0 .1) (n .1) no off))
+      returns-within ! End refl (look ! 41 refl) $ leaves ! 5 (search locals depth 20) $ by ! (exits₂ vs is r (n .0 .1) (n .1) no off))
       (λ on. skips ! $ exec ! C Λ E (rest τA τB g) (atRet E End) $
       -- what the slot is to hold is made
       calls-value ! fm takes (and-then ! (copied ! 38 refl) (and-then ! (copied ! 36 refl) (no-more !))) (λ w m.
@@ -333,10 +319,4 @@ module _ {M : Type 1} (𝓤 : URA M) (H : Heap 𝓤) (A : Atoms 𝓤) (W : Given
       use1 W (‵ (cellAt fullShare (R .mir) (lastVal vs is (atP r) w ∷ []) b o)) (cell-in (lastVal vs is (atP r) w)) $
       closes ! tt R (last (atP r) w) (lastVal vs is (atP r) w ∷ []) b o $
       -- [obs; the borrow; the token; the slice's token; the slice; _18; ..]
-      returns-within ! End refl (look ! 41 refl) $ forget ! 5 refl $ forget ! 7 refl $ forget ! 9 refl $ forget ! 11 refl $ forget ! 13 refl $ forget ! 23 refl $
-      forget ! 25 refl $ forget ! 27 refl $ forget ! 29 refl $ forget ! 31 refl $ forget ! 33 refl $ forget ! 35 refl $ forget ! 37 refl $ forget ! 39 refl $ forget ! 41 refl $
-      move ! (41 ∷ 42 ∷ []) $ free1 ! $ move ! (39 ∷ 40 ∷ []) $ free1 ! $ move ! (37 ∷ 38 ∷ []) $ free1 ! $ move ! (35 ∷ 36 ∷ []) $ free1 ! $ move ! (33 ∷ 34 ∷ []) $ free1 ! $
-      move ! (31 ∷ 32 ∷ []) $ free1 ! $ move ! (29 ∷ 30 ∷ []) $ free1 ! $ move ! (27 ∷ 28 ∷ []) $ free1 ! $ move ! (25 ∷ 26 ∷ []) $ free1 ! $ move ! (23 ∷ 24 ∷ []) $ free1 ! $
-      move ! (21 ∷ 22 ∷ []) $ free1 ! $ move ! (19 ∷ 20 ∷ []) $ free1 ! $ move ! (17 ∷ 18 ∷ []) $ free1 ! $ move ! (15 ∷ 16 ∷ []) $ free1 ! $ move ! (13 ∷ 14 ∷ []) $ free1 ! $
-      move ! (11 ∷ 12 ∷ []) $ free1 ! $ move ! (9 ∷ 10 ∷ []) $ free1 ! $ move ! (7 ∷ 8 ∷ []) $ free1 ! $ move ! (5 ∷ 6 ∷ []) $ free1 ! $ free0 ! $
-      keep ! (0 ∷ 1 ∷ 2 ∷ 3 ∷ 4 ∷ []) $ by ! (exits vs is r (n .0 .1) w (n .1) no on (m .1) (m .0 .1)))))))))))))))))))))))))))
+      returns-within ! End refl (look ! 41 refl) $ leaves ! 5 (search locals depth 20) $ by ! (exits vs is r (n .0 .1) w (n .1) no on (m .1) (m .0 .1)))))))))))))))))))))))))))

@@ -17,15 +17,13 @@ use prog.Wp.{Heap, Calls, Loops, WpFn}
 use ghost.Atoms.{Atoms, sem}
 use types.Kit.{Given, ‵, _⊛_, ⋆, _$_, _∵_, !, qed, by, move, keep, drop, use1, split, fsplit, fsplit3, rewrite}
 use types.Part.{whole, sub, look-in, store-in}
-use types.Run.{look, init, store, forget, stop, hop, fld, from, load, lit, of-opd, bin, addr, and-then, no-more, assigns, returns, land, enter, alloc1, alloc0, params1, pass1, pass0, free1, free0}
+use types.Run.{look, init, store, stop, hop, fld, from, load, lit, of-opd, bin, addr, and-then, no-more, assigns, returns, land, enter, alloc1, alloc0, params1, pass1, pass0}
 use types.SemTy.{Body}
 use sound.WpLaws.{FmC}
 use denote.{RattleType.RattleType, Laws.Is, Laws.Makes, Laws.shows, Memory.mem, Memory.cellAt, Steps.opens, Steps.closes, Steps.owned}
 use denote.{Steps.peeks, Array.arrayVal}
-use Rattle.step.proofs.Lent.{Typed}
-use Rattle.board.proofs.Item.{big-lit, copied, sets}
-use Rattle.board.proofs.Cells.{boardVal}
-use Rattle.board.proofs.Calls.{Gives, calls-value}
+use Rattle.step.proofs.{Leave.{leaves, locals}, Lent.Typed}
+use Rattle.board.proofs.{Item.{big-lit, copied, sets}, Cells.boardVal, Calls.{Gives, calls-value}}
 use Rattle.board.proofs.Lent.{boardTys, boardTy, heldTy, heldVal, Held-typed, account-at, key-at}
 
 abbrev pub lentFn : (τA τW τO τR τB : Ty) (f g : Name) → Fn
@@ -153,11 +151,4 @@ module _ {M : Type 1} (𝓤 : URA M) (H : Heap 𝓤) (A : Atoms 𝓤) (W : Given
       use1 W (‵ (cellAt fullShare (R .mir) (lastVal vs is r w ∷ []) b o)) (cell-in (lastVal vs is r w)) $
       closes ! tt R (last r w) (lastVal vs is r w ∷ []) b o $
       -- [obs; the borrow; the token; _18; ..]
-      returns ! (look ! 39 refl) $ forget ! 3 refl $ forget ! 5 refl $ forget ! 7 refl $ forget ! 9 refl $ forget ! 11 refl $ forget ! 13 refl $ forget ! 15 refl $ forget ! 17 refl $
-      forget ! 19 refl $ forget ! 21 refl $ forget ! 23 refl $ forget ! 25 refl $ forget ! 27 refl $ forget ! 29 refl $ forget ! 31 refl $ forget ! 33 refl $ forget ! 35 refl $
-      forget ! 37 refl $ forget ! 39 refl $
-      move ! (39 ∷ 40 ∷ []) $ free1 ! $ move ! (37 ∷ 38 ∷ []) $ free1 ! $ move ! (35 ∷ 36 ∷ []) $ free1 ! $ move ! (33 ∷ 34 ∷ []) $ free1 ! $ move ! (31 ∷ 32 ∷ []) $ free1 ! $
-      move ! (29 ∷ 30 ∷ []) $ free1 ! $ move ! (27 ∷ 28 ∷ []) $ free1 ! $ move ! (25 ∷ 26 ∷ []) $ free1 ! $ move ! (23 ∷ 24 ∷ []) $ free1 ! $ move ! (21 ∷ 22 ∷ []) $ free1 ! $
-      move ! (19 ∷ 20 ∷ []) $ free1 ! $ move ! (17 ∷ 18 ∷ []) $ free1 ! $ move ! (15 ∷ 16 ∷ []) $ free1 ! $ move ! (13 ∷ 14 ∷ []) $ free1 ! $ move ! (11 ∷ 12 ∷ []) $ free1 ! $
-      move ! (9 ∷ 10 ∷ []) $ free1 ! $ move ! (7 ∷ 8 ∷ []) $ free1 ! $ move ! (5 ∷ 6 ∷ []) $ free1 ! $ move ! (3 ∷ 4 ∷ []) $ free1 ! $ free0 ! $
-      keep ! (0 ∷ 1 ∷ 2 ∷ []) $ by ! (exits vs is r w (n .1) (m .1) (m .0 .1)))))))))))))))))))))))))
+      returns ! (look ! 39 refl) $ leaves ! 3 (search locals depth 20) $ by ! (exits vs is r w (n .1) (m .1) (m .0 .1)))))))))))))))))))))))))

@@ -16,16 +16,13 @@ use prog.Wp.{Heap, Calls, Loops, WpFn}
 use ghost.Atoms.{Atoms, sem}
 use types.Kit.{Given, Item, ‵, _⊛_, ⋆, _$_, _∵_, !, qed, by, move, keep, drop, use1, split, fsplit, fsplit3, rewrite}
 use types.Part.{whole, sub, look-in}
-use types.Run.{look, init, forget, stop, hop, fld, from, load, lit, of-opd, bin, addr, and-then, no-more, returns, land, enter, alloc1, alloc0, params1, pass1}
-use types.Run.{pass0, free1, free0}
+use types.Run.{look, init, stop, hop, fld, from, load, lit, of-opd, bin, addr, and-then, no-more, returns, land, enter, alloc1, alloc0, params1, pass1}
+use types.Run.{pass0}
 use sound.WpLaws.{FmC}
 use denote.{RattleType.RattleType, Laws.Is, Laws.Tells, Laws.Copy, Laws.shows, Memory.cellAt, Memory.partAt, Steps.looks, Steps.shuts, Steps.peeks}
 use denote.{Array.arrayVal}
-use Rattle.step.proofs.Lent.{Typed}
-use Rattle.board.proofs.Item.{big-lit, copied, sets}
-use Rattle.board.proofs.Cells.{boardVal}
-use Rattle.board.proofs.Calls.{Gives, calls-value}
-use Rattle.board.proofs.Lent.{boardTys, boardTy, account-at}
+use Rattle.step.proofs.{Leave.{leaves, locals}, Lent.Typed}
+use Rattle.board.proofs.{Item.{big-lit, copied, sets}, Cells.boardVal, Calls.{Gives, calls-value}, Lent.{boardTys, boardTy, account-at}}
 
 abbrev pub viewFn : (τA τO τR τB : Ty) (f g : Name) → Fn
 viewFn τA τO τR τB f g = record {
@@ -102,9 +99,4 @@ module _ {M : Type 1} (𝓤 : URA M) (H : Heap 𝓤) (A : Atoms 𝓤) (W : Given
       -- [the token; the borrow; res; _9; ..]
       calls-value ! fm (views vs is r (n .0 .1)) (and-then ! (copied ! 3 refl) (and-then ! (copied ! 15 refl) (no-more !))) (λ w m.
       land ! (from ! (stop !)) (init ! 21 refl (m .0 .0)) $
-      returns ! (look ! 21 refl) $ forget ! 3 refl $ forget ! 5 refl $ forget ! 7 refl $ forget ! 9 refl $ forget ! 11 refl $ forget ! 13 refl $
-      forget ! 15 refl $ forget ! 17 refl $ forget ! 19 refl $ forget ! 21 refl $
-      move ! (21 ∷ 22 ∷ []) $ free1 ! $ move ! (19 ∷ 20 ∷ []) $ free1 ! $ move ! (17 ∷ 18 ∷ []) $ free1 ! $ move ! (15 ∷ 16 ∷ []) $ free1 ! $
-      move ! (13 ∷ 14 ∷ []) $ free1 ! $ move ! (11 ∷ 12 ∷ []) $ free1 ! $ move ! (9 ∷ 10 ∷ []) $ free1 ! $ move ! (7 ∷ 8 ∷ []) $ free1 ! $
-      move ! (5 ∷ 6 ∷ []) $ free1 ! $ move ! (3 ∷ 4 ∷ []) $ free1 ! $ free0 ! $
-      keep ! (0 ∷ 2 ∷ 1 ∷ []) $ by ! (exits vs is r w (n .1) (m .1) (m .0 .1))))))))))))))))
+      returns ! (look ! 21 refl) $ leaves ! 3 (search locals depth 11) $ keep ! (0 ∷ 2 ∷ 1 ∷ []) $ by ! (exits vs is r w (n .1) (m .1) (m .0 .1))))))))))))))))

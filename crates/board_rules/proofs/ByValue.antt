@@ -11,8 +11,7 @@ use Rattle.step_rules.proofs.Changes.{phase-change}
 use Rattle.board_rules.specs.declared.{Board.Board, Viewed.Viewed, Seat.Seat, Held.Held, Freed.Freed}
 use Rattle.board_rules.specs.Board.{keyOf, lowest, heldIn, isHeld, isFull, callOf, withSlot, Boarded, boarded, admitted, eventOn, Emptied, emptied, uncollected, collectOn, viewOn}
 use Rattle.board_rules.specs.inner.ByValue.{seated, seatOf, begun, takenUp, freed, freeOf, viewedOf}
-use Rattle.board_rules.proofs.Slots.{found, at-end, free-fewer, none-free}
-use Rattle.board_rules.proofs.Table.{yes, no}
+use Rattle.board_rules.proofs.{Slots.{found, at-end, free-fewer, none-free}, Table.{yes, no}}
 
 pub freed-now : (a : Account) (key slot : ℕ) → (slot ≡ 64 → ⊥) → a .status .phase ≡ 4 → freeOf a key slot ≡ freed (record { number = 0; closing = closingOf a }) 0 fresh
 unfolding freeOf

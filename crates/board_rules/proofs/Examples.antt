@@ -4,11 +4,9 @@ use Rattle.coding.specs.Reader.{after, tagged, neither, choice, extent, numbere
 use Rattle.coding.specs.Reader.{enteredAny, part, mapped, narrowed, ruled, primitive, optional, entries, listOf}
 use Rattle.coding.specs.Contents.{numberFrom, valueOf, negative, shortest, natural, every, text, null}
 use Rattle.coding.specs.Codec.{oneOf, prim, cons, nothing, pair, alt, over, maybe, some·more, leafOver, leads, barring, marked, sort, frames, shape, canonical, pad, padded}
-use Rattle.coding.specs.Leaves.{number, string, nullLeaf, integer, identifier, listing, listed, only, given}
-use Rattle.coding.specs.Rows.{rows, table}
+use Rattle.coding.specs.{Leaves.{number, string, nullLeaf, integer, identifier, listing, listed, only, given}, Rows.{rows, table}}
 use Rattle.types.specs.Charges.{scaled, currencyLeaf, currency, money, digitsLeaf, identified, planned, partyNumber, plainParty, party, unassociated, association}
-use Rattle.types.specs.Entries.{unit}
-use Rattle.types.specs.Rates.{duration, flatRate, volume, coded, plainRate, price, rate}
+use Rattle.types.specs.{Entries.unit, Rates.{duration, flatRate, volume, coded, plainRate, price, rate}}
 use Rattle.types.specs.Arguments.{sign, inMoney, inUnits, during, subtotals, ending, settled, withAssociation, finals, rates, arrangement, available, chargeOf}
 use Rattle.types.specs.Frames.{value, carrying, request, argument, invoke, returnResult, failed, returnError, caller, problem, problems, reject, frame, component, readWhole, readOf}
 use Rattle.amounts.specs.{Currency.trimmed, Currency.equalCurrency, Amounts.equalMoney}

@@ -1,7 +1,6 @@
 -- Demand 3 for a call of the table, in its own words: what a host reads after each event of the call is what the rules pick out of the call's list of events, those refused 35 left out.
-use Rattle.prelude.proofs.Prelude.{ℕ, _≡_, refl, sym, _∙_, ap, List, [], _∷_, Bool, true, false, not, _&&_, eqb, eq-eqb, arith}
+use Rattle.prelude.proofs.{Prelude.{ℕ, _≡_, refl, sym, _∙_, ap, List, [], _∷_, Bool, true, false, not, _&&_, eqb, eq-eqb, arith}, Ways.by-cases}
 use Rattle.phases.{specs.Phases.Given, specs.Phases.Ended, specs.Phases.noService, specs.declared.Outcome.Outcome, proofs.Choice.by-number, proofs.Choice.never}
-use Rattle.prelude.proofs.Ways.{by-cases}
 use Rattle.coding.proofs.Basic.{and-both}
 use Rattle.outcomes.specs.Outcome.{judge}
 use Rattle.account.specs.{declared.Closing.Closing, History.judged, History.known, History.currentRate, History.running, History.marks, History.Shown, History.shown}
@@ -10,8 +9,7 @@ use Rattle.account.proofs.Demand.{closing-stands}
 use Rattle.board_rules.specs.Board.{uncollected, isHeld, freshBoard, Boarded}
 use Rattle.board_rules.specs.Calls.{Operation, happens, collects, views, referenceOf, Answer, outcome, collected, answerNumber, Done, did, answerOn, runOn, afterAll, isSetup, isOpen, carried, present, calls}
 use Rattle.board_rules.specs.Calls.{ruling, ruledAll, ruledAlone, own, ownDone, setupFull, noneFull, watched, leftOut, readings, noSetups}
-use Rattle.board_rules.proofs.Table.{yes, no, setup-held}
-use Rattle.board_rules.proofs.Rules.{doneAfter, rules-after, none-held, same-ruled, alone-from}
+use Rattle.board_rules.proofs.{Table.{yes, no, setup-held}, Rules.{doneAfter, rules-after, none-held, same-ruled, alone-from}}
 
 module _ (r : ℕ) where
   -- what is read of an event that is answered a, and of the call's events q after it

@@ -1,13 +1,11 @@
 -- Refused, the table is as it was.
-use Rattle.prelude.proofs.Prelude.{ℕ, _≡_, refl, sym, _∙_, ap, List, true, false, eqb, eqb-true, getD, set}
+use Rattle.prelude.proofs.{Prelude.{ℕ, _≡_, refl, sym, _∙_, ap, List, true, false, eqb, eqb-true, getD, set}, Ways.by-cases}
 use lib.Seq.{set-getD}
 use Rattle.phases.{specs.Phases.Given, proofs.Choice.never}
-use Rattle.prelude.proofs.Ways.{by-cases}
 use Rattle.outcomes.specs.Outcome.{isRefusal, was}
 use Rattle.account.{specs.declared.Account.Account, specs.declared.Stepped.Stepped, specs.History.fresh, specs.Step.steppedOf, proofs.Demand.refused-nothing}
 use Rattle.board_rules.specs.declared.Board.{Board}
-use Rattle.board_rules.specs.Board.{keyOf, lowest, isHeld, isFull, callOf, withSlot, Boarded, eventOn, Emptied, collectOn}
-use Rattle.board_rules.specs.Calls.{isSetup}
+use Rattle.board_rules.specs.{Board.{keyOf, lowest, isHeld, isFull, callOf, withSlot, Boarded, eventOn, Emptied, collectOn}, Calls.isSetup}
 use Rattle.board_rules.proofs.Slots.{found}
 use Rattle.board_rules.proofs.Table.{yes, no, setup-held, setup-full, setup-new, other-held, other-none, collect-none, collect-early, collect-now}
 

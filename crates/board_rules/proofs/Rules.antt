@@ -1,8 +1,7 @@
 -- Any list of operations from a fresh table: each answer is that of the rules over the reference's own call, and no other call changes it.
 use Rattle.prelude.proofs.Prelude.{ℕ, zero, suc, _<_, _≡_, refl, sym, _∙_, ap, subst, List, [], _∷_, Bool, true, false, not, cond, none, eqb, eqb-true}
-use Rattle.prelude.proofs.Prelude.{eqb-false, eq-eqb, ne-eqb, not-true, arith, getD, replicate, length-replicate, _↔_, _⊎_, inl, inr}
+use Rattle.prelude.proofs.{Prelude.{eqb-false, eq-eqb, ne-eqb, not-true, arith, getD, replicate, length-replicate, _↔_, _⊎_, inl, inr}, Ways.by-cases}
 use Rattle.phases.specs.{Phases.Given, Phases.noService, Phases.Setup, Phases.clashes, Phases.allowed, declared.Outcome.Outcome}
-use Rattle.prelude.proofs.Ways.{by-cases}
 use Rattle.phases.{proofs.Choice.by-number, proofs.Choice.never, proofs.Choice.first-of, proofs.Choice.second-of}
 use Rattle.coding.specs.Reader.{among}
 use Rattle.outcomes.specs.Outcome.{was, judge}

@@ -1,7 +1,6 @@
 -- Keys and slots: what a search finds, and what another key in a slot changes. Lists alone.
 use Rattle.prelude.proofs.Prelude.{ℕ, zero, suc, _+_, _<_, _≤_, _≡_, refl, sym, _∙_, ap, List, [], _∷_, Bool, true, false, not, _&&_, _||_, cond, eqb, eqb-false, eq-eqb, ne-eqb}
-use Rattle.prelude.proofs.Prelude.{not-true, arith, length, getD, set, drop}
-use Rattle.prelude.proofs.Ways.{by-cases}
+use Rattle.prelude.proofs.{Prelude.{not-true, arith, length, getD, set, drop}, Ways.by-cases}
 use Rattle.phases.proofs.Choice.{by-number, never, first-of, second-of}
 use Rattle.coding.specs.Reader.{among}
 use Rattle.board_rules.specs.Board.{lowest, heldIn}

@@ -1,9 +1,8 @@
 -- One operation on the table: its answer and what it leaves are what the rules say over what the reference holds, and no other reference sees it.
 use Rattle.prelude.proofs.Prelude.{ℕ, suc, _-_, _<_, _≡_, refl, sym, _∙_, ap, subst, List, [], _∷_, Bool, true, false, cond, Option, none, some, eqb, eqb-true}
-use Rattle.prelude.proofs.Prelude.{eqb-false, arith, length, getD, set, length-set}
+use Rattle.prelude.proofs.{Prelude.{eqb-false, arith, length, getD, set, length-set}, Ways.by-cases}
 use lib.Seq.{getD-set-same, getD-set-other, set-getD}
 use Rattle.phases.specs.{Phases.Given, Phases.Setup, Phases.Ended, Phases.noService, declared.Outcome.Outcome}
-use Rattle.prelude.proofs.Ways.{by-cases}
 use Rattle.coding.specs.Reader.{among}
 use Rattle.outcomes.specs.Outcome.{was, judge}
 use Rattle.account.{specs.declared.Account.Account, specs.History.judged, specs.History.known, specs.History.phase, specs.History.closing}
@@ -13,7 +12,7 @@ use Rattle.board_rules.specs.declared.Board.{Board}
 use Rattle.board_rules.specs.Board.{uncollected, keyOf, lowest, heldIn, isHeld, isFull, callOf, withSlot, Boarded, boarded, admitted, updated, eventOn, Emptied, emptied, collectOn}
 use Rattle.board_rules.specs.Board.{viewOn}
 use Rattle.board_rules.specs.Calls.{Operation, happens, collects, views, referenceOf, Answer, outcome, collected, answerNumber, answerOn, nextOn, isSetup, carried, callsAfter, ruling}
-use Rattle.board_rules.proofs.Slots.{found, kept-among, kept-lowest, new-among, new-lowest, free-fewer, none-free, held-more, held-less, differ, differ-free, differ-new, gone}
+use Rattle.board_rules.proofs.Slots.{found, kept-among, kept-lowest, new-among, new-lowest, none-free, held-more, held-less, differ, differ-free, differ-new, gone}
 
 -- what every table has that is reached from the fresh one
 pub record Sound (b : Board) : Type 0 where
@@ -113,10 +112,7 @@ module _ (b : Board) (s : Sound b) (r : ℕ) (a : Account) where
     pub free-count : suc (heldIn (withSlot b mine 0 a .keys)) ≡ heldIn (b .keys)
     free-count = held-less (b .keys) mine (found (keyOf r) (b .keys) h .0) (λ z. no-key r (sym (z ∙ found (keyOf r) (b .keys) h .1)))
 
--- ---- 64 slots are held exactly when none is free
-
-pub full-none : (b : Board) → Sound b → isFull b ≡ true → among 0 (b .keys) ≡ false
-full-none b s q = by-cases (among 0 (b .keys)) (λ f. absurd (omega (arith, free-fewer (b .keys) f, s .keys, eqb-true (heldIn (b .keys)) 64 q))) (λ f. f)
+-- ---- fewer than 64 slots are held only where one is free
 
 pub none-full : (b : Board) → Sound b → isFull b ≡ false → among 0 (b .keys) ≡ true
 none-full b s q = by-cases (among 0 (b .keys)) (λ f. f) (λ f. absurd (eqb-false (heldIn (b .keys)) 64 q (none-free (b .keys) f ∙ s .keys)))

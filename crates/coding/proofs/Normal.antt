@@ -11,9 +11,7 @@ use Rattle.coding.proofs.Basic.{Given, it, void, granted, known, after-
 use Rattle.coding.proofs.Header.{opens, opened-sound, length-forward, spans-tag, spans-range, spans-forward, spans-complete, spans-walk}
 use Rattle.coding.proofs.Laws.{Octets, LeafLaws, RunLaws}
 use Rattle.coding.proofs.Value.{Value, valued, reads, lawful, at-end, none-value, starts, forwards, headed, guarded, joined, element}
-use Rattle.coding.proofs.Combine.{primLaws}
-use Rattle.coding.proofs.Digits.{Fit, fit, out, leafLaws}
-use Rattle.coding.proofs.{Padded.listEqual, Padded.eqbEqual, Whole.reads-back}
+use Rattle.coding.proofs.{Combine.primLaws, Digits.{Fit, fit, out, leafLaws}, Padded.listEqual, Padded.eqbEqual, Whole.reads-back}
 
 -- ---- octets
 

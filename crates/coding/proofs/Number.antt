@@ -1,10 +1,9 @@
 -- Numbers that are not negative, of 1 to 4 octets: how many octets they take, and their laws.
 use Rattle.prelude.proofs.Prelude.{ℕ, zero, suc, _+_, _*_, _/_, _^_, _≤_, _<_, _≡_, sym, ap, _∙_, List, [], _∷_, true, false, true≢false, arith, mod-eq-of-lt, pow-le-pow-right}
-use Rattle.prelude.proofs.Prelude.{lt-of-not-le, length, ltb, leb, ℤ, pos, leb-true, leb-false, ltb-true, ltb-false, lt-ltb, le-ltb}
+use Rattle.prelude.proofs.{Prelude.{lt-of-not-le, length, ltb, leb, ℤ, pos, leb-true, leb-false, ltb-true, ltb-false, lt-ltb, le-ltb}, Ways.by-cases}
 use Rattle.coding.specs.{Reader.Fault, Reader.Ruling, Contents.numberFrom, Contents.negative, Contents.valueOf, Contents.shortest, Contents.natural, Leaves.digits, Leaves.inOctets}
 use Rattle.coding.specs.{Leaves.fewest, Leaves.width, Leaves.number, Leaves.shorten}
 use Rattle.coding.proofs.{Basic.picked, Basic.unpicked, Basic.by-test, Basic.and-left, Basic.and-right, Basic.and-both, Laws.Octets, Laws.LeafLaws, Signed.by-sign, Signed.half}
-use Rattle.prelude.proofs.Ways.{by-cases}
 use Rattle.coding.proofs.{Signed.octet-low, Signed.value-low, Signed.shorten-value, Signed.shorten-shortest, Signed.shorten-octets}
 pub use Rattle.coding.proofs.Digits.{length-digits, octets-digits, number-digits, digits-number, below, least, Fit, fit, out, judged, fitting, decide, leafLaws}
 

@@ -1,12 +1,11 @@
 -- INTEGER contents in two's complement, over any number of octets: their laws, and the number of ℤ that a pattern stands for.
 use Rattle.prelude.proofs.Prelude.{ℕ, zero, suc, _+_, _-_, _*_, _/_, _%_, _^_, _≤_, _<_, _≡_, refl, sym, ap, ap₂, _∙_, List, [], _∷_, true, false, true≢false, cond, arith, pow-suc}
 use Rattle.prelude.proofs.Prelude.{mod-eq-of-lt, mul-le-mul-right, pow-le-pow-right, div-lt-iff-lt-mul, digits-lt, length, ltb, leb, eqb, ℤ, pos, negsuc, ltb-true, ltb-false, leb-true}
-use Rattle.prelude.proofs.Prelude.{leb-false, eqb-true, eqb-false, lt-ltb, le-ltb, le-leb, lt-leb}
+use Rattle.prelude.proofs.{Prelude.{leb-false, eqb-true, eqb-false, lt-ltb, le-ltb, le-leb, lt-leb}, Ways.by-cases}
 use mir.{Syntax.w16, Val.toZ, Val.sel}
 use Rattle.coding.specs.{Reader.Fault, Reader.Ruling, Contents.numberFrom, Contents.negative, Contents.valueOf, Contents.shortest, Leaves.digits, Leaves.inOctets, Leaves.patternOf}
 use Rattle.coding.specs.{Leaves.integer, Leaves.shorten, Leaves.signed, Leaves.identifier}
 use Rattle.coding.proofs.{Basic.picked, Basic.unpicked, Basic.by-test, Basic.cond-case, Basic.unless, Basic.octets-none, Basic.octets-cons, Laws.Octets, Laws.LeafLaws}
-use Rattle.prelude.proofs.Ways.{by-cases}
 use Rattle.coding.proofs.{Digits.power-some, Digits.number-cons, Digits.tail, Digits.number-lt, Digits.length-digits, Digits.octets-digits, Digits.number-digits, Digits.digits-number}
 use Rattle.coding.proofs.{Digits.below, Digits.number-two, Digits.least, Digits.fit, Digits.out, Digits.fitting, Digits.decide, Digits.leafLaws}
 

@@ -1,8 +1,7 @@
 -- What the laws say of one value, and how values are put together: each combinator's laws are these.
 use Rattle.prelude.proofs.Prelude.{ℕ, _+_, _≤_, _<_, _≡_, refl, sym, ap, _∙_, subst, List, [], _∷_, _++_, Bool, true, false, not, _&&_, _||_, true≢false, cond, _⊎_, inl, inr, arith, length}
 use Rattle.prelude.proofs.Prelude.{getD, length-append, ltb, leb, ltb-true, le-leb, eq-eqb}
-use Rattle.coding.specs.Reader.{got}
-use Rattle.coding.specs.Codec.{lengthOctets, Spans, definite, Walk, here, Holds, isTag, oneOf, apart, Run}
+use Rattle.coding.specs.{Reader.got, Codec.{lengthOctets, Spans, definite, Walk, here, Holds, isTag, oneOf, apart, Run}}
 use Rattle.coding.proofs.{Basic.Given, Basic.granted, Basic.known, Basic.and-left, Basic.and-right, Basic.and-both, Basic.or-no, Basic.has-left, Basic.has-right, Basic.apart-has}
 use Rattle.coding.proofs.{Basic.holds-split, Basic.holds-both, Basic.octets-none, Basic.octets-both, Header.opened-written, Header.spans-only, Header.element-octets, Header.spans-tag}
 use Rattle.coding.proofs.{Header.spans-range, Header.spans-forward, Header.spans-shortest, Search.walk-join, Laws.Octets, Laws.clear, Laws.RunLaws}

@@ -1,7 +1,6 @@
 -- Elements that the definition accepts and refuses.
 use Rattle.prelude.proofs.Prelude.{ℕ, _≡_, refl, List, [], _∷_, map, length}
-use Rattle.coding.specs.Reader.{after, numberedAt, endless, marker, turn, searched, findEnd, spanned, lengthAt, extent}
-use Rattle.coding.specs.Codec.{pad}
+use Rattle.coding.specs.{Reader.{after, numberedAt, endless, marker, turn, searched, findEnd, spanned, lengthAt, extent}, Codec.pad}
 use Rattle.element.specs.{declared.Starts.Starts, Element.tiled, Element.isProfile, Element.led, Element.malformed, Element.startsFound, Element.elementOf}
 
 pub record Case : Type 0 where

@@ -1,12 +1,10 @@
 -- The loop over an element's components: the starts so far, and that the whole is those and then the rest.
 use Rattle.prelude.proofs.Prelude.{ℕ, suc, _+_, _-_, _*_, _≤_, _<_, arith, sub-zero, _≡_, refl, sym, _∙_, List, [], _∷_, _++_, append-nil, length, getD, length-append, lt-ltb, eq-eqb}
-use Rattle.prelude.proofs.Prelude.{ne-eqb, eqb, eqb-true, cond, take-append-seam}
-use Rattle.prelude.proofs.Ways.{by-cases}
+use Rattle.prelude.proofs.{Prelude.{ne-eqb, eqb, eqb-true, cond, take-append-seam}, Ways.by-cases}
 use Rattle.coding.{specs.declared.Extent.Extent, specs.Reader.after, specs.Reader.lengthAt, specs.Reader.opened, specs.Reader.Ans.got, specs.inner.Shown.shown, specs.Codec.pad}
 use Rattle.coding.{proofs.Header.opened-there, proofs.Header.read-element, proofs.Header.element-range, proofs.Lists.behind, proofs.Lists.behind-nil, proofs.Lists.behind-after}
 use Rattle.coding.{proofs.Reading.got-of, proofs.Reading.halt-of}
-use Rattle.element.specs.Element.{tiled, tilesIn, isProfile, led, startsFound, malformed}
-use Rattle.element.specs.{Cut.startsOf, Cut.firstOr, inner.Places.afterIn}
+use Rattle.element.specs.{Element.{tiled, tilesIn, isProfile, led, startsFound, malformed}, Cut.startsOf, Cut.firstOr, inner.Places.afterIn}
 
 -- ---- the first three octets
 

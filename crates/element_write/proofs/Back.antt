@@ -3,8 +3,7 @@ use Rattle.prelude.proofs.Prelude.{ℕ, suc, _+_, _-_, _≤_, _<_, arith, _≡_
 use Rattle.prelude.proofs.Prelude.{length-append, take-append-seam, drop-append-seam, ltb, leb, eqb, ltb-true, eqb-true, lt-ltb, le-leb}
 use Rattle.coding.{specs.Reader.Ans, specs.Reader.part, specs.Reader.Ans.got, specs.Reader.Ans.halt, specs.Codec.pad, proofs.Basic.and-left, proofs.Basic.and-right}
 use Rattle.types.specs.Frames.{readOf}
-use Rattle.element.specs.Element.{tiled, isProfile, led, elementOf}
-use Rattle.element.specs.Cut.{startsOf, firstOr, partsOf, joined, Tiles}
+use Rattle.element.specs.{Element.{tiled, isProfile, led, elementOf}, Cut.{startsOf, firstOr, partsOf, joined, Tiles}}
 use Rattle.element.{specs.Cut.placesOf, proofs.Tiles.cut-all, proofs.Tiles.laid-all, proofs.Tiles.found, proofs.Tiles.places-count, proofs.Tiles.tiles, proofs.Tiles.element-found}
 use Rattle.element_pass.{specs.Pass.Reads, specs.Pass.Through, specs.Pass.lines, proofs.Through.through}
 use Rattle.element_write.specs.Round.{round, roundBy, isFound, isTiled, elementHolds}

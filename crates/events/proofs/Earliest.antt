@@ -1,6 +1,5 @@
 -- The earliest event that passes a test passes it, and none before it does.
-use Rattle.prelude.proofs.Prelude.{ℕ, _+_, _≤_, _≡_, refl, Bool, true, List, [], _∷_, arith, length, eqb-false, ne-eqb}
-use Rattle.prelude.proofs.Ways.{by-cases}
+use Rattle.prelude.proofs.{Prelude.{ℕ, _+_, _≤_, _≡_, refl, Bool, true, List, [], _∷_, arith, length, eqb-false, ne-eqb}, Ways.by-cases}
 use Rattle.phases.proofs.Choice.{by-number}
 use Rattle.events.specs.Earliest.{earliest}
 

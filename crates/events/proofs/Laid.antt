@@ -4,8 +4,7 @@ use Rattle.prelude.proofs.Prelude.{append-assoc, length, length-append, getD, l
 use Rattle.prelude.proofs.Prelude.{getD-append-add, take-append-seam, drop-append-seam}
 use Rattle.requests.specs.declared.Services.{Services}
 use Rattle.phases.{specs.Phases.Given, specs.Phases.event, proofs.Choice.by-number}
-use Rattle.events.specs.Events.{setOf, rowAt, countAt, eventsFrom, eventsOf, rowsFit, addsUp}
-use Rattle.events.specs.Laid.{bitsOf, laidRow, rowsOf, octetsOf}
+use Rattle.events.specs.{Events.{setOf, rowAt, countAt, eventsFrom, eventsOf, rowsFit, addsUp}, Laid.{bitsOf, laidRow, rowsOf, octetsOf}}
 
 -- ---- one list after another
 

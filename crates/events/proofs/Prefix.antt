@@ -1,10 +1,30 @@
 -- The first events of a list in slices: one more, all of them, and where their octets lie.
-use Rattle.prelude.proofs.Prelude.{ℕ, zero, suc, _+_, _-_, _/_, _≤_, _<_, _≡_, refl, sym, _∙_, ap, List, _∷_, reverse, reverseAux, true, arith, length, take, drop, add-one, add-zero, zero-add}
-use Rattle.prelude.proofs.Prelude.{replicate, length-replicate}
+use Rattle.prelude.proofs.Prelude.{ℕ, zero, suc, _+_, _-_, _/_, _%_, _≤_, _<_, _≡_, refl, sym, _∙_, ap, List, _∷_, reverse, reverseAux, true, eqb, arith, length, take, drop}
+use Rattle.prelude.proofs.Prelude.{add-one, add-zero, zero-add, sub-zero}
+use Rattle.coding.proofs.Basic.{and-right}
 use Rattle.phases.specs.Phases.{Given}
-use Rattle.events.specs.Events.{countAt, addsUp, eventsFrom, eventsOf, Going}
-use Rattle.events.specs.inner.Prefix.{placeAt, octetsAt, givenAt, before}
-use Rattle.events.proofs.Laws.{begins, inside, goes-on}
+use Rattle.events.specs.{Events.{countAt, rowsFit, addsUp, eventsFrom, eventsOf}, inner.Prefix.{placeAt, octetsAt, givenAt, before}}
+use Rattle.events.proofs.Laws.{fits-start, fits-one, fits-more}
+
+-- ---- their octets lie inside
+
+module _ (rows : List ℕ) (total : ℕ) (adds : addsUp rows total ≡ true) where
+  -- the counts from row i on add up to the octets that are left
+  fits-at : (i : ℕ) → i ≤ length rows / 6 → (placeAt rows i ≤ total) × (rowsFit rows i (length rows / 6 - i) (total - placeAt rows i) ≡ true)
+  unfolding placeAt addsUp
+  fits-at zero h = (
+    omega arith,
+    ap (rowsFit rows 0 (length rows / 6 - 0)) (sub-zero total) ∙ fits-start rows (length rows / 6) total ∙ and-right (eqb (length rows % 6) 0) _ adds,
+  )
+  fits-at (suc i) h =
+      let here = fits-at i (omega arith) in
+      let k : countAt rows i ≤ total - placeAt rows i = fits-one rows i (length rows / 6) (total - placeAt rows i) (omega arith) (here .1) in
+      let m : total - placeAt rows i - countAt rows i ≡ total - (placeAt rows i + countAt rows i) = omega arith in
+      let rest = sym (fits-more rows i (length rows / 6) (total - placeAt rows i) (countAt rows i) refl (omega arith) k) ∙ here .1 in
+      (omega (arith, here .0, k), rw (add-one i, m) at rest)
+
+  pub place-fits : (i : ℕ) → i < length rows / 6 → placeAt rows i + countAt rows i ≤ total
+  place-fits i h = let here = fits-at i (omega arith) in omega (arith, here .0, fits-one rows i (length rows / 6) (total - placeAt rows i) h (here .1))
 
 module _ (rows octets : List ℕ) where
   pub place-next : (i : ℕ) → placeAt rows (i + 1) ≡ placeAt rows i + countAt rows i
@@ -34,17 +54,6 @@ module _ (rows octets : List ℕ) where
   unfolding eventsOf before placeAt
   all-before = sym (rest-before (length rows / 6) 0 ∙ ap (before rows octets) (zero-add (length rows / 6)))
 
-  -- ---- their octets lie inside
-
-  pub going-at : addsUp rows (length octets) ≡ true → (i : ℕ) → i ≤ length rows / 6 → Going rows octets i (placeAt rows i)
-  unfolding placeAt
-  going-at a zero h = begins rows octets a
-  going-at a (suc i) h =
-      rw add-one at (goes-on rows octets i (placeAt rows i) (going-at a i (omega arith)) (omega arith) (countAt rows i) refl)
-
-  pub ends-inside : addsUp rows (length octets) ≡ true → (i : ℕ) → i < length rows / 6 → placeAt rows i + countAt rows i ≤ length octets
-  ends-inside a i h = inside rows octets i (placeAt rows i) (going-at a i (omega arith)) h
-
   -- ---- a turn of a loop, before event i (the code's place and count are at and c)
 
   module _ (i : ℕ) {at c : ℕ} (place : at ≡ placeAt rows i) (counted : c ≡ countAt rows i) where
@@ -53,15 +62,7 @@ module _ (rows octets : List ℕ) where
     part-at = let n : at + c - at ≡ countAt rows i = omega (arith, counted) in rw (n, place) refl
 
     pub turn-inside : addsUp rows (length octets) ≡ true → i < length rows / 6 → at + c ≤ length octets
-    turn-inside a h = omega (arith, ends-inside a i h)
+    turn-inside a h = omega (arith, place-fits rows (length octets) a i h)
 
     pub next-place : at + c ≡ placeAt rows (i + 1)
     next-place = rw (place, counted) (sym (place-next i))
-
--- the same of a count of octets alone
-pub place-fits : (rows : List ℕ) (total : ℕ) → addsUp rows total ≡ true → (i : ℕ) → i < length rows / 6 → placeAt rows i + countAt rows i ≤ total
-place-fits rows total a i h =
-    let n = length-replicate {A = ℕ} total 0 in
-    let zeros : List ℕ = replicate total 0 in
-    let b : addsUp rows (length zeros) ≡ true = rw n a in
-    omega (arith, n, ends-inside rows zeros b i h)

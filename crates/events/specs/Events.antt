@@ -1,8 +1,7 @@
 -- A call's event list in two slices: rows of six numbers, and the octets of all events end to end.
 -- A row: the kind; the services asked for, 1 S, 2 D, 4 E added up; the identifiers of S, D, E; how many of the octets are the event's.
-use Prim.Native.Nat.{ℕ, zero, suc, _+_, _-_, _*_, _/_, _%_, _≤_}
-use mathlib.Core.Path.{_≡_}
-use mathlib.Core.Bool.{Bool, true, _&&_, cond}
+use Prim.Native.Nat.{ℕ, zero, suc, _+_, _-_, _*_, _/_, _%_}
+use mathlib.Core.Bool.{Bool, _&&_, cond}
 use mathlib.Core.List.{List, [], _∷_}
 use lib.ListN.{length, getD, take, drop}
 use lib.Dec.{leb, eqb}
@@ -47,9 +46,3 @@ eventsFrom rows octets i (suc k) at = event (rowAt rows i) (take (countAt rows i
 unfoldable pub eventsOf : List ℕ → List ℕ → List Given
 unfolding eventsFrom
 eventsOf rows octets = eventsFrom rows octets 0 (length rows / 6) 0
-
--- what a loop over the rows knows before row i, whose octets begin at a place
-pub record Going (rows octets : List ℕ) (i at : ℕ) : Type 0 where
-  pub row : i ≤ length rows / 6
-  pub place : at ≤ length octets
-  pub rest : rowsFit rows i (length rows / 6 - i) (length octets - at) ≡ true

@@ -52,10 +52,7 @@ fn rows_fit(rows: &[u16], total: usize) -> bool
 pub fn adds_up(rows: &[u16], total: usize) -> bool
     ensures { λ r. ⌜ r ≡ addsUp (now (rows .entry)) total ⌝ }
 {
-    if rows.len() % 6 != 0 {
-        return false;
-    }
-    rows_fit(rows, total)
+    rows.len() % 6 == 0 && rows_fit(rows, total)
 }
 
 fn kind_of(n: u16) -> u8
@@ -139,10 +136,7 @@ pub fn put_row(rows: &mut [u16], at: usize, e: phases::Event, count: u16) -> usi
 pub fn within(low: u8, n: u8, high: u8) -> bool
     ensures { λ r. ⌜ r ≡ within low n high ⌝ }
 {
-    if n < low {
-        return false;
-    }
-    n <= high
+    low <= n && n <= high
 }
 
 // The event that was found before, else this one if it passes.

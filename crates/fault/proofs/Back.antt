@@ -2,9 +2,8 @@
 use Rattle.prelude.proofs.Prelude.{ℕ, _+_, _-_, _≡_, refl, sym, _∙_, ap, List, [], _∷_, Bool, true, false, _&&_, cond, eqb, ltb, take, drop}
 use Rattle.phases.{specs.declared.Event.Event, specs.declared.Outcome.Outcome, specs.Phases.Given, proofs.Choice.never}
 use Rattle.prelude.proofs.Ways.{by-cases}
-use Rattle.types.specs.{declared.Answer.Answer, declared.Currency.Currency, Frames.readOf}
+use Rattle.types.specs.{declared.Answer.Answer, declared.Currency.Currency, Frames.readOf, Thousandths.thousandths}
 use Rattle.amounts.{specs.Currency.equalCurrency, proofs.Currencies.symmetric, proofs.Currencies.transitive}
-use Rattle.types.specs.Thousandths.{thousandths}
 use Rattle.account.{specs.History.Judged, specs.History.any, specs.History.last, specs.History.judged, specs.declared.Stepped.Stepped, proofs.Demand.step-stands}
 use Rattle.events.{specs.Events.rowAt, specs.Events.countAt, specs.inner.Prefix.placeAt, specs.inner.Prefix.givenAt, specs.inner.Prefix.before}
 use Rattle.events.{proofs.Prefix.before-next, proofs.Prefix.part-at}
@@ -29,23 +28,17 @@ latest-decides c (j ∷ h) q e =
     (λ t. let d : equalCurrency (chargeBy j .figure .money .currency) c ≡ true = rw t at e in rw (t, d) refl)
     (λ t. rw t (latest-decides c h (rw t at q) (rw t at e)))
 
-latest-none : (c : Currency) (h : List Judged) → any isCountedMoney h ≡ false → lastBy c h ≡ noLast
-latest-none c [] q = refl
-latest-none c (j ∷ h) q =
+-- where no amount was counted, nothing is found and there is no other
+none-counted : (c : Currency) (h : List Judged) → any isCountedMoney h ≡ false → (lastBy c h ≡ noLast) × (otherBy h .found ≡ 0)
+none-counted c [] q = (refl, refl)
+none-counted c (j ∷ h) q =
     by-cases (isCountedMoney j)
     (λ t. let z : true ≡ false = rw t at q in never (sym z))
-    (λ t. rw t (latest-none c h (rw t at q)))
+    (λ t. rw t (none-counted c h (rw t at q)))
 
 -- a currency that is not equal to one is not equal to another that is equal to it
 unequal : (b c d : Currency) → equalCurrency b c ≡ true → equalCurrency c d ≡ false → equalCurrency b d ≡ false
 unequal b c d e n = by-cases (equalCurrency b d) (λ q. never (sym n ∙ transitive c b d (symmetric b c e) q)) (λ q. q)
-
-other-none : (h : List Judged) → any isCountedMoney h ≡ false → otherBy h .found ≡ 0
-other-none [] q = refl
-other-none (j ∷ h) q =
-    by-cases (isCountedMoney j)
-    (λ t. let z : true ≡ false = rw t at q in never (sym z))
-    (λ t. rw t (other-none h (rw t at q)))
 
 -- where the latest is in another currency, the other decides as the latest does
 other-decides : (c : Currency) (h : List Judged) → any isCountedMoney h ≡ true → equalCurrency (last isCountedMoney h .figure .money .currency) c ≡ false
@@ -59,7 +52,7 @@ other-decides c (j ∷ h) q n =
     (λ e. rw (t, d, a, e) (other-decides c h a (unequal _ _ c e d)))
     (λ e. rw (t, d, a, e)
     (by-cases (equalCurrency (last isCountedMoney h .figure .money .currency) c) (λ s. rw s (sym (latest-decides c h a s))) (λ s. rw s refl))))
-    (λ a. rw (t, d, a, other-none h a, latest-none c h a) refl))
+    (λ a. rw (t, d, a, none-counted c h a .1, none-counted c h a .0) refl))
     (λ t. rw t (other-decides c h (rw t at q) (rw t at n)))
 
 pub short-way : (c : Currency) (h : List Judged) → shortBy (latestBy h) (otherBy h) c h ≡ lastBy c h
@@ -68,7 +61,7 @@ short-way c h =
     (λ t. by-cases (equalCurrency (last isCountedMoney h .figure .money .currency) c)
     (λ e. rw (t, e) (sym (latest-decides c h t e)))
     (λ e. rw (t, e) (other-decides c h t e)))
-    (λ t. rw t (sym (latest-none c h t)))
+    (λ t. rw t (sym (none-counted c h t .0)))
 
 pub latest-stands : (j : Judged) (h : List Judged)
     → latestNext (latestBy h) (invokesD (j .event .kind) (readOf (j .octets) .value .front)) (chargeBy j .figure .kind) (chargeBy j .figure .money) (j .outcome)

@@ -4,11 +4,9 @@ use Rattle.coding.specs.Reader.{after, tagged, neither, choice, extent, numbere
 use Rattle.coding.specs.Reader.{enteredAny, part, mapped, narrowed, ruled, primitive, optional, entries, listOf}
 use Rattle.coding.specs.Contents.{numberFrom, valueOf, negative, shortest, natural, every, text, null}
 use Rattle.coding.specs.Codec.{oneOf, prim, cons, nothing, pair, alt, over, maybe, some·more, leafOver, leads, barring, marked, sort, frames, shape, canonical, pad, padded}
-use Rattle.coding.specs.Leaves.{number, string, nullLeaf, integer, identifier, listing, listed, only, given}
-use Rattle.coding.specs.Rows.{rows, table}
+use Rattle.coding.specs.{Leaves.{number, string, nullLeaf, integer, identifier, listing, listed, only, given}, Rows.{rows, table}}
 use Rattle.types.specs.Charges.{scaled, currencyLeaf, currency, money, digitsLeaf, identified, planned, partyNumber, plainParty, party, unassociated, association}
-use Rattle.types.specs.Entries.{unit}
-use Rattle.types.specs.Rates.{duration, flatRate, volume, coded, plainRate, price, rate}
+use Rattle.types.specs.{Entries.unit, Rates.{duration, flatRate, volume, coded, plainRate, price, rate}}
 use Rattle.types.specs.Arguments.{sign, inMoney, inUnits, during, subtotals, ending, settled, withAssociation, finals, rates, arrangement, available, chargeOf}
 use Rattle.types.specs.Frames.{value, carrying, request, argument, invoke, returnResult, failed, returnError, caller, problem, problems, reject, frame, component, readWhole, readOf}
 use Rattle.amounts.specs.{Currency.trimmed, Currency.equalCurrency, Amounts.equalMoney}
@@ -18,8 +16,7 @@ use Rattle.outcomes.specs.Outcome.{isRefusal, judgeRecord, judge}
 use Rattle.account.{specs.declared.Account.Account, specs.declared.Stepped.Stepped, specs.History.Judged, specs.History.judged, specs.History.accountBy, specs.History.fresh}
 use Rattle.account.{specs.Step.changeOf, specs.Step.steppedOf, proofs.Demand.step-stands, proofs.Examples.moves, proofs.Examples.says}
 use Rattle.fault_rules.specs.declared.FaultAnswer.{FaultAnswer}
-use Rattle.fault.specs.Rules.{faultIn, faultOf}
-use Rattle.fault.specs.inner.Going.{judging}
+use Rattle.fault.specs.{Rules.{faultIn, faultOf}, inner.Going.judging}
 
 abbrev pub shown : FaultAnswer → ℕ × ℕ × ℕ
 shown v = (v .number, v .rule, v .event)

@@ -1,5 +1,5 @@
 -- Yes exactly when no event is refused and all four rules hold of all events; no names the first event that breaks one, and the first rule that it breaks.
-use Rattle.prelude.proofs.Prelude.{ℕ, _+_, _≤_, _≡_, refl, ap, Bool, true, false, cond, List, [], _∷_, arith, length, eqb, eqb-false, ne-eqb}
+use Rattle.prelude.proofs.Prelude.{ℕ, _+_, _≤_, _<_, lit<, _≡_, refl, ap, Bool, true, false, cond, List, [], _∷_, arith, length, eqb, eqb-false, ne-eqb}
 use Rattle.prelude.proofs.Ways.{by-cases}
 use Rattle.phases.proofs.Choice.{by-number}
 use Rattle.outcomes.specs.Outcome.{isRefusal}
@@ -40,30 +40,27 @@ pick P false false false false w x y z some = absurd (some refl)
 abbrev UpTo : ℕ → ℕ → Type 0
 UpTo n r = (n ≡ 0 → ⊥) × (n ≤ r)
 
-one : (n r : ℕ) → 1 ≤ n → n ≤ r → UpTo n r
+one : (n r : ℕ) → 0 < n → n ≤ r → UpTo n r
 one n r low high = ((λ e. omega (arith, e, low)), high)
 
 -- a test that comes first, whether it passes or not; and the one that passes
-passed-by : (a : Bool) (k n r : ℕ) → 1 ≤ k → k ≤ r → UpTo n r → UpTo (cond a k n) r
-passed-by true k n r low high u = one k r low high
+passed-by : (a : Bool) (k n r : ℕ) → 0 < k → k < r → UpTo n r → UpTo (cond a k n) r
+passed-by true k n r low high u = one k r low (omega arith)
 passed-by false k n r low high u = u
 
-meets : (a : Bool) (k n : ℕ) → 1 ≤ k → a ≡ true → UpTo (cond a k n) k
+meets : (a : Bool) (k n : ℕ) → 0 < k → a ≡ true → UpTo (cond a k n) k
 meets a k n low q = rw q (one k k low (omega arith))
+
+ruleset order = (passed-by, meets, lit<, tt)
 
 breaks-there : (j : Judged) (h : List Judged) → (breaks j h ≡ 0 → ⊥) → Against j h (breaks j h)
 breaks-there j h some = pick (Against j h) (misplaced j h) (falls j h) (charges j h) (differs j) outOfPlace belowLast notFree another some
 
 breaks-first : {j : Judged} {h : List Judged} {r : ℕ} → Against j h r → UpTo (breaks j h) r
-breaks-first {j} {h} (outOfPlace q) = meets (misplaced j h) 1 _ (omega arith) q
-breaks-first {j} {h} (belowLast q) = passed-by (misplaced j h) 1 _ 2 (omega arith) (omega arith) (meets (falls j h) 2 _ (omega arith) q)
-breaks-first {j} {h} (notFree q) =
-    passed-by (misplaced j h) 1 _ 3 (omega arith) (omega arith)
-    (passed-by (falls j h) 2 _ 3 (omega arith) (omega arith) (meets (charges j h) 3 _ (omega arith) q))
-breaks-first {j} {h} (another q) =
-    passed-by (misplaced j h) 1 _ 4 (omega arith) (omega arith)
-    (passed-by (falls j h) 2 _ 4 (omega arith) (omega arith)
-    (passed-by (charges j h) 3 _ 4 (omega arith) (omega arith) (meets (differs j) 4 0 (omega arith) q)))
+breaks-first (outOfPlace q) = search (order, q) depth 12
+breaks-first (belowLast q) = search (order, q) depth 12
+breaks-first (notFree q) = search (order, q) depth 12
+breaks-first (another q) = search (order, q) depth 12
 
 -- ---- the first event that breaks a rule
 

@@ -12,6 +12,7 @@ use phases::Outcome;
 use types::Charge;
 use types::Currency;
 use types::Money;
+use types::NO_MONEY;
 ghost use Prim.Native.Nat.{_≤_, _/_};
 ghost use mathlib.Core.Path.{_≡_};
 ghost use mathlib.Core.Bool.{true};
@@ -31,6 +32,11 @@ struct Last {
     pub amount: u64,
 }
 
+const NO_LAST: Last = Last {
+    found: 0,
+    amount: 0,
+};
+
 struct State {
     pub account: Account,
     pub last: Last,
@@ -41,6 +47,11 @@ struct Latest {
     pub found: u64,
     pub money: Money,
 }
+
+const NO_LATEST: Latest = Latest {
+    found: 0,
+    money: NO_MONEY,
+};
 
 // other: the latest counted amount of D in another currency than the latest of all.
 struct Progress {
@@ -90,11 +101,10 @@ fn last_in(rows: &[u16], octets: &[u8], k: usize, c: Currency) -> Last
     ensures { λ r. ⌜ r ≡ lastBy c (judged (before (now (rows .entry)) (now (octets .entry)) k)) ⌝ }
 {
     let account = account::fresh();
-    let last = Last {
-        found: 0,
-        amount: 0,
+    let mut state = State {
+        account,
+        last: NO_LAST,
     };
-    let mut state = State { account, last };
     let mut at: usize = 0;
     let mut i: usize = 0;
     while i < k {
@@ -114,10 +124,7 @@ fn last_of(rows: &[u16], octets: &[u8], k: usize, l: Latest, x: Latest, c: Curre
     ensures { λ r. ⌜ r ≡ shortBy l x c (judged (before (now (rows .entry)) (now (octets .entry)) k)) ⌝ }
 {
     if l.found != 1 {
-        return Last {
-            found: 0,
-            amount: 0,
-        };
+        return NO_LAST;
     }
     let money = l.money;
     let currency = money.currency;
@@ -128,10 +135,7 @@ fn last_of(rows: &[u16], octets: &[u8], k: usize, l: Latest, x: Latest, c: Curre
         };
     }
     if x.found != 1 {
-        return Last {
-            found: 0,
-            amount: 0,
-        };
+        return NO_LAST;
     }
     let second = x.money;
     let named = second.currency;
@@ -166,10 +170,7 @@ fn falls(
     let money = c.figure.money;
     let currency = money.currency;
     let found = last_of(rows, octets, k, l, x, currency);
-    if found.found != 1 {
-        return false;
-    }
-    amounts::thousandths(money.number, money.multiplier) < found.amount
+    found.found == 1 && amounts::thousandths(money.number, money.multiplier) < found.amount
 }
 
 fn latest_next(l: Latest, d: bool, kind: u8, m: Money, o: Outcome) -> Latest
@@ -254,21 +255,11 @@ fn judged_all(rows: &[u16], octets: &[u8]) -> FaultAnswer
         event: 0,
         rule: rule::KEPT,
     };
-    let currency = Currency {
-        count: 0,
-        octets: [0; 10],
-    };
-    let money = Money {
-        currency,
-        number: 0,
-        multiplier: 0,
-    };
-    let latest = Latest { found: 0, money };
     let mut state = Progress {
         account,
         seen,
-        latest,
-        other: latest,
+        latest: NO_LATEST,
+        other: NO_LATEST,
     };
     let mut at: usize = 0;
     let mut i: usize = 0;

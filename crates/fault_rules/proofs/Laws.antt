@@ -1,6 +1,5 @@
 -- The refusals as the code tests for them: one test over the numbers, which is computed.
-use Rattle.prelude.proofs.Prelude.{ℕ, _<_, _≡_, refl, sym, Bool, true, false, not, _||_, cond}
-use Rattle.prelude.proofs.Ways.{by-cases}
+use Rattle.prelude.proofs.{Prelude.{ℕ, _<_, _≡_, refl, sym, Bool, true, false, not, _||_, cond}, Ways.by-cases}
 use Rattle.phases.proofs.Choice.{never}
 use Rattle.octets.proofs.Each.{each-fails}
 use Rattle.outcomes.specs.Outcome.{isRefusal}

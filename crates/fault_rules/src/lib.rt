@@ -49,54 +49,37 @@ pub struct Seen {
 fn is_counted(o: Outcome) -> bool
     ensures { λ r. ⌜ r ≡ isCounted o ⌝ }
 {
-    if o.number == outcomes::NEW_RUNNING {
-        return true;
-    }
-    o.number == outcomes::FINAL
+    o.number == outcomes::NEW_RUNNING || o.number == outcomes::FINAL
 }
 
 fn is_refused(n: u8) -> bool
     ensures { λ r. ⌜ r ≡ isRefusal n ⌝ }
 {
-    if events::within(refusal::CUT, n, refusal::UNKNOWN_ERROR) {
-        return true;
-    }
-    if events::within(refusal::MISSING, n, refusal::PAST_LIMIT) {
-        return true;
-    }
-    events::within(refusal::BAD_SETUP, n, refusal::WRONG_PHASE)
+    events::within(refusal::CUT, n, refusal::UNKNOWN_ERROR)
+        || (events::within(refusal::MISSING, n, refusal::PAST_LIMIT)
+            || events::within(refusal::BAD_SETUP, n, refusal::WRONG_PHASE))
 }
 
 // Whether an event of a kind, with a component's front, is an invoke of D.
 pub fn invokes_d(kind: u8, f: Front) -> bool
     ensures { λ r. ⌜ r ≡ invokesD kind f ⌝ }
 {
-    if kind != phases::COMPONENT {
-        return false;
-    }
-    if f.frame != frame::INVOKE {
-        return false;
-    }
-    events::within(operation::D_CURRENCY, f.operation, operation::D_UNITS)
+    kind == phases::COMPONENT
+        && (f.frame == frame::INVOKE
+            && events::within(operation::D_CURRENCY, f.operation, operation::D_UNITS))
 }
 
 fn is_amount(kind: u8) -> bool
     ensures { λ r. ⌜ r ≡ amountKind kind ⌝ }
 {
-    if kind == charge_kind::MONEY {
-        return true;
-    }
-    kind == charge_kind::UNITS
+    kind == charge_kind::MONEY || kind == charge_kind::UNITS
 }
 
 // Whether an entry has no number but zero.
 fn is_nothing(known: u8, number: u32) -> bool
     ensures { λ r. ⌜ r ≡ nothingBy known number ⌝ }
 {
-    if known != 1 {
-        return true;
-    }
-    number == 0
+    known != 1 || number == 0
 }
 
 // Whether every number of a list of units is zero.
@@ -142,41 +125,20 @@ fn is_placed(phase: u8, total: u8) -> bool
 fn misplaced(d: bool, phase: u8, kind: u8, total: u8) -> bool
     ensures { λ r. ⌜ r ≡ misplacedBy d phase kind total ⌝ }
 {
-    if !d {
-        return false;
-    }
-    if !is_amount(kind) {
-        return false;
-    }
-    !is_placed(phase, total)
+    d && (is_amount(kind) && !is_placed(phase, total))
 }
 
 // Whether an event is D's money and was counted.
 pub fn counted_money(d: bool, kind: u8, o: Outcome) -> bool
     ensures { λ r. ⌜ r ≡ moneyBy d kind o ⌝ }
 {
-    if !d {
-        return false;
-    }
-    if kind != charge_kind::MONEY {
-        return false;
-    }
-    is_counted(o)
+    d && (kind == charge_kind::MONEY && is_counted(o))
 }
 
 fn charges(d: bool, c: Charge, free: u64) -> bool
     ensures { λ r. ⌜ r ≡ chargesBy d c (eqb free 1) ⌝ }
 {
-    if !d {
-        return false;
-    }
-    if !is_amount(c.figure.kind) {
-        return false;
-    }
-    if is_zero(c) {
-        return false;
-    }
-    free == 1
+    d && (is_amount(c.figure.kind) && (!is_zero(c) && free == 1))
 }
 
 // The first rule that an event breaks, or 0. falls: whether it breaks the second.

@@ -1,7 +1,6 @@
 -- The machine's steps: digits, whole octets, and characters heard one after the other.
 use Rattle.prelude.proofs.Prelude.{ℕ, _+_, _≤_, _<_, _≡_, refl, sym, ap, _∙_, List, [], _∷_, _++_, true, false, arith, sub-zero, length, getD, set, take-all, eqb, le-leb, lt-leb}
-use Rattle.prelude.proofs.Prelude.{lt-ltb, le-ltb, ne-eqb, eq-eqb, eqb-true}
-use Rattle.prelude.proofs.Ways.{by-cases}
+use Rattle.prelude.proofs.{Prelude.{lt-ltb, le-ltb, ne-eqb, eq-eqb, eqb-true}, Ways.by-cases}
 use Rattle.coding.{proofs.Tests.tests, specs.Reader.part, proofs.Parts.part-none, proofs.Parts.part-more, proofs.Parts.part-split}
 use Rattle.lines_rules.specs.{declared.Line.Line, declared.Went.Went, Lines.digitOf, inner.Machine.State, inner.Machine.state, inner.Machine.madeLine, inner.Machine.newLine, inner.Machine.badLine}
 use Rattle.lines_rules.specs.{inner.Machine.stepLine, inner.Machine.stepOctets, inner.Machine.octetOf, inner.Machine.spacedLine, inner.Machine.answerText, inner.Machine.turn, inner.Machine.turns, inner.Machine.Heard}

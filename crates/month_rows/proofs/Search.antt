@@ -4,8 +4,7 @@ use Rattle.prelude.proofs.Ways.{by-cases}
 use Rattle.coding.proofs.Basic.{picked, unpicked}
 use Rattle.types.specs.declared.Currency.{Currency}
 use Rattle.amounts.specs.Currency.{equalCurrency}
-use Rattle.month_rows.specs.declared.Row.{Row}
-use Rattle.month_rows.specs.Rows.{newRow, oneMore, rowOf, raise}
+use Rattle.month_rows.specs.{declared.Row.Row, Rows.{newRow, oneMore, rowOf, raise}}
 
 -- places past the end
 abbrev pub noRow : Row

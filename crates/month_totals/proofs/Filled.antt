@@ -1,19 +1,16 @@
 -- A month's rows are those of its currencies, and zeros behind them. Assumes nothing.
 use Rattle.prelude.proofs.Prelude.{ℕ, suc, _+_, _-_, _*_, _^_, _<_, _≤_, _≡_, refl, sym, _∙_, ap, ap₂, subst, List, [], _∷_, _++_, map, Bool, true, false, not, eqb, eqb-false, eq-eqb}
-use Rattle.prelude.proofs.Prelude.{ne-eqb, le-leb, arith, length, length-append, replicate, suc-mul}
+use Rattle.prelude.proofs.{Prelude.{ne-eqb, le-leb, arith, length, length-append, replicate, suc-mul}, Ways.by-cases}
 use lib.ListN.{length-map}
 use Rattle.coding.{specs.Codec.pad, proofs.Basic.picked, proofs.Basic.unpicked}
-use Rattle.prelude.proofs.Ways.{by-cases}
 use Rattle.phases.proofs.Choice.{by-number}
 use Rattle.types.specs.declared.Currency.{Currency}
 use Rattle.amounts.specs.Currency.{equalCurrency}
 use Rattle.same_final.specs.Same.{upTo}
 use Rattle.month_rows.specs.{declared.Row.Row, Rows.zeroRow, Rows.rowOf, Rows.raise}
-use Rattle.month.specs.declared.Month.{Month}
-use Rattle.month.specs.Month.{used, isNew, withMoney}
+use Rattle.month.specs.{declared.Month.Month, Month.{used, isNew, withMoney}}
 use Rattle.month_totals.specs.Totals.{Posted, which, total, currencyOf, amountIn, isMoneyCall, inCurrency, appears, currencies, rowBy, rowsBy}
-use Rattle.month_totals.proofs.Rows.{stays, grows, rows-known, rows-new}
-use Rattle.month_totals.proofs.Ranges.{Fine, AllFine, none, more}
+use Rattle.month_totals.proofs.{Rows.{stays, grows, rows-known, rows-new}, Ranges.{Fine, AllFine, none, more}}
 
 -- ---- no sum wraps
 

@@ -1,17 +1,14 @@
 -- The table: each place counts those figures that belong there. Assumes nothing.
 use Rattle.prelude.proofs.Prelude.{ℕ, _+_, _^_, _<_, _≡_, refl, sym, _∙_, ap, ap₂, List, [], _∷_, Bool, true, false, _&&_, eqb, eqb-true, eqb-false, eq-eqb, arith, length, getD}
-use Rattle.prelude.proofs.Prelude.{length-set, mod-eq-of-lt}
+use Rattle.prelude.proofs.{Prelude.{length-set, mod-eq-of-lt}, Ways.by-cases}
 use lib.Seq.{getD-set-same, getD-set-other}
-use Rattle.coding.proofs.Basic.{and-left, and-right, unpicked}
-use Rattle.coding.proofs.Rows.{rows-table}
+use Rattle.coding.proofs.{Basic.{and-left, and-right, unpicked}, Rows.rows-table}
 use Rattle.coding.specs.Rows.{table}
-use Rattle.prelude.proofs.Ways.{by-cases}
 use Rattle.phases.proofs.Choice.{by-number}
 use Rattle.month_rows.specs.{Rows.plus, Places.lineRaised, Places.raisedAt, Places.serviceLine, Places.billingColumn}
 use Rattle.month_totals.specs.Totals.{Posted, which, inPlace, lineBy}
 use Rattle.month.proofs.Adding.{up-to-most}
-use Rattle.month_totals.proofs.Filled.{fewer}
-use Rattle.month_totals.proofs.Ranges.{Fine}
+use Rattle.month_totals.proofs.{Filled.fewer, Ranges.Fine}
 
 pub counts-more : (t : Posted → Bool) (p : Posted) (h : List Posted) → length h < 4096 → t p ≡ true → plus 32 (length (which t h)) 1 ≡ length (which t (p ∷ h))
 counts-more t p h few q =

@@ -1,8 +1,7 @@
 -- What 01's ranges say of a figure: its bounds, and that every place that it goes to is there. Assumes nothing.
 use Rattle.prelude.proofs.Prelude.{ℕ, _+_, _*_, _≤_, _≡_, refl, sym, _∙_, ap, ap₂, List, [], _∷_, Bool, true, false, not, _&&_, _||_, cond, eqb, leb, eqb-true, eqb-false, eq-eqb}
-use Rattle.prelude.proofs.Prelude.{ne-eqb, le-leb, leb-true, arith, length, suc-mul}
+use Rattle.prelude.proofs.{Prelude.{ne-eqb, le-leb, leb-true, arith, length, suc-mul}, Ways.by-cases}
 use Rattle.coding.{specs.Codec.all, proofs.Basic.and-left, proofs.Basic.and-right, proofs.Basic.picked, proofs.Basic.unpicked, proofs.Rows.table-length}
-use Rattle.prelude.proofs.Ways.{by-cases}
 use Rattle.phases.proofs.Choice.{by-number, never}
 use Rattle.types.specs.{declared.Units.Units, declared.Figure.Figure, declared.Charge.Charge, Entries.unit, Entries.unitAt, Entries.unitList, Arguments.isKind}
 use Rattle.write_tests.{specs.inner.Fine.billingFine, specs.inner.Fine.unbilled, specs.inner.Fine.pricedMarks, specs.inner.Fine.bareKind, specs.inner.Fine.marksFine}

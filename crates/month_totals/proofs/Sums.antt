@@ -1,8 +1,8 @@
 -- What a month's counts add up to, and the order of its rows. Assumes nothing.
 use Rattle.prelude.proofs.Prelude.{ℕ, zero, suc, _+_, _-_, _<_, _≡_, refl, sym, _∙_, ap, ap₂, List, [], _∷_, _++_, map, append-nil, Bool, true, false, not, _&&_, _||_, cond, eqb}
-use Rattle.prelude.proofs.Prelude.{eqb-true, eq-eqb, ne-eqb, arith, length, replicate, not-true}
+use Rattle.prelude.proofs.{Prelude.{eqb-true, eq-eqb, ne-eqb, arith, length, replicate, not-true}, Ways.by-cases}
+use mathlib.Core.List.{map-append}
 use Rattle.coding.{specs.Codec.pad, specs.Rows.table, proofs.Basic.and-left, proofs.Basic.and-right, proofs.Basic.picked, proofs.Basic.unpicked}
-use Rattle.prelude.proofs.Ways.{by-cases}
 use Rattle.phases.proofs.Choice.{never}
 use Rattle.types.specs.declared.Currency.{Currency}
 use Rattle.amounts.{specs.Currency.equalCurrency, proofs.Currencies.reflexive, proofs.Currencies.symmetric, proofs.Currencies.transitive}
@@ -10,10 +10,7 @@ use Rattle.month_rows.specs.{declared.Row.Row, Rows.zeroRow}
 use Rattle.month_totals.specs.Totals.{Posted, which, total, currencyOf, isMoneyCall, isFreeCall, isUnitCall, inCurrency, appears, currencies, rowBy, rowsBy, columnOf, inPlace, lineBy}
 use Rattle.month_totals.specs.Totals.{allDiffer, firsts, inOrder}
 use Rattle.month_totals.proofs.Rows.{appears-same, differ, none-yet, missed, one-in, stays, grows}
-use Rattle.month_totals.proofs.Ranges.{Fine, AllFine, none, more, kind-not}
-use Rattle.month_totals.proofs.Filled.{suc-eqb}
-use Rattle.month_totals.proofs.Places.{column-small}
-use Rattle.month_totals.proofs.Units.{table-same}
+use Rattle.month_totals.proofs.{Ranges.{Fine, AllFine, none, more, kind-not}, Filled.suc-eqb, Places.column-small, Units.table-same}
 
 module _ {A : Type 0} where
   pub total-append : (f : A → ℕ) (l m : List A) → total f (l ++ m) ≡ total f l + total f m
@@ -159,17 +156,13 @@ firsts-more c (d ∷ l) =
     (λ a. by-cases (equalCurrency d c) (λ q. rw (firsts-more c l, a, cut, q, append-nil) refl)
     (λ q. rw (firsts-more c l, a, cut, q, appears-kept d c q (firsts l), a) refl))
 
-map-append : (l m : List Posted) → map currencyOf (l ++ m) ≡ map currencyOf l ++ map currencyOf m
-map-append [] m = refl
-map-append (x ∷ l) m = ap (λ (k : List Currency). currencyOf x ∷ k) (map-append l m)
-
 pub first-order : (h : List Posted) → currencies h ≡ firsts (map currencyOf (which isMoneyCall (inOrder h)))
 first-order [] = refl
 first-order (p ∷ h) =
     let c : Currency = currencyOf p in
     let l : List Currency = map currencyOf (which isMoneyCall (inOrder h)) in
     let split : map currencyOf (which isMoneyCall (inOrder h ++ (p ∷ []))) ≡ l ++ map currencyOf (which isMoneyCall (p ∷ [])) =
-    ap (map currencyOf) (which-append isMoneyCall (inOrder h) (p ∷ [])) ∙ map-append (which isMoneyCall (inOrder h)) (which isMoneyCall (p ∷ [])) in
+    ap (map currencyOf) (which-append isMoneyCall (inOrder h) (p ∷ [])) ∙ map-append currencyOf (which isMoneyCall (inOrder h)) (which isMoneyCall (p ∷ [])) in
     by-cases (isMoneyCall p)
     (λ m. let e : map currencyOf (which isMoneyCall (p ∷ [])) ≡ c ∷ [] = rw m refl in
     let last = ap firsts (split ∙ ap (λ (k : List Currency). l ++ k) e) ∙ firsts-more c l ∙ ap (λ (k : List Currency). cond (appears c k) k (k ++ (c ∷ []))) (sym (first-order h)) in

@@ -1,17 +1,12 @@
 -- The theorems on a month. Assumes nothing.
-use Rattle.prelude.proofs.Prelude.{ℕ, _+_, _≤_, _≡_, refl, ap₂, List, [], _∷_, map, true, not, _&&_, leb, leb-false, arith, length}
-use Rattle.prelude.proofs.Ways.{by-cases}
+use Rattle.prelude.proofs.{Prelude.{ℕ, _+_, _≤_, _≡_, refl, ap₂, List, [], _∷_, map, true, not, _&&_, leb, leb-false, arith, length}, Ways.by-cases}
 use Rattle.types.specs.{declared.Charge.Charge, declared.Currency.Currency, Arguments.isKind}
 use Rattle.closing.specs.Range.{inRange}
 use Rattle.month_rows.specs.declared.Row.{Row}
-use Rattle.month.specs.declared.Month.{Month}
-use Rattle.month.specs.Month.{emptyMonth, used, isNew, addOf}
+use Rattle.month.specs.{declared.Month.Month, Month.{emptyMonth, used, isNew, addOf}}
 use Rattle.month_totals.specs.Totals.{Posted, which, total, currencyOf, amountIn, isMoneyCall, isUnitCall, inCurrency, appears, currencies, unitsIn, absentIn, monthBy, keptAfter}
 use Rattle.month_totals.specs.Totals.{keptThrough, numbersAfter, addedTo, addAll, numbersOf, allDiffer, firsts, inOrder}
-use Rattle.month_totals.proofs.Rows.{differ}
-use Rattle.month_totals.proofs.Ranges.{AllFine, none}
-use Rattle.month_totals.proofs.Filled.{sum-small}
-use Rattle.month_totals.proofs.Units.{units-small, absent-small}
+use Rattle.month_totals.proofs.{Rows.differ, Ranges.{AllFine, none}, Filled.sum-small, Units.{units-small, absent-small}}
 use Rattle.month_totals.proofs.Whole.{Totals, stands, still-fine, empty-totals, whole}
 use Rattle.month_totals.proofs.Sums.{sum, padded-calls, kinds-add-up, places-add-up, first-order}
 

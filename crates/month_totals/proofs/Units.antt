@@ -1,15 +1,13 @@
 -- The sums of units by type and the count of entries not available: picked out, then summed, where no sum wraps. Assumes nothing.
 use Rattle.prelude.proofs.Prelude.{ℕ, zero, suc, _+_, _*_, _^_, _<_, _≤_, _≡_, refl, sym, _∙_, ap, ap₂, List, [], _∷_, Bool, true, false, cond, eqb, eqb-false, eq-eqb, le-leb, arith}
-use Rattle.prelude.proofs.Prelude.{length, getD, length-set, mod-eq-of-lt, suc-mul}
+use Rattle.prelude.proofs.{Prelude.{length, getD, length-set, mod-eq-of-lt, suc-mul}, Ways.by-cases}
 use lib.Seq.{getD-set-same, getD-set-other}
 use Rattle.coding.{specs.Codec.all, specs.Rows.table, proofs.Basic.and-left, proofs.Basic.and-right}
-use Rattle.prelude.proofs.Ways.{by-cases}
 use Rattle.phases.proofs.Choice.{by-number}
 use Rattle.types.specs.{declared.Units.Units, declared.Entries.Entries, Entries.unit, Entries.unitAt, Entries.unitList}
 use Rattle.month_rows.specs.{Rows.plus, Sums.addUnit, Sums.sumUnits, Sums.countAbsent}
 use Rattle.month_totals.specs.Totals.{Posted, which, total, ofType, isAbsent, entriesOf, unitsIn, absentIn}
-use Rattle.month_totals.proofs.Filled.{fewer}
-use Rattle.month_totals.proofs.Ranges.{AllFine, none, more, number, unit-type, few-entries, entries-small}
+use Rattle.month_totals.proofs.{Filled.fewer, Ranges.{AllFine, none, more, number, unit-type, few-entries, entries-small}}
 
 -- ---- the entries from one on
 

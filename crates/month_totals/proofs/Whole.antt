@@ -1,6 +1,8 @@
 -- A figure is added: the totals are those of the list with the figure, or, where it is refused, as they were. Assumes nothing.
 use Rattle.prelude.proofs.Prelude.{ℕ, zero, suc, _+_, _*_, _^_, _<_, _≤_, _≡_, refl, sym, _∙_, ap, ap₂, subst, List, [], _∷_, map, Bool, true, false, not, _&&_, cond, eqb, leb}
 use Rattle.prelude.proofs.Prelude.{eqb-true, eqb-false, le-leb, lt-leb, leb-true, leb-false, arith, length, getD, replicate, mod-eq-of-lt}
+use lib.ListN.{getD-replicate}
+use mathlib.Core.List.{map-congr-left}
 use Rattle.coding.{specs.Codec.all, specs.Codec.pad, specs.Rows.table, proofs.Basic.picked, proofs.Basic.unpicked, proofs.Rows.rows-table}
 use Rattle.prelude.proofs.Ways.{by-cases}
 use Rattle.phases.proofs.Choice.{never}
@@ -8,13 +10,11 @@ use Rattle.types.specs.{declared.Units.Units, declared.Charge.Charge, declared.
 use Rattle.same_final.specs.Same.{upTo}
 use Rattle.closing.specs.Range.{inRange}
 use Rattle.month_rows.{specs.declared.Row.Row, specs.Rows.plus, specs.Rows.zeroRow, specs.Rows.rowOf, specs.Places.placed, proofs.Search.at-most}
-use Rattle.month.specs.{declared.Month.Month, declared.Added.Added}
-use Rattle.month.specs.Month.{emptyMonth, used, withMoney, withFree, withUnits, withPlace, added}
+use Rattle.month.specs.{declared.Month.Month, declared.Added.Added, Month.{emptyMonth, used, withMoney, withFree, withUnits, withPlace, added}}
 use Rattle.month_totals.specs.Totals.{Posted, which, total, currencyOf, isMoneyCall, isFreeCall, isUnitCall, appears, currencies, rowBy, entriesOf, ofType, isAbsent, unitsIn, absentIn}
 use Rattle.month_totals.specs.Totals.{monthBy, numberAfter, keptAfter, addedTo}
-use Rattle.month_totals.proofs.Rows.{miss}
+use Rattle.month_totals.proofs.{Rows.miss, Ranges.{Fine, AllFine, more, number, range, kind-not, entries-small}}
 use Rattle.month.proofs.Adding.{up-to-most, add-10, add-46, add-47, add-money, add-free, add-units}
-use Rattle.month_totals.proofs.Ranges.{Fine, AllFine, more, number, range, kind-not, entries-small}
 use Rattle.month_totals.proofs.Filled.{Filled, used-is, new-is, filled-known, filled-new}
 use Rattle.month_totals.proofs.Places.{Counts, counts-more, table-more, cells-are}
 use Rattle.month_totals.proofs.Units.{entriesFrom, whole-list, units-length, units-sum, absent-sum, units-small, absent-small}
@@ -67,13 +67,9 @@ module _ (m : Month) (h : List Posted) (p : Posted) (t : Totals m h) (few : leng
     same-currencies : currencies (p ∷ h) ≡ currencies h
     same-currencies = rw q refl
 
-    same-rows : (l : List Currency) → map (rowBy h) l ≡ map (rowBy (p ∷ h)) l
-    same-rows [] = refl
-    same-rows (d ∷ l) = ap₂ (λ (x : Row) (y : List Row). x ∷ y) (miss p h d (rw q refl)) (same-rows l)
-
     other-filled : (n : Month) → n .rows ≡ m .rows → n .count ≡ m .count → Filled n (p ∷ h)
     other-filled n a b = record {
-      rows = a ∙ t .sums .filled .rows ∙ ap (pad 16 zeroRow) (same-rows (currencies h) ∙ ap (map (rowBy (p ∷ h))) (sym same-currencies));
+      rows = a ∙ t .sums .filled .rows ∙ ap (pad 16 zeroRow) (map-congr-left {f = rowBy h} {g = rowBy (p ∷ h)} {l = currencies h} (λ d _. miss p h d (rw q refl)) ∙ ap (map (rowBy (p ∷ h))) (sym same-currencies));
       count = b ∙ t .sums .filled .count ∙ ap length (sym same-currencies);
       room = subst (λ (l : List Currency). length l ≤ 16) (sym same-currencies) (t .sums .filled .room);
     }
@@ -207,34 +203,16 @@ module _ (m : Month) (h : List Posted) (p : Posted) (t : Totals m h) (fine : All
 
 -- ---- the empty month
 
-abbrev blank : ℕ → List ℕ
-blank n = replicate n 0
-
-zeros : (n k : ℕ) → getD (blank n) k 0 ≡ 0
-zeros zero k = refl
-zeros (suc n) zero = refl
-zeros (suc n) (suc k) = zeros n k
-
-abbrev blanks : List (List ℕ)
-blanks = replicate 2 (blank 9)
-
 pub empty-totals : Totals emptyMonth []
 unfolding pad
-empty-totals = record {
-  added = refl;
-  sums = record { filled = record { rows = refl; count = refl; room = omega arith }; free = refl; units = λ k h. zeros 17 k; types = refl; absent = refl };
-  counts = record { lines = refl; columns = nine; counts = nothing };
-}
-  where
-    nine : (s : ℕ) → s < 2 → length (getD blanks s []) ≡ 9
-    nine zero h = refl
-    nine (suc zero) h = refl
-    nine (suc (suc s)) h = absurd (omega arith)
-
-    nothing : (s b : ℕ) → s < 2 → b < 9 → getD (getD blanks s []) b 0 ≡ 0
-    nothing zero b h k = zeros 9 b
-    nothing (suc zero) b h k = zeros 9 b
-    nothing (suc (suc s)) b h k = absurd (omega arith)
+empty-totals =
+    let blank : List ℕ = replicate 9 0 in
+    let line : (s : ℕ) → s < 2 → getD (replicate 2 blank) s [] ≡ blank = λ s h. getD-replicate 2 s blank [] h in
+    record {
+      added = refl;
+      sums = record { filled = record { rows = refl; count = refl; room = omega arith }; free = refl; units = λ k h. getD-replicate 17 k 0 0 h; types = refl; absent = refl };
+      counts = record { lines = refl; columns = λ s h. ap length (line s h); counts = λ s b h k. ap (λ (l : List ℕ). getD l b 0) (line s h) ∙ getD-replicate 9 b 0 0 k };
+    }
 
 -- ---- all of it at once
 

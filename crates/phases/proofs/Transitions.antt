@@ -1,10 +1,9 @@
 -- What the table of transitions says. A rule of the table is one test over its rows, which is computed; one law turns it into the rule of every event in every phase.
 use Rattle.prelude.proofs.Prelude.{ℕ, zero, suc, _≤_, _<_, _+_, _*_, _/_, _%_, _^_, _≡_, refl, sym, _∙_, List, [], _∷_, Bool, true, false, not, _&&_, _||_, eqb, leb, getD, arith, eqb-true}
-use Rattle.prelude.proofs.Prelude.{leb-true}
+use Rattle.prelude.proofs.{Prelude.leb-true, Ways.by-cases}
 use Rattle.octets.{specs.Each.each, proofs.Each.each-fails}
 use Rattle.phases.specs.Phases.{Idle, Ended, Setup, Released, Component, Transition, goes, transitions, isFor, allowedBy, leadsBy, allowed, leadsTo}
 use Rattle.phases.specs.inner.ByNumber.{nextPhase}
-use Rattle.prelude.proofs.Ways.{by-cases}
 use Rattle.phases.proofs.Choice.{first-of, second-of, implied, never}
 
 abbrev every : (Transition → Bool) → List Transition → Bool

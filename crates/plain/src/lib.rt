@@ -12,28 +12,50 @@ use types::Charge;
 use types::charge_kind;
 ghost use mathlib.Core.Path.{_≡_};
 ghost use mathlib.Core.Bool.{true};
-ghost use mathlib.Core.List.{[], reverse};
+ghost use mathlib.Core.List.{[]};
 ghost use lib.ListN.{length};
 ghost use lib.Dec.{eqb};
 ghost use Rattle.types.specs.Charges.{flag};
 ghost use Rattle.outcomes.specs.Outcome.{its};
 ghost use Rattle.outcomes.specs.Status.{placeOf};
 ghost use Rattle.events.specs.Events.{addsUp, eventsOf};
-ghost use Rattle.account.specs.History.{any, last, judged, phase, requests, currentRate, running, closing, marks, pendingOf};
+ghost use Rattle.account.specs.History.{any, last, phase, closing, noClosing};
 ghost use Rattle.plain.specs.inner.Marked.{toldSet};
-ghost use Rattle.plain.specs.Answers.{outcomeAt, plainOutcome, plainPhase, plainPending, plainCurrentRate, plainRunning, plainClosing, plainMarks};
+ghost use Rattle.plain.specs.Answers.{outcomeAt, history, plainOutcome, plainPhase, plainPending, plainCharge, plainCurrentRate, plainRunning, plainClosing, plainMarks};
 
 // As wide as the answers have it.
 const LENGTHS: u16 = refusal::LENGTHS as u16;
 
 const WIDE_LENGTHS: u32 = refusal::LENGTHS as u32;
 
+// ---- nothing, of each kind of answer
+
+const NO_OUTCOME: Outcome = Outcome {
+    number: 0,
+    service: service::NONE,
+};
+
+const NO_SERVICES: Services = Services { s: 0, d: 0, e: 0 };
+
+const NO_PENDING: Pending = Pending {
+    asked: NO_SERVICES,
+    unused: 0,
+    s: 0,
+    d: 0,
+    e: 0,
+};
+
+const NO_MARKS: Marks = Marks {
+    absent: NO_SERVICES,
+    conflict: NO_SERVICES,
+};
+
 // ---- what is kept and what was reported
 
 // The charge of the last event whose outcome keeps it at a place: 1 the rate, 2 the running figure, 3 the final of D, 4 the final of E.
 fn last_kept(rows: &[u16], octets: &[u8], place: u16) -> Charge
     requires { ⌜ addsUp (now rows) (length (now octets)) ≡ true ⌝ }
-    ensures { λ r. ⌜ r ≡ last (λ j. eqb (placeOf (j .outcome)) place) (judged (reverse (eventsOf (now (rows .entry)) (now (octets .entry))))) ⌝ }
+    ensures { λ r. ⌜ r ≡ last (λ j. eqb (placeOf (j .outcome)) place) (history (now (rows .entry)) (now (octets .entry))) ⌝ }
 {
     let mut i = rows.len() / 6;
     while i > 0 {
@@ -46,35 +68,29 @@ fn last_kept(rows: &[u16], octets: &[u8], place: u16) -> Charge
     account::no_charge()
 }
 
-// Whether an event was a service's outcome.
-fn told(rows: &[u16], octets: &[u8], service: u8, number: u8) -> bool
+// 1 where an event was a service's outcome, else 0.
+fn told(rows: &[u16], octets: &[u8], service: u8, number: u8) -> u8
     requires { ⌜ addsUp (now rows) (length (now octets)) ≡ true ⌝ }
-    ensures { λ r. ⌜ r ≡ any (λ j. its service number (j .outcome)) (judged (reverse (eventsOf (now (rows .entry)) (now (octets .entry))))) ⌝ }
+    ensures { λ r. ⌜ r ≡ flag (any (λ j. its service number (j .outcome)) (history (now (rows .entry)) (now (octets .entry)))) ⌝ }
 {
     let mut i = rows.len() / 6;
     while i > 0 {
         i -= 1;
         let o = plain_scans::outcome_at(rows, octets, i);
         if outcomes::is_its(o, service, number) {
-            return true;
+            return 1;
         }
     }
-    false
-}
-
-fn flag(b: bool) -> u8
-    ensures { λ r. ⌜ r ≡ flag b ⌝ }
-{
-    if b { 1 } else { 0 }
+    0
 }
 
 fn told_set(rows: &[u16], octets: &[u8], number: u8) -> Services
     requires { ⌜ addsUp (now rows) (length (now octets)) ≡ true ⌝ }
-    ensures { λ r. ⌜ r ≡ toldSet number (judged (reverse (eventsOf (now (rows .entry)) (now (octets .entry))))) ⌝ }
+    ensures { λ r. ⌜ r ≡ toldSet number (history (now (rows .entry)) (now (octets .entry))) ⌝ }
 {
-    let s = flag(told(rows, octets, service::S, number));
-    let d = flag(told(rows, octets, service::D, number));
-    let e = flag(told(rows, octets, service::E, number));
+    let s = told(rows, octets, service::S, number);
+    let d = told(rows, octets, service::D, number);
+    let e = told(rows, octets, service::E, number);
     Services { s, d, e }
 }
 
@@ -82,51 +98,27 @@ fn told_set(rows: &[u16], octets: &[u8], number: u8) -> Services
 
 fn phase_in(rows: &[u16], octets: &[u8]) -> u8
     requires { ⌜ addsUp (now rows) (length (now octets)) ≡ true ⌝ }
-    ensures { λ r. ⌜ r ≡ phase (judged (reverse (eventsOf (now (rows .entry)) (now (octets .entry))))) ⌝ }
+    ensures { λ r. ⌜ r ≡ phase (history (now (rows .entry)) (now (octets .entry))) ⌝ }
 {
     let n = rows.len() / 6;
     plain_scans::phase_before(rows, n)
 }
 
-fn pending_in(rows: &[u16], octets: &[u8]) -> Pending
-    requires { ⌜ addsUp (now rows) (length (now octets)) ≡ true ⌝ }
-    ensures { λ r. ⌜ r ≡ pendingOf (requests (judged (reverse (eventsOf (now (rows .entry)) (now (octets .entry)))))) ⌝ }
+fn no_closing() -> Closing
+    ensures { λ r. ⌜ r ≡ noClosing ⌝ }
 {
-    let n = rows.len() / 6;
-    let t = plain_scans::status_before(rows, octets, n);
-    let asked = t.asked;
-    Pending {
-        asked,
-        unused: 0,
-        s: t.s,
-        d: t.d,
-        e: t.e,
+    Closing {
+        service: closing_service::NONE,
+        value: account::no_charge(),
     }
-}
-
-fn rate_in(rows: &[u16], octets: &[u8]) -> Charge
-    requires { ⌜ addsUp (now rows) (length (now octets)) ≡ true ⌝ }
-    ensures { λ r. ⌜ r ≡ currentRate (judged (reverse (eventsOf (now (rows .entry)) (now (octets .entry))))) ⌝ }
-{
-    last_kept(rows, octets, place::RATE)
-}
-
-fn running_in(rows: &[u16], octets: &[u8]) -> Charge
-    requires { ⌜ addsUp (now rows) (length (now octets)) ≡ true ⌝ }
-    ensures { λ r. ⌜ r ≡ running (judged (reverse (eventsOf (now (rows .entry)) (now (octets .entry))))) ⌝ }
-{
-    last_kept(rows, octets, place::RUNNING)
 }
 
 fn closing_in(rows: &[u16], octets: &[u8]) -> Closing
     requires { ⌜ addsUp (now rows) (length (now octets)) ≡ true ⌝ }
-    ensures { λ r. ⌜ r ≡ closing (judged (reverse (eventsOf (now (rows .entry)) (now (octets .entry))))) ⌝ }
+    ensures { λ r. ⌜ r ≡ closing (history (now (rows .entry)) (now (octets .entry))) ⌝ }
 {
     if phase_in(rows, octets) != phases::ENDED {
-        return Closing {
-            service: closing_service::NONE,
-            value: account::no_charge(),
-        };
+        return no_closing();
     }
     let e = last_kept(rows, octets, place::E_FINAL);
     if e.figure.kind != charge_kind::NONE {
@@ -142,19 +134,7 @@ fn closing_in(rows: &[u16], octets: &[u8]) -> Closing
             value: d,
         };
     }
-    Closing {
-        service: closing_service::NONE,
-        value: account::no_charge(),
-    }
-}
-
-fn marks_in(rows: &[u16], octets: &[u8]) -> Marks
-    requires { ⌜ addsUp (now rows) (length (now octets)) ≡ true ⌝ }
-    ensures { λ r. ⌜ r ≡ marks (judged (reverse (eventsOf (now (rows .entry)) (now (octets .entry))))) ⌝ }
-{
-    let absent = told_set(rows, octets, outcomes::NOT_AVAILABLE);
-    let conflict = told_set(rows, octets, outcomes::CONFLICT);
-    Marks { absent, conflict }
+    no_closing()
 }
 
 // ---- the same of any slices: 48 for those that are no event list, and then all else is zero
@@ -208,16 +188,10 @@ fn outcome_in(rows: &[u16], octets: &[u8], k: usize) -> Outcome
 {
     let n = rows.len() / 6;
     if k == 0 {
-        return Outcome {
-            number: 0,
-            service: service::NONE,
-        };
+        return NO_OUTCOME;
     }
     if k > n {
-        return Outcome {
-            number: 0,
-            service: service::NONE,
-        };
+        return NO_OUTCOME;
     }
     plain_scans::outcome_at(rows, octets, k - 1)
 }
@@ -226,13 +200,9 @@ pub fn outcome(rows: &[u16], octets: &[u8], k: usize) -> PlainOutcome
     ensures { λ r. ⌜ r ≡ plainOutcome (now (rows .entry)) (now (octets .entry)) k ⌝ }
 {
     if !is_list(rows, octets) {
-        let outcome = Outcome {
-            number: 0,
-            service: service::NONE,
-        };
         return PlainOutcome {
             number: LENGTHS,
-            outcome,
+            outcome: NO_OUTCOME,
         };
     }
     let outcome = outcome_in(rows, octets, k);
@@ -259,63 +229,57 @@ pub fn pending(rows: &[u16], octets: &[u8]) -> PlainPending
     ensures { λ r. ⌜ r ≡ plainPending (now (rows .entry)) (now (octets .entry)) ⌝ }
 {
     if !is_list(rows, octets) {
-        let asked = Services::empty();
-        let pending = Pending {
-            asked,
-            unused: 0,
-            s: 0,
-            d: 0,
-            e: 0,
-        };
         return PlainPending {
             number: LENGTHS,
-            pending,
+            pending: NO_PENDING,
         };
     }
-    let pending = pending_in(rows, octets);
+    let n = rows.len() / 6;
+    let t = plain_scans::status_before(rows, octets, n);
+    let asked = t.asked;
+    let pending = Pending {
+        asked,
+        unused: 0,
+        s: t.s,
+        d: t.d,
+        e: t.e,
+    };
     PlainPending { number: 0, pending }
+}
+
+// The charge that is kept at a place.
+fn kept(rows: &[u16], octets: &[u8], place: u16) -> PlainCharge
+    ensures { λ r. ⌜ r ≡ plainCharge (now (rows .entry)) (now (octets .entry)) (last (λ j. eqb (placeOf (j .outcome)) place) (history (now (rows .entry)) (now (octets .entry)))) ⌝ }
+{
+    if !is_list(rows, octets) {
+        return PlainCharge {
+            number: WIDE_LENGTHS,
+            value: account::no_charge(),
+        };
+    }
+    let value = last_kept(rows, octets, place);
+    PlainCharge { number: 0, value }
 }
 
 pub fn rate(rows: &[u16], octets: &[u8]) -> PlainCharge
     ensures { λ r. ⌜ r ≡ plainCurrentRate (now (rows .entry)) (now (octets .entry)) ⌝ }
 {
-    if !is_list(rows, octets) {
-        let value = account::no_charge();
-        return PlainCharge {
-            number: WIDE_LENGTHS,
-            value,
-        };
-    }
-    let value = rate_in(rows, octets);
-    PlainCharge { number: 0, value }
+    kept(rows, octets, place::RATE)
 }
 
 pub fn running(rows: &[u16], octets: &[u8]) -> PlainCharge
     ensures { λ r. ⌜ r ≡ plainRunning (now (rows .entry)) (now (octets .entry)) ⌝ }
 {
-    if !is_list(rows, octets) {
-        let value = account::no_charge();
-        return PlainCharge {
-            number: WIDE_LENGTHS,
-            value,
-        };
-    }
-    let value = running_in(rows, octets);
-    PlainCharge { number: 0, value }
+    kept(rows, octets, place::RUNNING)
 }
 
 pub fn closing(rows: &[u16], octets: &[u8]) -> PlainClosing
     ensures { λ r. ⌜ r ≡ plainClosing (now (rows .entry)) (now (octets .entry)) ⌝ }
 {
     if !is_list(rows, octets) {
-        let value = account::no_charge();
-        let closing = Closing {
-            service: closing_service::NONE,
-            value,
-        };
         return PlainClosing {
             number: WIDE_LENGTHS,
-            closing,
+            closing: no_closing(),
         };
     }
     let closing = closing_in(rows, octets);
@@ -326,16 +290,13 @@ pub fn marks(rows: &[u16], octets: &[u8]) -> PlainMarks
     ensures { λ r. ⌜ r ≡ plainMarks (now (rows .entry)) (now (octets .entry)) ⌝ }
 {
     if !is_list(rows, octets) {
-        let none = Services::empty();
-        let marks = Marks {
-            absent: none,
-            conflict: none,
-        };
         return PlainMarks {
             number: LENGTHS,
-            marks,
+            marks: NO_MARKS,
         };
     }
-    let marks = marks_in(rows, octets);
+    let absent = told_set(rows, octets, outcomes::NOT_AVAILABLE);
+    let conflict = told_set(rows, octets, outcomes::CONFLICT);
+    let marks = Marks { absent, conflict };
     PlainMarks { number: 0, marks }
 }

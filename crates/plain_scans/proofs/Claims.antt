@@ -14,11 +14,6 @@ by-way : (P : Outcome → Type 0) (b : Bool) (x y : Outcome) → P x → P y →
 by-way P true x y p q = p
 by-way P false x y p q = q
 
--- two choices by one test
-both-way : (P : Outcome → Outcome → Type 0) (b : Bool) (x y x′ y′ : Outcome) → P x x′ → P y y′ → P (cond b x y) (cond b x′ y′)
-both-way P true x y x′ y′ p q = p
-both-way P false x y x′ y′ p q = q
-
 refused-apart : (o : List ℕ) (n : ℕ) → eqb (readOf o .number) 0 ≡ false → isRefusal n ≡ false → eqb (readOf o .number) n ≡ false
 unfolding isRefusal
 refused-apart o n q r = apart isRefusal (readOf o .number) n (decoding-refusal o q) r
@@ -71,6 +66,29 @@ judge-final k e o s g =
     (λ h. rw (judge-claim k e o h) (compared-final k (claimOf (k .phase) (k .pending) (e .kind) o) (chargeIn o) s g))
     (λ h. rw (judge-other k e o h, h) (search (by-way (λ x. its s 22 x ≡ false))))
 
+-- what is told of invokes, results and failures with two sets of requests is told of every component
+module _ (t : Outcome → Bool) (p q : Requests) where
+  both : (b : Bool) (x y x′ y′ : Outcome) → t x ≡ t x′ → t y ≡ t y′ → t (cond b x y) ≡ t (cond b x′ y′)
+  both true x y x′ y′ e f = e
+  both false x y x′ y′ e f = f
+
+  claim-alike : ((phase operation kind total : ℕ) → t (claimInvoke phase p operation kind total) ≡ t (claimInvoke phase q operation kind total))
+      → ((id kind : ℕ) → t (claimResult (holderOf p id) kind) ≡ t (claimResult (holderOf q id) kind))
+      → ((id : ℕ) → t (judgeFailure (holderOf p id)) ≡ t (judgeFailure (holderOf q id)))
+      → (phase kind : ℕ) (o : List ℕ) → t (claimOf phase p kind o) ≡ t (claimOf phase q kind o)
+  unfolding claimOf claimRecord
+  claim-alike invoke result failure phase kind o =
+      let front = readOf o .value .front in
+      let figure = readOf o .value .charge .figure in
+      both (eqb kind Component && allowed kind phase) _ _ _ _
+      (both (eqb (readOf o .number) 0) _ _ _ _
+      (both (eqb phase Suspended) _ _ _ _ refl
+      (both (eqb (front .frame) 1) _ _ _ _ (invoke phase (front .operation) (figure .kind) (figure .total))
+      (both (eqb (front .frame) 2) _ _ _ _ (result (front .id) (figure .kind))
+      (both (eqb (front .unnamed) 1) _ _ _ _ refl (failure (front .id))))))
+      refl)
+      refl
+
 -- ---- 24 and 25 hang on one service's request alone
 
 invoke-settles : (phase : ℕ) (q : Requests) (operation kind total s : ℕ) → settles s (claimInvoke phase q operation kind total) ≡ false
@@ -96,23 +114,12 @@ module _ (u v s : ℕ) (alike : eqb u s ≡ eqb v s) where
       (λ e. rw (failure-none u s e, failure-none v s (sym alike ∙ e)))
 
 module _ (p q : Requests) (s : ℕ) (alike : (id : ℕ) → eqb (holderOf p id) s ≡ eqb (holderOf q id) s) where
-  frame-alike : (phase : ℕ) (f : Front) (kind total : ℕ) → settles s (claimFrame phase p f kind total) ≡ settles s (claimFrame phase q f kind total)
-  frame-alike phase f kind total =
-      both-way (λ x y. settles s x ≡ settles s y) (eqb (f .frame) 1) _ _ _ _
-      (invoke-settles phase p (f .operation) kind total s ∙ sym (invoke-settles phase q (f .operation) kind total s))
-      (both-way (λ x y. settles s x ≡ settles s y) (eqb (f .frame) 2) _ _ _ _
-      (result-alike _ _ s (alike (f .id)) kind)
-      (both-way (λ x y. settles s x ≡ settles s y) (eqb (f .unnamed) 1) _ _ _ _ refl (failure-alike _ _ s (alike (f .id)))))
-
   pub claim-settles : (phase kind : ℕ) (o : List ℕ) → settles s (claimOf phase p kind o) ≡ settles s (claimOf phase q kind o)
-  unfolding claimOf claimRecord
-  claim-settles phase kind o =
-      both-way (λ x y. settles s x ≡ settles s y) (eqb kind Component && allowed kind phase) _ _ _ _
-      (both-way (λ x y. settles s x ≡ settles s y) (eqb (readOf o .number) 0) _ _ _ _
-      (both-way (λ x y. settles s x ≡ settles s y) (eqb phase Suspended) _ _ _ _ refl (frame-alike phase (readOf o .value .front) (readOf o .value .charge .figure .kind)
-      (readOf o .value .charge .figure .total)))
-      refl)
-      refl
+  claim-settles =
+      claim-alike (settles s) p q
+      (λ phase operation kind total. invoke-settles phase p operation kind total s ∙ sym (invoke-settles phase q operation kind total s))
+      (λ id kind. result-alike _ _ s (alike id) kind)
+      (λ id. failure-alike _ _ s (alike id))
 
 -- ---- 22 hangs on one service's mark alone
 
@@ -136,20 +143,10 @@ module _ (p q : Requests) (s : ℕ) (alike : has (p .asked) s ≡ has (q .asked)
       one r phase operation kind total f = search (by-way (λ r. its s 22 r ≡ false), figure-final phase (serviceOf operation) kind total s f) depth 12 fits 3000
 
   pub claim-final : (phase kind : ℕ) (o : List ℕ) → its s 22 (claimOf phase p kind o) ≡ its s 22 (claimOf phase q kind o)
-  unfolding claimOf claimRecord
-  claim-final phase kind o =
-      both-way (λ x y. its s 22 x ≡ its s 22 y) (eqb kind Component && allowed kind phase) _ _ _ _
-      (both-way (λ x y. its s 22 x ≡ its s 22 y) (eqb (readOf o .number) 0) _ _ _ _
-      (both-way (λ x y. its s 22 x ≡ its s 22 y) (eqb phase Suspended) _ _ _ _ refl
-      (both-way (λ x y. its s 22 x ≡ its s 22 y) (eqb (readOf o .value .front .frame) 1) _ _ _ _
-      (invoke-final phase (readOf o .value .front .operation) (readOf o .value .charge .figure .kind) (readOf o .value .charge .figure .total))
-      (both-way (λ x y. its s 22 x ≡ its s 22 y) (eqb (readOf o .value .front .frame) 2) _ _ _ _
-      (result-final (holderOf p (readOf o .value .front .id)) (readOf o .value .charge .figure .kind) s
-      ∙ sym (result-final (holderOf q (readOf o .value .front .id)) (readOf o .value .charge .figure .kind) s))
-      (both-way (λ x y. its s 22 x ≡ its s 22 y) (eqb (readOf o .value .front .unnamed) 1) _ _ _ _ refl
-      (failure-final (holderOf p (readOf o .value .front .id)) s ∙ sym (failure-final (holderOf q (readOf o .value .front .id)) s))))))
-      refl)
-      refl
+  claim-final =
+      claim-alike (its s 22) p q invoke-final
+      (λ id kind. result-final (holderOf p id) kind s ∙ sym (result-final (holderOf q id) kind s))
+      (λ id. failure-final (holderOf p id) s ∙ sym (failure-final (holderOf q id) s))
 
 -- ---- the holder of an identifier, where no two requests have one
 

@@ -10,7 +10,7 @@ use Rattle.outcomes.{specs.Outcome.{judge, judgeFinal, chargeIn, its, settles, 
 use Rattle.account.specs.History.{any, phase, named, pending, hasFinal, final, known, judged}
 use Rattle.events.specs.{Events.{rowAt, countAt}, inner.Prefix.{placeAt, octetsAt, givenAt, before}}
 use Rattle.events.proofs.Prefix.{before-next, part-at, turn-inside, next-place}
-use Rattle.plain_scans.specs.{inner.Scan.{Scan, Here, FirstAt}, inner.Claim.{nextBy, askOf, requestOf, sole, claimOf, Asks}, declared.Ask.Ask}
+use Rattle.plain_scans.specs.{inner.Scan.{Scan, Here, FirstAt, sought, Requested}, inner.Claim.{nextBy, askOf, requestOf, sole, claimOf, Asks}, declared.Ask.Ask}
 use Rattle.plain_scans.proofs.Histories.{accepts, idle-unnamed, busy-kept, named-kept}
 use Rattle.plain_scans.proofs.Histories.{settle-step, final-step, first-given, upwards, any-next, found-by, phase-more}
 
@@ -128,8 +128,28 @@ module _ (rows octets : List ℕ) where
   pending-last s k q names r f = rw (found-by rows octets (λ j. settles s (j .outcome)) k r f k (omega arith), names) refl
 
   -- what a Setup asks for is what was named
-  pub names : (s k : ℕ) (e : Event) (q : Ask) → Asks (judged (before rows octets k)) e → q ≡ askOf (requestFor s e) → named s (judged (before rows octets k)) ≡ requestOf q
-  names s k e q a p = a .all s ∙ sym (ap requestOf p)
+  module _ (s k : ℕ) {e : Event} {q : Ask} (asks : Asks (judged (before rows octets k)) e) (is : q ≡ askOf (requestFor s e)) where
+    pub for-answer : Requested false rows octets k s q k
+    for-answer = record { names = asks .all s ∙ sym (ap requestOf is); answered = λ z. never z; unanswered = λ _. omega arith }
+
+    pub for-final : 2 ≤ s → {r : ℕ} → FirstAt (λ j. settles s (j .outcome)) rows octets k r → Requested true rows octets k s q r
+    for-final two f = record { names = for-answer .names; answered = λ _. (two, f); unanswered = λ z. never (sym z) }
+
+-- event i of a scan is looked for where the outcome that is tested says so
+module _ {rows octets : List ℕ} {k i at p s place c : ℕ} {q u : Ask} {e : Event} (low : 1 ≤ s) (high : s ≤ 3) (more : i < k)
+    (counted : c ≡ countAt rows i) (row : e ≡ rowAt rows i) (t : Status) (gone : u ≡ askOf (cond (ltb place i) noRequest (requestOf q)))
+    (alone : (t .phase ≡ p) × (requestsOf t ≡ sole s (requestOf u))) {o : Outcome}
+    (is : o ≡ claimOf (t .phase) (requestsOf t) (e .kind) (take (at + c - at) (drop at octets))) where
+  pub tells-sought : (finals : Bool) → Here (sought finals s) rows octets k i at p → Requested finals rows octets k s q place
+      → sought finals s (outcomeOf rows octets i) ≡ sought finals s o
+  tells-sought true here asked =
+      tells-final here counted row t s (requestOf u) alone is low high
+      (λ busy. pending-at rows octets s k i (here .row) _ (asked .names) place (asked .answered refl .1) busy ∙ sym (ap requestOf gone))
+      (here .none) (asked .answered refl .0)
+  tells-sought false here asked =
+      let later : ltb place i ≡ false = le-ltb place i (omega (arith, asked .unanswered refl)) in
+      tells-settled here counted row t s (requestOf u) alone is low high
+      (λ busy. still-named rows octets s k i (here .row) _ (asked .names) (here .none) busy ∙ sym (ap requestOf gone ∙ rw later refl))
 
 -- ---- the first final of a service
 

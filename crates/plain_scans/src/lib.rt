@@ -15,13 +15,24 @@ ghost use Prim.Native.Nat.{ℕ, _≤_, _<_, _/_};
 ghost use lib.ListN.{length};
 ghost use lib.Dec.{ltb};
 ghost use Rattle.phases.specs.Phases.{noRequest, asking, requestFor};
-ghost use Rattle.outcomes.specs.Outcome.{its, settles, judge, judgeFinal, firstFinal, chargeIn};
+ghost use Rattle.outcomes.specs.Outcome.{its, judge, judgeFinal, firstFinal, chargeIn};
 ghost use Rattle.outcomes.specs.Status.{requestsOf};
 ghost use Rattle.events.specs.Events.{addsUp, rowAt};
 ghost use Rattle.events.specs.inner.Prefix.{placeAt, octetsAt, before};
-ghost use Rattle.account.specs.History.{judged, phase, named, pending, requests, known};
-ghost use Rattle.plain_scans.specs.inner.Scan.{Scan, FirstAt};
+ghost use Rattle.account.specs.History.{judged, phase, pending, requests, known};
+ghost use Rattle.plain_scans.specs.inner.Scan.{Scan, FirstAt, sought, Requested};
 ghost use Rattle.plain_scans.specs.inner.Claim.{nextBy, bare, askOf, requestOf, sole, claimOf, Asks};
+
+const NO_SERVICES: Services = Services { s: 0, d: 0, e: 0 };
+
+// An event that asks for nothing.
+const NO_SETUP: Event = Event {
+    kind: 0,
+    asked: NO_SERVICES,
+    s: 0,
+    d: 0,
+    e: 0,
+};
 
 // A service's request: mark 0 for none.
 struct Ask {
@@ -34,15 +45,14 @@ struct Ask {
 fn bare(phase: u8) -> Status
     ensures { λ r. ⌜ r ≡ bare phase ⌝ }
 {
-    let none = Services::empty();
     Status {
         phase,
-        asked: none,
+        asked: NO_SERVICES,
         s: 0,
         d: 0,
         e: 0,
-        absent: none,
-        conflict: none,
+        absent: NO_SERVICES,
+        conflict: NO_SERVICES,
     }
 }
 
@@ -87,14 +97,7 @@ fn setup_before(rows: &[u16], k: usize) -> Event
         }
         i += 1;
     }
-    let none = Services::empty();
-    Event {
-        kind: 0,
-        asked: none,
-        s: 0,
-        d: 0,
-        e: 0,
-    }
+    NO_SETUP
 }
 
 fn asking(mark: u8, id: u16) -> Ask
@@ -187,21 +190,31 @@ fn claim(t: Status, kind: u8, octets: &[u8]) -> Outcome
     )
 }
 
-fn settles(o: Outcome, service: u8) -> bool
-    ensures { λ r. ⌜ r ≡ settles service o ⌝ }
+// Whether an outcome is a service's final, or else answers its request.
+fn is_sought(o: Outcome, service: u8, finals: bool) -> bool
+    ensures { λ r. ⌜ r ≡ sought finals service o ⌝ }
 {
-    if outcomes::is_its(o, service, outcomes::GRANTED) {
-        return true;
+    if finals {
+        return outcomes::is_its(o, service, outcomes::FINAL);
     }
-    outcomes::is_its(o, service, outcomes::FAILED)
+    outcomes::is_its(o, service, outcomes::GRANTED)
+        || outcomes::is_its(o, service, outcomes::FAILED)
 }
 
 // ---- the places of answers and finals
 
-// The first of k events that answers the request of a service.
-fn answer_before(rows: &[u16], octets: &[u8], k: usize, service: u8, q: Ask) -> usize
-    requires { ⌜ Scan (now rows) (now octets) k × (1 ≤ service) × (service ≤ 3) × (named service (judged (before (now rows) (now octets) k)) ≡ requestOf q) ⌝ }
-    ensures { λ r. ⌜ FirstAt (λ j. settles service (j .outcome)) (now (rows .entry)) (now (octets .entry)) k r ⌝ }
+// The first of k events that is a final of a service, or else answers its request; k if there is none. The request is answered at a place.
+fn first_before(
+    rows: &[u16],
+    octets: &[u8],
+    k: usize,
+    service: u8,
+    q: Ask,
+    place: usize,
+    finals: bool,
+) -> usize
+    requires { ⌜ Scan (now rows) (now octets) k × (1 ≤ service) × (service ≤ 3) × Requested finals (now rows) (now octets) k service q place ⌝ }
+    ensures { λ r. ⌜ FirstAt (λ j. sought finals service (j .outcome)) (now (rows .entry)) (now (octets .entry)) k r ⌝ }
 {
     let mut phase: u8 = phases::IDLE;
     let mut at: usize = 0;
@@ -209,9 +222,10 @@ fn answer_before(rows: &[u16], octets: &[u8], k: usize, service: u8, q: Ask) -> 
     while i < k {
         let end = at + events::count_at(rows, i);
         let e = events::row_at(rows, i);
-        let t = alone(phase, service, q);
+        let p = until(q, place, i);
+        let t = alone(phase, service, p);
         let o = claim(t, e.kind, &octets[at..end]);
-        if settles(o, service) {
+        if is_sought(o, service, finals) {
             return i;
         }
         let next = passed(phase, e);
@@ -229,25 +243,8 @@ fn final_before(rows: &[u16], octets: &[u8], k: usize, service: u8) -> usize
 {
     let setup = setup_before(rows, k);
     let q = asked_for(setup, service);
-    let place = answer_before(rows, octets, k, service, q);
-    let mut phase: u8 = phases::IDLE;
-    let mut at: usize = 0;
-    let mut i: usize = 0;
-    while i < k {
-        let end = at + events::count_at(rows, i);
-        let e = events::row_at(rows, i);
-        let p = until(q, place, i);
-        let t = alone(phase, service, p);
-        let o = claim(t, e.kind, &octets[at..end]);
-        if outcomes::is_its(o, service, outcomes::FINAL) {
-            return i;
-        }
-        let next = passed(phase, e);
-        phase = next;
-        at = end;
-        i += 1;
-    }
-    k
+    let place = first_before(rows, octets, k, service, q, k, false);
+    first_before(rows, octets, k, service, q, place, true)
 }
 
 // ---- what is pending
@@ -259,7 +256,7 @@ fn pending_before(rows: &[u16], octets: &[u8], k: usize, service: u8) -> Ask
 {
     let setup = setup_before(rows, k);
     let q = asked_for(setup, service);
-    let place = answer_before(rows, octets, k, service, q);
+    let place = first_before(rows, octets, k, service, q, k, false);
     until(q, place, k)
 }
 
@@ -272,7 +269,6 @@ pub fn status_before(rows: &[u16], octets: &[u8], k: usize) -> Status
     let s = pending_before(rows, octets, k, service::S);
     let d = pending_before(rows, octets, k, service::D);
     let e = pending_before(rows, octets, k, service::E);
-    let none = Services::empty();
     let asked = Services {
         s: s.mark,
         d: d.mark,
@@ -284,8 +280,8 @@ pub fn status_before(rows: &[u16], octets: &[u8], k: usize) -> Status
         s: s.id,
         d: d.id,
         e: e.id,
-        absent: none,
-        conflict: none,
+        absent: NO_SERVICES,
+        conflict: NO_SERVICES,
     }
 }
 

@@ -1,9 +1,8 @@
 -- The cast of an amount's thousandths is exact, and the machine's division of it by 1000 is the double nearest to the quotient. Assumes nothing.
 use Rattle.prelude.proofs.Prelude.{_≡_, subst, ℕ, suc, _*_, _^_, _≤_, _<_, arith, Bool, true, false, T, le→leb, ℤ, pos, negsuc, pow-pos, Float, nan, inf, fin, binary64, up, down, ofInt}
 use Rattle.prelude.proofs.Prelude.{ofBits, div, round, inFloat, toUnsigned, HasValue, round-whole, unsigned-back, round-same}
-use Rattle.types.specs.declared.Charge.{Charge}
+use Rattle.types.specs.{declared.Charge.Charge, Thousandths.thousandths}
 use Rattle.amounts.proofs.Bounded.{bounded}
-use Rattle.types.specs.Thousandths.{thousandths}
 use Rattle.closing.{specs.Range.inRange, proofs.Small.small}
 use Rattle.price.specs.Price.{asDouble, quotientOf}
 

@@ -3,25 +3,13 @@ use Rattle.prelude.proofs.Prelude.{ℕ, _≤_, arith, _≡_, refl, sym, Bool, t
 use Rattle.coding.{specs.Reader.Ans, specs.Reader.after, specs.Reader.opened, specs.Reader.closed, specs.Reader.constructed, specs.Reader.choice, specs.Reader.tagged}
 use Rattle.coding.{specs.Reader.Ans.got, specs.Reader.Ans.halt, specs.inner.Shown.shown, specs.Codec.Run, specs.Codec.cons, specs.Codec.nothing, specs.Codec.pair, specs.Codec.sort}
 use Rattle.coding.{specs.Codec.canonical, specs.Codec.over, specs.Codec.pickRun, proofs.Basic.and-left, proofs.Basic.and-right}
-use Rattle.coding.{proofs.Reading.flat, proofs.Reading.step, proofs.Reading.stay, proofs.Reading.shut, proofs.Reading.remains}
+use Rattle.coding.proofs.Reading.{flat}
 use Rattle.types.specs.{declared.Charge.Charge, Charges.flag, Charges.noAssociation, Charges.unassociated, Charges.association, Arguments.noCharge, Arguments.totalled}
 use Rattle.types.specs.{Arguments.during, Arguments.ending, Arguments.sign, Arguments.subtotals, Arguments.settled, Arguments.withAssociation, Arguments.finals, Arguments.associated}
 use Rattle.types.specs.{Arguments.inMoney, Arguments.inUnits, Arguments.arrangement, Arguments.rates, Arguments.available}
 use Rattle.read_figures.proofs.Steps.{after-same}
 use Rattle.read_unit.specs.inner.Readers.{isTariff, typeBy, billingBy, framedBy}
 use Rattle.read_charges.specs.inner.Readers.{amountBy, pricedBy, settledBy, figureBy, figureOf}
-
--- ---- how answers go on
-
--- nothing over in an inner element, or something
-module _ {A B : Type 0} (v : A) (f : A → ℕ → Ans B) (y : B) (at end next : ℕ) where
-  pub shut-in : {t : ℕ × ℕ × B × ℕ} → at ≡ end → t ≡ shown y (f v next) → t ≡ shown y (after (closed v at end next) f)
-  shut-in e h = step _ f v y (shut v v at end next e) refl h
-
-  pub remains-in : (at ≡ end → ⊥) → (41, at, y, 0) ≡ shown y (after (closed v at end next) f)
-  remains-in e = stay _ f v y (remains v v at end next e) (λ (k : _≡_ {A = ℕ} 41 0). omega arith)
-
-pub ruleset inner = (shut-in, remains-in)
 
 -- what follows changes nothing
 pub ended : {A : Type 0} (x : Ans A) (f : A → ℕ → Ans A) (y : A) {t : ℕ × ℕ × A × ℕ} → ((v : A) (n : ℕ) → f v n ≡ got v n) → t ≡ shown y x → t ≡ shown y (after x f)
@@ -45,10 +33,8 @@ totals b c s at end next =
 pub priced-read : (b : Bool) (f : Run Charge) (s : List ℕ) (at end : ℕ) →
     (pricedBy b f) .read s at end ≡
     after (opened 0x30 s at end) (λ e next.
-    after (opened 0xa1 s (e .start) (e .stop)) (λ a m.
-    after (f .read s (a .start) (a .stop)) (λ c last.
-    after (closed c last (a .stop) m) (λ c k.
-    totals b c s k (e .stop) next))))
+    after (constructed 0xa1 (f .read) s (e .start) (e .stop)) (λ c k.
+    totals b c s k (e .stop) next))
 unfolding pricedBy typeBy billingBy during ending cons constructed canonical over pair
 priced-read true f s at end = simp flat
 priced-read false f s at end = simp flat

@@ -33,13 +33,7 @@ pub fn rates_at(
         return read_elements::halted(e.fault, e.place);
     }
     let r = read_lists::rates_in(s, e.value.start, e.value.stop, trunk, figure, numbers, rows);
-    if r.fault != 0 {
-        return read_elements::halted(r.fault, r.place);
-    }
-    if r.next != e.value.stop {
-        return read_elements::halted(refusal::UNEXPECTED, r.next);
-    }
-    read_elements::reached(e.next)
+    read_elements::closed(r, e.value.stop, e.next)
 }
 
 // ---- figures: operations 33 to 36, by one set of functions
@@ -93,7 +87,7 @@ fn priced_at(
     if a.fault != 0 {
         return read_elements::halted(a.fault, a.place);
     }
-    let p = price_in(
+    let contents = price_in(
         s,
         a.value.start,
         a.value.stop,
@@ -102,13 +96,11 @@ fn priced_at(
         numbers,
         rows,
     );
+    let p = read_elements::closed(contents, a.value.stop, a.next);
     if p.fault != 0 {
         return read_elements::halted(p.fault, p.place);
     }
-    if p.next != a.value.stop {
-        return read_elements::halted(refusal::UNEXPECTED, p.next);
-    }
-    let t = read_unit::type_at(s, a.next, e.value.stop, operation);
+    let t = read_unit::type_at(s, p.next, e.value.stop, operation);
     if t.fault != 0 {
         return read_elements::halted(t.fault, t.place);
     }
@@ -183,13 +175,7 @@ fn figure_at(
         return read_elements::reached(e.next);
     }
     let a = read_figures::association_at(s, u.next, e.value.stop, false, figure);
-    if a.fault != 0 {
-        return read_elements::halted(a.fault, a.place);
-    }
-    if a.next != e.value.stop {
-        return read_elements::halted(refusal::UNEXPECTED, a.next);
-    }
-    read_elements::reached(e.next)
+    read_elements::closed(a, e.value.stop, e.next)
 }
 
 // ---- by the operation

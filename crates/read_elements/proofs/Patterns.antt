@@ -72,19 +72,22 @@ module _ (s : List ℕ) (i j : ℕ) (l : j ≤ length s) where
 -- ---- a number from low to high
 
 module _ (xs : List ℕ) (low high : ℕ) {b : Bool} (sb : b ≡ shortest xs) where
-  pub number-padded : b ≡ false → (43, 0) ≡ verdict 0 (natural low high xs)
+  pub number-padded : not b ≡ true → (43, 0) ≡ verdict 0 (natural low high xs)
   unfolding natural verdict
-  number-padded h = simp (sym sb ∙ h)
+  number-padded h = simp (sym sb ∙ not-true b h)
 
-  module _ (h : b ≡ true) {d : Bool} (nd : d ≡ negative xs) where
+  module _ (h : not b ≡ false) {d : Bool} (nd : d ≡ negative xs) where
+    short : shortest xs ≡ true
+    short = sym sb ∙ not-false b h
+
     pub number-negative : d ≡ true → (44, 0) ≡ verdict 0 (natural low high xs)
     unfolding natural verdict
-    number-negative k = simp (sym sb ∙ h, sym nd ∙ k)
+    number-negative k = simp (short, sym nd ∙ k)
 
     module _ (k : d ≡ false) {n : ℕ} (m : n ≡ min (numberFrom 0 xs) 16777216) where
       pub number-low : low < 16777216 → n < low → (44, 0) ≡ verdict 0 (natural low high xs)
       unfolding natural verdict
-      number-low r l = let o : numberFrom 0 xs < low = omega arith in simp (sym sb ∙ h, sym nd ∙ k, lt-leb _ _ o)
+      number-low r l = let o : numberFrom 0 xs < low = omega arith in simp (short, sym nd ∙ k, lt-leb _ _ o)
 
       module _ (l : low ≤ n) (r : high < 16777216) where
         o : low ≤ numberFrom 0 xs
@@ -92,14 +95,14 @@ module _ (xs : List ℕ) (low high : ℕ) {b : Bool} (sb : b ≡ shortest xs) wh
 
         pub number-high : high < n → (44, 0) ≡ verdict 0 (natural low high xs)
         unfolding natural verdict
-        number-high u = let p : high < numberFrom 0 xs = omega arith in simp (sym sb ∙ h, sym nd ∙ k, le-leb _ _ o, lt-leb _ _ p)
+        number-high u = let p : high < numberFrom 0 xs = omega arith in simp (short, sym nd ∙ k, le-leb _ _ o, lt-leb _ _ p)
 
         pub number-fits : n ≤ high → (0, n) ≡ verdict 0 (natural low high xs)
         unfolding natural verdict
         number-fits u =
             let p : numberFrom 0 xs ≤ high = omega arith in
             let e : n ≡ numberFrom 0 xs = omega arith in
-            simp (sym sb ∙ h, sym nd ∙ k, le-leb _ _ o, le-leb _ _ p) (rw e)
+            simp (short, sym nd ∙ k, le-leb _ _ o, le-leb _ _ p) (rw e)
 
 pub ruleset shortening = (shortest-none, shortest-one, shortest-zero, shortest-ones, shortest-other)
 

@@ -1,12 +1,12 @@
 -- How the code's numbers go with the faults; values of a list.
-use Rattle.prelude.proofs.Prelude.{ℕ, zero, suc, _+_, _-_, _≤_, _<_, min, arith, _≡_, refl, ap, sym, _∙_, Bool, true, false, not, true≢false, List, [], _∷_, length, ltb, leb, eqb, lt-ltb}
-use Rattle.prelude.proofs.Prelude.{le-ltb, lt-leb, le-leb, ltb-true, eqb-true, eqb-false, ne-eqb, not-true, not-false}
-use Rattle.prelude.proofs.Ways.{by-cases}
-use Rattle.coding.specs.Reader.{Fault, code, part, Fault.{missing, unexpected, cut, form, shortest, contents, limit, named}}
-use Rattle.coding.specs.{Contents.{negative, numberFrom}, Codec.{oneOf, all}, Leaves.listing, inner.Shown.verdict}
+use Rattle.prelude.proofs.Prelude.{ℕ, zero, suc, _+_, _-_, _≤_, _<_, min, arith, _≡_, refl, ap, sym, _∙_, Bool, true, false, not, cond, true≢false, List, [], _∷_, length, ltb, leb, eqb, lt-ltb}
+use Rattle.prelude.proofs.{Prelude.{le-ltb, lt-leb, le-leb, ltb-true, eqb-true, eqb-false, ne-eqb, not-true, not-false}, Ways.by-cases}
+use Rattle.coding.specs.Reader.{Fault, code, part, ruled, Fault.{missing, unexpected, cut, form, shortest, contents, limit, named}}
+use Rattle.coding.specs.{Contents.{negative, numberFrom}, Codec.{oneOf, all}, Leaves.listing, inner.Shown.shown}
 use Rattle.coding.proofs.{Basic.{or-case, and-left, and-right}, Parts.part-length}
 use Rattle.types.specs.Frames.{outside, inArgument, numberOf, operations}
-use Rattle.read_heads.specs.inner.Heads.{outsideCode, argumentCode, faultBy, knownIn, unknownIn}
+use Rattle.read_elements.specs.declared.NumberRead.{NumberRead}
+use Rattle.read_heads.specs.inner.Heads.{outsideCode, argumentCode, faultBy, knownIn, lookedUp}
 use Rattle.coding.specs.Contents as Contents
 
 -- the three at once
@@ -56,51 +56,64 @@ counted low (suc k) n a b = by-cases (eqb n low) (λ q. rw q) (λ q. rw q (count
 pub has-below : (most : ℕ) (ks : List ℕ) (n : ℕ) → all (λ k. ltb k most) ks ≡ true → oneOf ks n ≡ true → n < most
 has-below most ks n a h = ltb-true n most (in-all (λ k. ltb k most) ks n a h)
 
--- no known value is over 36
-known-low : (k n : ℕ) → oneOf (knownIn k) n ≡ true → n < 37
-known-low k n h =
-    has-below 37 (knownIn k) n (by-cases (eqb k 1) (λ p. rw p) (λ p. by-cases (eqb k 2) (λ q. rw (p, q)) (λ q. rw (p, q)))) h
+-- 2^24 is in no list of lower numbers, so that a number held there is in it where the number is
+module _ (ks : List ℕ) (low : all (λ k. ltb k 16777216) ks ≡ true) where
+  pub unlisted : oneOf ks 16777216 ≡ false
+  unlisted = none-of (λ k. ltb k 16777216) ks 16777216 low refl
 
--- so that a number held at 2^24 is known where the number is
-unknown-held : (k n m : ℕ) → n ≡ min m 16777216 → oneOf (knownIn k) n ≡ false → oneOf (knownIn k) m ≡ false
-unknown-held k n m e h = by-cases (oneOf (knownIn k) m) (λ q. let z : m ≡ n = omega (arith, known-low k m q) in rw z h) (λ q. q)
+  unlisted-held : (n m : ℕ) → n ≡ min m 16777216 → oneOf ks n ≡ false → oneOf ks m ≡ false
+  unlisted-held n m e h = by-cases (oneOf ks m) (λ q. let z : m ≡ n = omega (arith, has-below 16777216 ks m low q) in rw z h) (λ q. q)
 
-pub list-known : (u : ℕ) (ks xs : List ℕ) {n : ℕ} → Contents.shortest xs ≡ true → length xs ≤ 4 → negative xs ≡ false → n ≡ numberFrom 0 xs → oneOf ks n ≡ true
-    → (0, n) ≡ verdict 0 (listing u ks xs)
-unfolding listing verdict
-list-known u ks xs s l p e h = rw (s, le-ltb _ _ l, p, ← e, h)
+-- as those of all frames are: no known value is over 36
+pub known-low : (k : ℕ) → (all (λ n. ltb n 16777216) (knownIn k) ≡ true) × (all (λ n. ltb n 256) (knownIn k) ≡ true)
+known-low k = by-cases (eqb k 1) (λ p. rw p (refl, refl)) (λ p. by-cases (eqb k 2) (λ q. rw (p, q) (refl, refl)) (λ q. rw (p, q) (refl, refl)))
 
--- as it is tested: whether the octets are shortest, their count, the sign, whether it is known
-module _ (s : List ℕ) (start stop k : ℕ) (l : stop ≤ length s) {b : Bool} (e : b ≡ Contents.shortest (part s start stop)) where
-  abbrev meant : ℕ × ℕ
-  meant = verdict 0 (listing (unknownIn k) (knownIn k) (part s start stop))
+-- ---- a value's number, looked up in a list: 2^24 is in none
 
-  pub value-padded : not b ≡ true → (43, 0) ≡ meant
-  unfolding listing verdict
-  value-padded t = rw (sym e ∙ not-true b t)
+module _ (u : ℕ) (ks : List ℕ) (at next : ℕ) where
+  pub number-known : (xs : List ℕ) {n : ℕ} → Contents.shortest xs ≡ true → length xs ≤ 4 → negative xs ≡ false → n ≡ numberFrom 0 xs → oneOf ks n ≡ true
+      → (0, 0, n, next) ≡ shown 0 (ruled (listing u ks xs) at next)
+  unfolding listing ruled shown
+  number-known xs s l p e h = rw (s, le-ltb _ _ l, p, ← e, h)
 
-  module _ (t : not b ≡ false) where
-    pub value-long : 4 < stop - start → (44, 0) ≡ meant
-    unfolding listing verdict
-    value-long h = rw (sym e ∙ not-false b t, part-length s start stop l, lt-ltb _ _ h)
+  -- as it is tested: whether the octets are shortest, their count, the sign
+  module _ (s : List ℕ) (start stop end : ℕ) (i : stop ≤ end) (j : end ≤ length s) {b : Bool} (e : b ≡ Contents.shortest (part s start stop)) where
+    counts : length (part s start stop) ≡ stop - start
+    counts = part-length s start stop (omega arith)
 
-    module _ (f : stop - start ≤ 4) {n : Bool} (g : n ≡ negative (part s start stop)) where
-      pub value-negative : {w : ℕ} → w ≡ 100 + unknownIn k → n ≡ true → (w, 0) ≡ meant
-      unfolding listing verdict
-      value-negative r h = rw (r, sym e ∙ not-false b t, part-length s start stop l, le-ltb _ _ f, sym g ∙ h)
+    abbrev meant : ℕ × ℕ × ℕ × ℕ
+    meant = shown 0 (ruled (listing u ks (part s start stop)) at next)
 
-      module _ (z : n ≡ false) {v : ℕ} {r : Bool} (p : v ≡ min (numberFrom 0 (part s start stop)) 16777216) (q : r ≡ oneOf (knownIn k) v) where
-        pub value-known : r ≡ true → (0, v) ≡ meant
-        value-known h = list-known _ _ _ (sym e ∙ not-false b t) (omega (arith, part-length s start stop l)) (sym g ∙ z) (omega (arith, known-low k v (sym q ∙ h))) (sym q ∙ h)
+    pub number-padded : not b ≡ true → (43, at, 0, 0) ≡ meant
+    unfolding listing ruled shown
+    number-padded t = rw (sym e ∙ not-true b t)
 
-        pub value-unknown : {w : ℕ} → w ≡ 100 + unknownIn k → r ≡ false → (w, 0) ≡ meant
-        unfolding listing verdict
-        value-unknown x h = rw (x, sym e ∙ not-false b t, part-length s start stop l, le-ltb _ _ f, sym g ∙ z, unknown-held k v _ p (sym q ∙ h))
+    module _ (t : not b ≡ false) where
+      pub number-long : 4 < stop - start → (44, at, 0, 0) ≡ meant
+      unfolding listing ruled shown
+      number-long h = rw (sym e ∙ not-false b t, counts, lt-ltb _ _ h)
 
-pub value-low : (k v : ℕ) {r : Bool} → r ≡ oneOf (knownIn k) v → r ≡ true → v < 256
-value-low k v q h = omega (arith, known-low k v (sym q ∙ h))
+      module _ (low : all (λ k. ltb k 16777216) ks ≡ true) (f : stop - start ≤ 4) {n : Bool} (g : n ≡ negative (part s start stop)) where
+        abbrev found : ℕ → ℕ × ℕ × ℕ × ℕ
+        found v = lookedUp u ks at (record { fault = 0; place = 0; value = v; next = next })
 
-pub ruleset valuing = (value-padded, value-long, value-negative, value-known, value-unknown)
+        pub number-negative : not n ≡ false → found 16777216 ≡ meant
+        unfolding listing ruled shown lookedUp
+        number-negative h = rw (unlisted ks low, sym e ∙ not-false b t, counts, le-ltb _ _ f, sym g ∙ not-false n h)
+
+        pub number-found : {v : ℕ} → not n ≡ true → v ≡ min (numberFrom 0 (part s start stop)) 16777216 → found v ≡ meant
+        unfolding listing ruled shown lookedUp
+        number-found {v} h p =
+            by-cases (oneOf ks v)
+            (λ q. rw q (number-known _ (sym e ∙ not-false b t) (omega (arith, counts)) (sym g ∙ not-true n h) (omega (arith, has-below 16777216 ks v low q)) q))
+            (λ q. rw (q, sym e ∙ not-false b t, counts, le-ltb _ _ f, sym g ∙ not-true n h, unlisted-held ks low v _ p q))
+
+pub ruleset numbering = (number-padded, number-long, number-negative, number-found)
+
+pub looked-halted : (u : ℕ) (ks : List ℕ) (at : ℕ) {r : NumberRead} {k p : ℕ} {t : ℕ × ℕ × ℕ × ℕ} → r ≡ record { fault = k; place = p; value = 0; next = 0 }
+    → (k ≡ 0 → ⊥) → (k, p, 0, 0) ≡ t → lookedUp u ks at r ≡ t
+unfolding lookedUp
+looked-halted u ks at e f h = rw (e, ne-eqb _ _ f) h
 
 -- ---- the operations are those from 30 to 36
 

@@ -45,12 +45,12 @@ unfolding after
 alone (got v n) z r = r
 alone (halt w p) z r = r
 
--- a fault of it, as the code tells it
-pub refused : (s : List ℕ) (r : Opened) {k p : ℕ} → r ≡ record { fault = k; place = p; value = record { start = 0; stop = 0 }; next = 0 } → (k ≡ 0 → 0 < length s)
+-- a fault of it, as the code tells it, whichever tags it may have
+pub refused : (tags s : List ℕ) (r : Opened) {k p : ℕ} → r ≡ record { fault = k; place = p; value = record { start = 0; stop = 0 }; next = 0 } → (k ≡ 0 → 0 < length s)
     → (k, p, record { start = 0; stop = 0 }, 0) ≡ shown (record { start = 0; stop = 0 }) (after (enteredAny tags outside (named 5) s 0 (length s)) (λ v n. got v n))
     → ((r .fault, r .place, r .value, r .next) ≡ shown (record { start = 0; stop = 0 }) (enteredAny tags outside (named 5) s 0 (length s)))
     × (((r .fault ≡ 0) → (0 < length s)) × (r .value .stop ≤ length s))
-refused s r e some q = rw e (alone _ _ q, (some, omega arith))
+refused tags s r e some q = rw e (alone _ _ q, (some, omega arith))
 
 pub tag-below : (n : ℕ) → n < 0xa1 → oneOf tags n ≡ false
 tag-below n l = none-of (leb 0xa1) tags n refl (lt-leb 0xa1 n l)

@@ -38,19 +38,13 @@ pub fn outer(fault: u8) -> u8
     if named::BASE <= fault {
         return fault;
     }
-    if fault == refusal::MISSING {
-        return named::CUT;
+    match fault {
+        refusal::MISSING => named::CUT,
+        refusal::UNEXPECTED => named::UNKNOWN_COMPONENT,
+        refusal::LACKING => named::CUT,
+        refusal::LENGTH_FORM => named::LENGTH_FORM,
+        _ => named::BAD_FRAME,
     }
-    if fault == refusal::UNEXPECTED {
-        return named::UNKNOWN_COMPONENT;
-    }
-    if fault == refusal::LACKING {
-        return named::CUT;
-    }
-    if fault == refusal::LENGTH_FORM {
-        return named::LENGTH_FORM;
-    }
-    named::BAD_FRAME
 }
 
 // A fault in the argument or result.
@@ -382,7 +376,8 @@ pub fn enter(s: &[u8]) -> read_lengths::Opened
     }
 }
 
-fn shut_out(fault: u8, place: usize) -> read_lengths::Opened
+// It is refused, at a place.
+pub fn shut_out(fault: u8, place: usize) -> read_lengths::Opened
     ensures { λ r. ⌜ r ≡ record { fault = fault; place = place; value = record { start = 0; stop = 0 }; next = 0 } ⌝ }
 {
     read_lengths::Opened {

@@ -5,15 +5,14 @@ use types::error;
 use types::frame;
 use types::operation;
 ghost use mathlib.Core.Path.{_≡_};
-ghost use mathlib.Core.List.{[], _∷_};
-ghost use Prim.Native.Nat.{_+_, _≤_, _<_};
-ghost use lib.ListN.{length};
-ghost use Rattle.coding.specs.Reader.{part};
-ghost use Rattle.coding.specs.Codec.{oneOf};
-ghost use Rattle.coding.specs.Leaves.{listing};
-ghost use Rattle.coding.specs.inner.Shown.{shown, verdict};
+ghost use mathlib.Core.Bool.{true};
+ghost use mathlib.Core.List.{List};
+ghost use Prim.Native.Nat.{ℕ, _+_, _<_};
+ghost use lib.Dec.{ltb};
+ghost use Rattle.coding.specs.Codec.{oneOf, all};
+ghost use Rattle.coding.specs.inner.Shown.{shown};
 ghost use Rattle.types.specs.Frames.{operations, errors, value};
-ghost use Rattle.read_heads.specs.inner.Heads.{knownIn, unknownIn};
+ghost use Rattle.read_heads.specs.inner.Heads.{knownIn, unknownIn, lookedUp};
 ghost use Rattle.read_lengths.specs.inner.Bounds.{Bounded};
 
 // As wide as a value that is read.
@@ -21,98 +20,98 @@ const CHARGING_REQUEST: u32 = operation::CHARGING_REQUEST as u32;
 
 const E_UNITS: u32 = operation::E_UNITS as u32;
 
+// No list has it.
+const UNLISTED: u32 = 16777216;
+
 fn known_operation(n: u32) -> bool
     ensures { λ r. ⌜ r ≡ oneOf operations n ⌝ }
 {
-    if n < CHARGING_REQUEST {
-        return false;
+    match n {
+        CHARGING_REQUEST..=E_UNITS => true,
+        _ => false,
     }
-    if E_UNITS < n {
-        return false;
-    }
-    true
 }
 
 pub fn known_error(n: u32) -> bool
     ensures { λ r. ⌜ r ≡ oneOf errors n ⌝ }
 {
-    if n == error::NOT_SUBSCRIBED {
-        return true;
+    match n {
+        error::NOT_SUBSCRIBED => true,
+        error::NOT_AVAILABLE => true,
+        error::NOT_IMPLEMENTED => true,
+        error::INVALID_CALL_STATE => true,
+        error::NO_CHARGING_INFO => true,
+        _ => false,
     }
-    if n == error::NOT_AVAILABLE {
-        return true;
-    }
-    if n == error::NOT_IMPLEMENTED {
-        return true;
-    }
-    if n == error::INVALID_CALL_STATE {
-        return true;
-    }
-    if n == error::NO_CHARGING_INFO {
-        return true;
-    }
-    false
-}
-
-fn is_charging_request(n: u32) -> bool
-    ensures { λ r. ⌜ r ≡ oneOf (30 ∷ []) n ⌝ }
-{
-    if n == CHARGING_REQUEST {
-        return true;
-    }
-    false
 }
 
 fn is_known(frame: u8, n: u32) -> bool
     ensures { λ r. ⌜ r ≡ oneOf (knownIn frame) n ⌝ }
 {
-    if frame == frame::INVOKE {
-        return known_operation(n);
+    match frame {
+        frame::INVOKE => known_operation(n),
+        frame::RESULT => n == CHARGING_REQUEST,
+        _ => known_error(n),
     }
-    if frame == frame::RESULT {
-        return is_charging_request(n);
-    }
-    known_error(n)
 }
 
 // The fault of a value that is not known.
-fn unknown(frame: u8) -> u8
+pub fn unknown(frame: u8) -> u8
     ensures { λ r. ⌜ r ≡ 100 + unknownIn frame ⌝ }
 {
-    if frame == frame::ERROR {
-        return named::UNKNOWN_ERROR;
+    match frame {
+        frame::ERROR => named::UNKNOWN_ERROR,
+        _ => named::UNKNOWN_OPERATION,
     }
-    named::UNKNOWN_OPERATION
 }
 
-// The contents of an operation or error value.
-fn value_in(s: &[u8], start: usize, stop: usize, frame: u8) -> read_elements::Verdict
-    requires { ⌜ (start ≤ stop) × (stop ≤ length (now s)) ⌝ }
-    ensures { λ r. ⌜ (r .fault, r .value) ≡ verdict 0 (listing (unknownIn frame) (knownIn frame) (part (now (s .entry)) start stop)) ⌝ }
-    ensures bounded { λ r. ⌜ r .value < 256 ⌝ }
+// Reading a value stopped at a place.
+pub fn no_value(fault: u8, place: usize) -> read_elements::NumberRead
+    ensures { λ r. ⌜ r ≡ record { fault = fault; place = place; value = 0; next = 0 } ⌝ }
 {
-    if !read_elements::is_shortest(s, start, stop) {
-        return read_elements::Verdict {
-            fault: refusal::NOT_SHORTEST,
-            value: 0,
+    read_elements::NumberRead {
+        fault,
+        place,
+        value: 0,
+        next: 0,
+    }
+}
+
+// The number of a value, whatever list it is then looked up in: held at 2^24, which no list has, and 2^24 for one below 0 and for tag 06.
+pub fn number_at(s: &[u8], at: usize, end: usize) -> read_elements::NumberRead
+    requires { ⌜ Bounded (now s) end ⌝ }
+    ensures { λ r. ⌜ ((u : ℕ) (ks : List ℕ) → all (λ k. ltb k 16777216) ks ≡ true → lookedUp u ks at r ≡ shown 0 ((value u ks) .read (now (s .entry)) at end)) ⌝ }
+{
+    if read_lengths::is_tag(s, at, end, 0x06) {
+        return read_elements::NumberRead {
+            fault: 0,
+            place: 0,
+            value: UNLISTED,
+            next: 0,
         };
+    }
+    let e = read_lengths::open_at(s, at, end, 0x02);
+    if e.fault != 0 {
+        return no_value(e.fault, e.place);
+    }
+    let start = e.value.start;
+    let stop = e.value.stop;
+    if !read_elements::is_shortest(s, start, stop) {
+        return no_value(refusal::NOT_SHORTEST, at);
     }
     if 4 < stop - start {
-        return read_elements::Verdict {
-            fault: refusal::BAD_CONTENTS,
-            value: 0,
-        };
+        return no_value(refusal::BAD_CONTENTS, at);
     }
-    if read_elements::is_negative(s, start, stop) {
-        let fault = unknown(frame);
-        return read_elements::Verdict { fault, value: 0 };
+    let mut value = UNLISTED;
+    if !read_elements::is_negative(s, start, stop) {
+        value = read_elements::magnitude(s, start, stop);
     }
-    let n = read_elements::magnitude(s, start, stop);
-    if is_known(frame, n) {
-        return read_elements::Verdict { fault: 0, value: n };
+    read_elements::NumberRead {
+        fault: 0,
+        place: 0,
+        value,
+        next: e.next,
     }
-    let fault = unknown(frame);
-    read_elements::Verdict { fault, value: 0 }
 }
 
 pub fn value_long(s: &[u8], at: usize, end: usize, frame: u8) -> read_elements::NumberRead
@@ -120,39 +119,14 @@ pub fn value_long(s: &[u8], at: usize, end: usize, frame: u8) -> read_elements::
     ensures { λ r. ⌜ (r .fault, r .place, r .value, r .next) ≡ shown 0 ((value (unknownIn frame) (knownIn frame)) .read (now (s .entry)) at end) ⌝ }
     ensures bounded { λ r. ⌜ r .value < 256 ⌝ }
 {
-    if read_lengths::is_tag(s, at, end, 0x06) {
-        let fault = unknown(frame);
-        return read_elements::NumberRead {
-            fault,
-            place: at,
-            value: 0,
-            next: 0,
-        };
+    let n = number_at(s, at, end);
+    if n.fault != 0 {
+        return no_value(n.fault, n.place);
     }
-    let e = read_lengths::open_at(s, at, end, 0x02);
-    if e.fault != 0 {
-        return read_elements::NumberRead {
-            fault: e.fault,
-            place: e.place,
-            value: 0,
-            next: 0,
-        };
+    if is_known(frame, n.value) {
+        return n;
     }
-    let v = value_in(s, e.value.start, e.value.stop, frame);
-    if v.fault != 0 {
-        return read_elements::NumberRead {
-            fault: v.fault,
-            place: at,
-            value: 0,
-            next: 0,
-        };
-    }
-    read_elements::NumberRead {
-        fault: 0,
-        place: 0,
-        value: v.value,
-        next: e.next,
-    }
+    no_value(unknown(frame), at)
 }
 
 // The same, where the value is a known one of one octet at once.

@@ -44,25 +44,28 @@ fn halted(fault: u8, place: usize) -> Opened
     }
 }
 
+// Contents from start to stop, and the place after their element.
+pub fn found(start: usize, stop: usize, next: usize) -> Opened
+    ensures { λ r. ⌜ r ≡ record { fault = 0; place = 0; value = record { start = start; stop = stop }; next = next } ⌝ }
+{
+    Opened {
+        fault: 0,
+        place: 0,
+        value: Extent { start, stop },
+        next,
+    }
+}
+
 // Contents of n octets, inside the enclosing element.
 fn within(tag: usize, start: usize, n: usize, end: usize) -> Opened
     requires { ⌜ start ≤ end ⌝ }
     ensures { λ r. ⌜ (r .fault, r .place, r .value, r .next) ≡ shown (record { start = 0; stop = 0 }) (extent tag start n end) ⌝ }
     ensures inside { λ r. ⌜ (r .value .start ≤ r .value .stop) × (r .value .stop ≤ end) ⌝ }
 {
-    if n <= end - start {
-        Opened {
-            fault: 0,
-            place: 0,
-            value: Extent {
-                start,
-                stop: start + n,
-            },
-            next: start + n,
-        }
-    } else {
-        halted(refusal::LACKING, tag)
+    if end - start < n {
+        return halted(refusal::LACKING, tag);
     }
+    found(start, start + n, start + n)
 }
 
 // The number in the one octet after 81.
@@ -104,13 +107,11 @@ pub fn numbered_at(s: &[u8], tag: usize, at: usize, end: usize) -> Opened
     if first < 0x80 {
         return within(tag, at + 1, first, end);
     }
-    if first == 0x81 {
-        return one_more(s, tag, at, end);
+    match first {
+        0x81 => one_more(s, tag, at, end),
+        0x82 => two_more(s, tag, at, end),
+        _ => halted(refusal::LENGTH_FORM, tag),
     }
-    if first == 0x82 {
-        return two_more(s, tag, at, end);
-    }
-    halted(refusal::LENGTH_FORM, tag)
 }
 
 // Whether the length octet at a place is 80, of the constructed element whose tag is at tag.
@@ -178,12 +179,7 @@ fn span_at(s: &[u8], tag: usize, start: usize, end: usize) -> Opened
     if NO_END <= stop {
         return halted((stop - NO_END) as u8, tag);
     }
-    Opened {
-        fault: 0,
-        place: 0,
-        value: Extent { start, stop },
-        next: stop + 2,
-    }
+    found(start, stop, stop + 2)
 }
 
 // The length octets at a place, of the element whose tag is at tag.
@@ -244,12 +240,7 @@ pub fn open_at(s: &[u8], at: usize, end: usize, tag: u8) -> Opened
     if n < 128 {
         let start = at + 2;
         let stop = start + n;
-        return Opened {
-            fault: 0,
-            place: 0,
-            value: Extent { start, stop },
-            next: stop,
-        };
+        return found(start, stop, stop);
     }
     open_long(&s[0..], at, end, tag)
 }

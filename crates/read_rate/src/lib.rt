@@ -28,10 +28,7 @@ struct StepRead {
 
 const NO_STEP: Step = Step {
     given: 0,
-    time: types::Scaled {
-        number: 0,
-        scale: 0,
-    },
+    time: types::NO_SCALED,
 };
 
 // Optional A5 time.
@@ -138,27 +135,10 @@ fn rate_read(
 fn no_rate(fault: u8, place: usize) -> RateRead
     ensures { λ r. ⌜ (r .fault, r .place, r .value, r .next) ≡ refusal noRate fault place ⌝ }
 {
-    RateRead {
-        fault,
-        place,
-        value: types::Rate {
-            item: 0,
-            kind: 0,
-            detail: 0,
-            stepped: 0,
-            scale: 0,
-            stepscale: 0,
-            multiplier: 0,
-            currency: types::Currency {
-                count: 0,
-                octets: [0; 10],
-            },
-            number: 0,
-            time: 0,
-            step: 0,
-        },
-        next: 0,
-    }
+    let mut r = rate_read(0, types::NO_MONEY, 0, types::NO_SCALED, NO_STEP, 0);
+    r.fault = fault;
+    r.place = place;
+    r
 }
 
 // A1: currency, amount, 83 type, A4 time, optional A5 time.

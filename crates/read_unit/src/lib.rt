@@ -169,15 +169,7 @@ pub fn frame_at(s: &[u8], at: usize, end: usize, operation: u8) -> read_lengths:
     if !is_subtotal(operation) {
         return read_lengths::open_at(s, at, end, 0x30);
     }
-    read_lengths::Opened {
-        fault: 0,
-        place: 0,
-        value: coding::Extent {
-            start: at,
-            stop: end,
-        },
-        next: end,
-    }
+    read_lengths::found(at, end, end)
 }
 
 // The type of 33 and 34; 35 and 36 have none.
@@ -189,12 +181,7 @@ pub fn type_at(s: &[u8], at: usize, end: usize, operation: u8) -> read_elements:
     if is_subtotal(operation) {
         return read_elements::natural_at(s, at, end, 0x82, 0, 1);
     }
-    read_elements::NumberRead {
-        fault: 0,
-        place: 0,
-        value: 0,
-        next: at,
-    }
+    read_elements::number(0, at)
 }
 
 // Optional billing: 83 to 2 in 33 and 34, 82 to 7 in 35 and 36.

@@ -2,8 +2,7 @@
 use coding::refusal;
 use types::frame;
 ghost use mathlib.Core.Path.{_≡_};
-ghost use mathlib.Core.Logic.{inl, inr};
-ghost use Rattle.types.specs.Frames.{rejects};
+ghost use Rattle.types.specs.Frames.{frontBy, uncharged};
 ghost use Rattle.reply_rules.specs.Rejects.{firstOf, identifierOf, replyBy};
 
 // As wide as a refusal is handed over; the refusals of an argument or result begin with MISSING.
@@ -89,30 +88,14 @@ pub fn identifier_of(octets: &[u8]) -> u16
     i.value as u16
 }
 
-fn unnamed(problem: u8, detail: u8) -> types::Record
-    ensures { λ r. ⌜ r ≡ rejects (inl tt) problem detail ⌝ }
+// With NULL where unnamed is 1.
+fn reject(unnamed: u8, id: u16, problem: u8, detail: u8) -> types::Record
+    ensures { λ r. ⌜ r ≡ uncharged (frontBy 4 unnamed id 0 0 problem detail) ⌝ }
 {
     types::Record {
         front: types::Front {
             frame: frame::REJECT,
-            unnamed: 1,
-            id: 0,
-            operation: 0,
-            error: 0,
-            problem,
-            detail,
-        },
-        charge: types::NO_CHARGE,
-    }
-}
-
-fn named(id: u16, problem: u8, detail: u8) -> types::Record
-    ensures { λ r. ⌜ r ≡ rejects (inr id) problem detail ⌝ }
-{
-    types::Record {
-        front: types::Front {
-            frame: frame::REJECT,
-            unnamed: 0,
+            unnamed,
             id,
             operation: 0,
             error: 0,
@@ -128,25 +111,35 @@ pub fn reject_for(number: u32, first: u8, id: u16) -> types::Record
     ensures { λ r. ⌜ r ≡ replyBy number first id ⌝ }
 {
     if number == UNKNOWN_COMPONENT {
-        return unnamed(problem::GENERAL, general_problem::UNRECOGNIZED_COMPONENT);
+        return reject(
+            1,
+            0,
+            problem::GENERAL,
+            general_problem::UNRECOGNIZED_COMPONENT,
+        );
     }
     if number == BAD_FRAME {
-        return unnamed(problem::GENERAL, general_problem::MISTYPED_COMPONENT);
+        return reject(1, 0, problem::GENERAL, general_problem::MISTYPED_COMPONENT);
     }
     if number == UNKNOWN_ERROR {
-        return named(id, problem::ERROR, error_problem::UNRECOGNIZED_ERROR);
+        return reject(0, id, problem::ERROR, error_problem::UNRECOGNIZED_ERROR);
     }
     if number == UNKNOWN_OPERATION {
         if first == 0xa2 {
-            return named(id, problem::RESULT, result_problem::MISTYPED);
+            return reject(0, id, problem::RESULT, result_problem::MISTYPED);
         }
-        return named(id, problem::INVOKE, invoke_problem::UNRECOGNIZED_OPERATION);
+        return reject(
+            0,
+            id,
+            problem::INVOKE,
+            invoke_problem::UNRECOGNIZED_OPERATION,
+        );
     }
     if MISSING <= number {
         if first == 0xa2 {
-            return named(id, problem::RESULT, result_problem::MISTYPED);
+            return reject(0, id, problem::RESULT, result_problem::MISTYPED);
         }
-        return named(id, problem::INVOKE, invoke_problem::MISTYPED_ARGUMENT);
+        return reject(0, id, problem::INVOKE, invoke_problem::MISTYPED_ARGUMENT);
     }
-    unnamed(problem::GENERAL, general_problem::BADLY_STRUCTURED)
+    reject(1, 0, problem::GENERAL, general_problem::BADLY_STRUCTURED)
 }

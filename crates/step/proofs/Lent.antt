@@ -12,11 +12,12 @@ use ghost.Atoms.{Atoms, sem}
 use contract.Monad.{fact}
 use types.{Kit.Given, Kit.Item, Kit.‵, Kit.raw, Kit.runs, Kit.atRet, Kit.Post, Kit.post, Kit.Sq, Kit._⊛_, Kit.given, Kit.mean, Kit.⋆, Kit.some, Kit.later, Kit._$_, Kit._∵_, Kit.!, Kit.qed}
 use types.{Kit.by, Kit.move, Kit.keep, Kit.drop, Kit.use1, Kit.use2, Kit.split, Kit.learn, Kit.pick, Kit.fsplit, Kit.fsplit3, Kit.await, Kit.rewrite, Part.whole, Part.sub, Part.look-in}
-use types.{Part.store-in, Run.look, Run.init, Run.store, Run.forget, Run.stop, Run.hop, Run.fld, Run.from, Run.load, Run.lit, Run.of-opd, Run.bin, Run.and-then, Run.no-more, Run.assigns}
-use types.{Run.first, Run.skips, Run.branches, Run.returns-within, Run.land, Run.enter, Run.alloc1, Run.alloc0, Run.params1, Run.pass1, Run.pass0, Run.free1, Run.free0, Run.exec, SemTy.Body}
+use types.{Part.store-in, Run.look, Run.init, Run.store, Run.stop, Run.hop, Run.fld, Run.from, Run.load, Run.lit, Run.of-opd, Run.bin, Run.and-then, Run.no-more, Run.assigns}
+use types.{Run.first, Run.skips, Run.branches, Run.returns-within, Run.land, Run.enter, Run.alloc1, Run.alloc0, Run.params1, Run.pass1, Run.pass0, Run.exec, SemTy.Body}
 use sound.WpLaws.{FmC}
 use denote.{RattleType.RattleType, Laws.Is, Laws.Tells, Laws.Makes, Laws.shows, Memory.mem, Memory.cellAt, Slice.sliceTy, Steps.opens, Steps.closes, Steps.owned, Steps.peeks, Steps.heard}
 use denote.{Struct.Steps.spelt, Triple.Call.calls-from}
+use Rattle.step.proofs.Leave.{leaves, locals}
 
 -- an account: its status and four figures. A change: its outcome, place, status and figure
 abbrev pub accountTy : Ty → Ty → Sym → Ty
@@ -113,9 +114,7 @@ module _ {M : Type 1} (𝓤 : URA M) (H : Heap 𝓤) (A : Atoms 𝓤) (W : Given
         owned ! R (Is R) makes (last r k) (u ∷ []) is-last $ move ! (4 ∷ []) $ use1 W (‵ (cellAt fullShare (R .mir) (u ∷ []) b o)) (cell-in u) $ move !
         (0 ∷ 1 ∷ 5 ∷ 6 ∷ 7 ∷ []) $ closes ! tt R (last r k) (u ∷ []) b o $
         -- [obs; the borrow; the token; the outcome; the slice's token; the slice; _6; …]
-        returns-within ! End e (look ! 18 refl) $ forget ! 6 refl $ forget ! 8 refl $ forget ! 10 refl $ forget ! 12 refl $ forget ! 14 refl $ forget ! 16 refl $ forget ! 18 refl $
-        move ! (18 ∷ 19 ∷ []) $ free1 ! $ move ! (16 ∷ 17 ∷ []) $ free1 ! $ move ! (14 ∷ 15 ∷ []) $ free1 ! $ move ! (12 ∷ 13 ∷ []) $ free1 ! $ move !
-        (10 ∷ 11 ∷ []) $ free1 ! $ move ! (8 ∷ 9 ∷ []) $ free1 ! $ move ! (6 ∷ 7 ∷ []) $ free1 ! $ free0 ! $
+        returns-within ! End e (look ! 18 refl) $ leaves ! 6 (search locals depth 8) $
         move ! (4 ∷ []) $ split ! $ keep ! (2 ∷ 3 ∷ 4 ∷ 0 ∷ 6 ∷ 5 ∷ []) $ by ! (exits r k res)
 
     -- the figure is stored at the place that the change names

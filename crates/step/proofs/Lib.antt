@@ -1,3 +1,4 @@
 pub mod Steps
 pub mod Lent
 pub mod Machine
+pub mod Leave

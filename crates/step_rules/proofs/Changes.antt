@@ -1,7 +1,6 @@
 -- The step by value, by its parts.
-use Rattle.prelude.proofs.Prelude.{ℕ, _≡_, refl, sym, _∙_, ap, List, Bool, true, false, _&&_, cond, eqb, eq-eqb, ne-eqb}
+use Rattle.prelude.proofs.{Prelude.{ℕ, _≡_, refl, sym, _∙_, ap, List, Bool, true, false, _&&_, cond, eqb, eq-eqb, ne-eqb}, Ways.by-cases}
 use Rattle.phases.{proofs.Choice.if-same, specs.declared.Event.Event, specs.declared.Outcome.Outcome, specs.declared.Status.Status, specs.Phases.Idle}
-use Rattle.prelude.proofs.Ways.{by-cases}
 use Rattle.phases.{specs.Phases.Setup, specs.Phases.Component, specs.Phases.noService, specs.Phases.clashes, specs.Phases.allowed, specs.Phases.Given, specs.Phases.event}
 use Rattle.phases.{specs.inner.ByNumber.nextPhase, specs.inner.ByNumber.movingOf, proofs.Transitions.next-none, proofs.Transitions.next-some}
 use Rattle.types.specs.{declared.Record.Record, declared.Answer.Answer, Arguments.noCharge, Frames.readOf}

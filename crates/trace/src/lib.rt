@@ -11,12 +11,21 @@ ghost use lib.ListN.{length};
 ghost use Rattle.coding.specs.inner.Written.{Room};
 ghost use Rattle.phases.specs.Phases.{event};
 ghost use Rattle.trace_framing.specs.Framing.{message, elementEnd, Elements, framed, lengthsAddUp, messagesOf};
-ghost use Rattle.trace_messages.specs.Trace.{componentsIn, componentsAt, componentsAfter, componentEvent, componentEvents, phaseEvent, setupBy, when, laidOut, messageEvents, ofCall, allFramed, traceFrom};
+ghost use Rattle.trace_messages.specs.Trace.{componentsIn, componentsAt, componentsAfter, componentEvent, componentEvents, phaseEvent, setupBy, when, laidOut, ofCall, allFramed, traceFrom};
 ghost use Rattle.events.specs.Laid.{laidRow};
 ghost use Rattle.trace.specs.Into.{eventsIn, laidOf, rowsLeft, octetsLeft};
 ghost use Rattle.trace.specs.inner.Putting.{Puts, Rooms, RowsFor, Lays};
 
-const NO_ROOM: u64 = refusal::NO_ROOM as u64;
+const NO_SERVICES: Services = Services { s: 0, d: 0, e: 0 };
+
+// What a component becomes, but for its octets.
+const COMPONENT: Event = Event {
+    kind: phases::COMPONENT,
+    asked: NO_SERVICES,
+    s: 0,
+    d: 0,
+    e: 0,
+};
 
 // ---- an event stored in the caller's slices
 
@@ -26,14 +35,14 @@ struct Put {
     pub octets: usize,
 }
 
-fn put_event(rows: &mut [u16], out: &mut [u8], p: Put, e: Event, octets: &[u8]) -> Put
-    requires { ⌜ (length (now octets) ≤ 65535) × Rooms (now rows) (now out) p (event e (now octets) ∷ []) ⌝ }
-    ensures { λ r. ⌜ Puts (now (rows .entry)) (now (rows .exit)) (now (out .entry)) (now (out .exit)) p (event e (now (octets .entry)) ∷ []) r ⌝ }
+fn put_component(rows: &mut [u16], out: &mut [u8], p: Put, octets: &[u8]) -> Put
+    requires { ⌜ (length (now octets) ≤ 65535) × Rooms (now rows) (now out) p (componentEvent (now octets) ∷ []) ⌝ }
+    ensures { λ r. ⌜ Puts (now (rows .entry)) (now (rows .exit)) (now (out .entry)) (now (out .exit)) p (componentEvent (now (octets .entry)) ∷ []) r ⌝ }
 {
     let n = octets.len();
     let r = p.rows;
     let o = p.octets;
-    let row = events::put_row(rows, r, e, n as u16);
+    let row = events::put_row(rows, r, COMPONENT, n as u16);
     let end = octets::put_octets(out, o, octets, n);
     Put {
         rows: row,
@@ -52,21 +61,6 @@ fn put_bare(rows: &mut [u16], p: Put, e: Event) -> Put
         rows: row,
         octets: p.octets,
     }
-}
-
-fn put_component(rows: &mut [u16], out: &mut [u8], p: Put, octets: &[u8]) -> Put
-    requires { ⌜ (length (now octets) ≤ 65535) × Rooms (now rows) (now out) p (componentEvent (now octets) ∷ []) ⌝ }
-    ensures { λ r. ⌜ Puts (now (rows .entry)) (now (rows .exit)) (now (out .entry)) (now (out .exit)) p (componentEvent (now (octets .entry)) ∷ []) r ⌝ }
-{
-    let none = Services::empty();
-    let e = Event {
-        kind: phases::COMPONENT,
-        asked: none,
-        s: 0,
-        d: 0,
-        e: 0,
-    };
-    put_event(rows, out, p, e, octets)
 }
 
 // ---- the components of an element, of a message
@@ -114,11 +108,21 @@ fn put_at(
     put_tiles(rows, out, p, &s[at..next])
 }
 
-// The components of a message's elements, from a place to the end.
-fn put_elements(rows: &mut [u16], out: &mut [u8], p: Put, s: &[u8], start: usize) -> Put
-    requires { ⌜ Elements (now s) start × Rooms (now rows) (now out) p (componentEvents (componentsAfter (now s) start)) ⌝ }
-    ensures { λ r. ⌜ Puts (now (rows .entry)) (now (rows .exit)) (now (out .entry)) (now (out .exit)) p (componentEvents (componentsAfter (now (s .entry)) start)) r ⌝ }
+// The components of a message's elements, from a place to the end, where they are given.
+fn put_elements(
+    rows: &mut [u16],
+    out: &mut [u8],
+    p: Put,
+    s: &[u8],
+    start: usize,
+    given: bool,
+) -> Put
+    requires { ⌜ Elements (now s) start × Rooms (now rows) (now out) p (when given (componentEvents (componentsAfter (now s) start))) ⌝ }
+    ensures { λ r. ⌜ Puts (now (rows .entry)) (now (rows .exit)) (now (out .entry)) (now (out .exit)) p (when given (componentEvents (componentsAfter (now (s .entry)) start))) r ⌝ }
 {
+    if !given {
+        return p;
+    }
     let end = s.len();
     let mut q = p;
     let mut under: u8 = 0;
@@ -144,10 +148,9 @@ fn put_when(rows: &mut [u16], p: Put, given: bool, kind: u8) -> Put
     if !given {
         return p;
     }
-    let none = Services::empty();
     let e = Event {
         kind,
-        asked: none,
+        asked: NO_SERVICES,
         s: 0,
         d: 0,
         e: 0,
@@ -167,17 +170,6 @@ fn put_setup(rows: &mut [u16], p: Put, s: &[u8], start: usize, given: bool) -> P
     put_bare(rows, p, e)
 }
 
-// A message's components, where they are given.
-fn put_given(rows: &mut [u16], out: &mut [u8], p: Put, s: &[u8], start: usize, given: bool) -> Put
-    requires { ⌜ Elements (now s) start × Rooms (now rows) (now out) p (when given (componentEvents (componentsAfter (now s) start))) ⌝ }
-    ensures { λ r. ⌜ Puts (now (rows .entry)) (now (rows .exit)) (now (out .entry)) (now (out .exit)) p (when given (componentEvents (componentsAfter (now (s .entry)) start))) r ⌝ }
-{
-    if !given {
-        return p;
-    }
-    put_elements(rows, out, p, s, start)
-}
-
 // Setup; Clear; the components; Connect; Released: those that are given.
 fn put_all(rows: &mut [u16], out: &mut [u8], p: Put, s: &[u8], start: usize, g: Gives) -> Put
     requires { ⌜ Elements (now s) start × Rooms (now rows) (now out) p (laidOut g (componentsAfter (now s) start)) ⌝ }
@@ -185,26 +177,9 @@ fn put_all(rows: &mut [u16], out: &mut [u8], p: Put, s: &[u8], start: usize, g: 
 {
     let a = put_setup(rows, p, s, start, g.setup);
     let b = put_when(rows, a, g.clear, phases::CLEAR);
-    let d = put_given(rows, out, b, s, start, g.components);
+    let d = put_elements(rows, out, b, s, start, g.components);
     let e = put_when(rows, d, g.connect, phases::CONNECT);
     put_when(rows, e, g.released, phases::RELEASED)
-}
-
-// The events of a message.
-fn put_message(
-    rows: &mut [u16],
-    out: &mut [u8],
-    p: Put,
-    s: &[u8],
-    network: bool,
-    cleared: bool,
-) -> Put
-    requires { ⌜ (framed (now s) ≡ true) × Rooms (now rows) (now out) p (messageEvents cleared (message (now s) network)) ⌝ }
-    ensures { λ r. ⌜ Puts (now (rows .entry)) (now (rows .exit)) (now (out .entry)) (now (out .exit)) p (messageEvents cleared (message (now (s .entry)) network)) r ⌝ }
-{
-    let g = trace_messages::gives_of(trace_messages::type_of(s), network, cleared);
-    let start = 3 + octets::wide(s[1]);
-    put_all(rows, out, p, s, start, g)
 }
 
 // ---- the events of a trace
@@ -225,7 +200,9 @@ fn put_next(
     if trace_messages::reference_of(s) != call {
         return p;
     }
-    put_message(rows, out, p, s, network, cleared)
+    let g = trace_messages::gives_of(trace_messages::type_of(s), network, cleared);
+    let start = 3 + octets::wide(s[1]);
+    put_all(rows, out, p, s, start, g)
 }
 
 // The events of the messages of one call, stored in the caller's slices.
@@ -269,6 +246,13 @@ pub struct Laid {
     pub octets: u64,
 }
 
+const TOO_LITTLE: Laid = Laid {
+    number: refusal::NO_ROOM as u64,
+    message: 0,
+    events: 0,
+    octets: 0,
+};
+
 // The call's reference: that of the first message; 0 where there is none.
 fn call_of(pairs: &[u32], octets: &[u8]) -> usize
     requires { ⌜ (lengthsAddUp (now pairs) (length (now octets)) ≡ true) × (allFramed (messagesOf (now pairs) (now octets)) ≡ true) ⌝ }
@@ -289,20 +273,10 @@ fn lay(pairs: &[u32], octets: &[u8], rows: &mut [u16], out: &mut [u8]) -> Laid
     let call = call_of(pairs, octets);
     let n = octets.len();
     if rows.len() / 6 < n {
-        return Laid {
-            number: NO_ROOM,
-            message: 0,
-            events: 0,
-            octets: 0,
-        };
+        return TOO_LITTLE;
     }
     if out.len() < n {
-        return Laid {
-            number: NO_ROOM,
-            message: 0,
-            events: 0,
-            octets: 0,
-        };
+        return TOO_LITTLE;
     }
     let start = Put { rows: 0, octets: 0 };
     let end = put_trace(rows, out, start, pairs, octets, call);

@@ -1,9 +1,8 @@
 -- One element more, one message more.
 use Rattle.prelude.proofs.Prelude.{_≡_, refl, sym, ap, _∙_, ℕ, zero, suc, _+_, _-_, _/_, _%_, _≤_, _<_, sub-zero, arith, true, false, _&&_, List, [], _∷_, length}
 use Rattle.prelude.proofs.Prelude.{take, drop, getD, leb, eqb}
-use Rattle.prelude.proofs.Prelude.{le-leb, lt-leb, leb-true, eq-eqb, ne-eqb, List·getD-eq-default}
+use Rattle.prelude.proofs.{Prelude.{le-leb, lt-leb, leb-true, eq-eqb, ne-eqb, List·getD-eq-default}, Ways.by-cases}
 use Rattle.coding.proofs.Basic.{and-left, and-right}
-use Rattle.prelude.proofs.Ways.{by-cases}
 use Rattle.trace_framing.specs.Framing.{elementEnd, elementsFit, fitFrom, Elements, headed, framed, message, messageLength, byNetwork, lengthsFit, lengthsAddUp, messagesFrom, messagesOf, messagesLeft, firstUnframed, Passing}
 
 -- ---- elements

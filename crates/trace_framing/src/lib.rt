@@ -57,26 +57,13 @@ fn elements_fit(s: &[u8], start: usize) -> bool
 fn is_headed(s: &[u8]) -> bool
     ensures { λ r. ⌜ r ≡ headed (now (s .entry)) ⌝ }
 {
-    if s.len() < 3 {
-        return false;
-    }
-    if s[0] != 0x08 {
-        return false;
-    }
-    if s[1] > 2 {
-        return false;
-    }
-    3 + octets::wide(s[1]) <= s.len()
+    s.len() >= 3 && (s[0] == 0x08 && (s[1] <= 2 && 3 + octets::wide(s[1]) <= s.len()))
 }
 
 fn is_framed(s: &[u8]) -> bool
     ensures { λ r. ⌜ r ≡ framed (now (s .entry)) ⌝ }
 {
-    if !is_headed(s) {
-        return false;
-    }
-    let start = 3 + octets::wide(s[1]);
-    elements_fit(s, start)
+    is_headed(s) && elements_fit(s, 3 + octets::wide(s[1]))
 }
 
 // ---- a trace
@@ -107,10 +94,7 @@ fn lengths_fit(pairs: &[u32], total: usize) -> bool
 fn adds_up(pairs: &[u32], total: usize) -> bool
     ensures { λ r. ⌜ r ≡ lengthsAddUp (now (pairs .entry)) total ⌝ }
 {
-    if pairs.len() % 2 != 0 {
-        return false;
-    }
-    lengths_fit(pairs, total)
+    pairs.len() % 2 == 0 && lengths_fit(pairs, total)
 }
 
 // The number of the first message that is not framed, from 1; 0 if all are.

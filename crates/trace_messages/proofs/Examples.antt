@@ -1,7 +1,6 @@
 -- Cases of traces, one statement over one table.
 use Rattle.prelude.proofs.Prelude.{ℕ, _≡_, refl, List, [], _∷_, map, Bool, true, false}
-use Rattle.coding.specs.Reader.{after, numberedAt, endless, marker, turn, searched, findEnd, spanned, lengthAt, extent, part}
-use Rattle.coding.specs.Codec.{pad}
+use Rattle.coding.specs.{Reader.{after, numberedAt, endless, marker, turn, searched, findEnd, spanned, lengthAt, extent, part}, Codec.pad}
 use Rattle.element.specs.Element.{tiled, isProfile, led, startsFound, elementOf}
 use Rattle.phases.specs.Phases.{Given, Connect, Clear, Released}
 use Rattle.trace_framing.specs.Framing.{Message, message, elementsFit, framed}

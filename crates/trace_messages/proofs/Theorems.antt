@@ -1,10 +1,9 @@
 -- What holds of the events of every trace.
 use Rattle.prelude.proofs.Prelude.{_≡_, refl, sym, ap, _∙_, ℕ, zero, suc, _+_, _-_, _≤_, _<_, arith, Bool, true, false, not, _&&_, and-false, cond, List, [], _∷_, _++_, append-assoc}
 use Rattle.prelude.proofs.Prelude.{length, length-append, take, drop, getD, leb, eqb}
-use Rattle.prelude.proofs.Prelude.{leb-true, eqb-true, length-drop, length-take-le, _/_, _%_}
+use Rattle.prelude.proofs.{Prelude.{leb-true, eqb-true, length-drop, length-take-le, _/_, _%_}, Ways.by-cases}
 use Rattle.coding.{specs.Reader.part, proofs.Basic.and-left, proofs.Basic.and-right, proofs.Parts.part-length}
 use Rattle.phases.{specs.Phases.Given, specs.Phases.Connect, specs.Phases.Clear, specs.Phases.Released, proofs.Choice.by-number, proofs.Choice.never}
-use Rattle.prelude.proofs.Ways.{by-cases}
 use Rattle.types.{specs.Frames.readOf, proofs.Faults.Whole, proofs.Tiles.tile-whole}
 use Rattle.element.{specs.declared.Starts.Starts, specs.Element.elementOf, specs.Cut.startsOf, specs.Cut.firstOr, specs.Cut.partsOf, specs.Cut.joined, specs.Cut.Tiles, proofs.Tiles.tiles}
 use Rattle.element_pass.proofs.Order.{Rises, starts-rise}

@@ -7,8 +7,7 @@ use Rattle.element.specs.{Element.elementOf, Cut.startsOf, Cut.partsOf}
 use Rattle.element_pass.proofs.Going.{startless}
 use Rattle.trace_framing.specs.Framing.{Message, message, elementEnd, elementsFit, Elements, typePlace, typeOf, headed, framed}
 use Rattle.trace_messages.specs.Trace.{underAfter, tilesOf, componentsIn, componentsAt, componentsFrom, componentsLeft, componentsAfter, componentsOf, componentEvent, componentEvents, givesBy, laidOut, messageEvents, ofCall}
-use Rattle.trace_messages.specs.Trace.{clearedBy, traceFrom, allFramed}
-use Rattle.trace_messages.specs.declared.Gives.{Gives}
+use Rattle.trace_messages.specs.{Trace.{clearedBy, traceFrom, allFramed}, declared.Gives.Gives}
 use Rattle.trace_framing.proofs.Laws.{end-past, elements-on, headed-long}
 
 pub events-append : (l m : List (List ℕ)) → componentEvents (l ++ m) ≡ componentEvents l ++ componentEvents m

@@ -12,13 +12,7 @@ ghost use Rattle.trace_messages.specs.Trace.{underAfter, isClearing, ref
 pub fn is_clearing(t: u8) -> bool
     ensures { λ r. ⌜ r ≡ isClearing t ⌝ }
 {
-    if t == 0x45 {
-        return true;
-    }
-    if t == 0x4d {
-        return true;
-    }
-    t == 0x5a
+    t == 0x45 || (t == 0x4d || t == 0x5a)
 }
 
 // The type of a framed message.
@@ -51,16 +45,11 @@ pub fn under_after(under: u8, x: u8) -> u8
     if under == 2 {
         return 2;
     }
-    if x < 0x90 {
-        return 0;
+    match x {
+        0x90..=0x97 => 2,
+        0x98..=0x9f => 1,
+        _ => 0,
     }
-    if x > 0x9f {
-        return 0;
-    }
-    if x <= 0x97 {
-        return 2;
-    }
-    1
 }
 
 // ---- which events a message gives
@@ -106,10 +95,7 @@ pub fn cleared_by(s: &[u8], call: usize, cleared: bool) -> bool
     if reference_of(s) != call {
         return cleared;
     }
-    if cleared {
-        return true;
-    }
-    is_clearing(type_of(s))
+    cleared || is_clearing(type_of(s))
 }
 
 // ---- an element's components
@@ -118,8 +104,5 @@ pub fn cleared_by(s: &[u8], call: usize, cleared: bool) -> bool
 pub fn is_profiled(s: &[u8]) -> bool
     ensures { λ r. ⌜ r ≡ eqb (getD (now (s .entry)) 2 0) 0x91 ⌝ }
 {
-    if s.len() < 3 {
-        return false;
-    }
-    s[2] == 0x91
+    s.len() >= 3 && s[2] == 0x91
 }

@@ -1,7 +1,6 @@
 -- The first request for a case.
-use Rattle.prelude.proofs.Prelude.{_≡_, refl, sym, ap, _∙_, ℕ, arith, eq-eqb, ne-eqb, List, _∷_, _++_}
+use Rattle.prelude.proofs.{Prelude.{_≡_, refl, sym, ap, _∙_, ℕ, arith, eq-eqb, ne-eqb, List, _∷_, _++_}, Ways.by-cases}
 use Rattle.types.specs.{declared.Answer.Answer, Frames.readOf}
-use Rattle.prelude.proofs.Ways.{by-cases}
 use Rattle.trace_messages.{specs.Trace.isRequest, specs.Trace.firstRequest, proofs.Theorems.first-append}
 use Rattle.trace_setups.specs.{declared.Asked.Asked, inner.Asked.askedOf, inner.Asked.askedBy}
 

@@ -1,14 +1,12 @@
 -- A component's answer from how it is shown.
-use Rattle.prelude.proofs.Prelude.{ℕ, _%_, _≤_, _<_, arith, leb, _≡_, ap, _∙_, List, length, lt-ltb, le-ltb}
-use Rattle.prelude.proofs.Ways.{by-cases}
+use Rattle.prelude.proofs.{Prelude.{ℕ, _%_, _≤_, _<_, arith, leb, _≡_, ap, _∙_, List, length, lt-ltb, le-ltb}, Ways.by-cases}
 use Rattle.coding.{specs.inner.Shown.shown, proofs.Reading.got-of, proofs.Reading.halt-of}
 use Rattle.types.specs.Frames.{numberOf, offsetOf}
-use Rattle.types.proofs.Faults.{Told}
+use Rattle.types.proofs.{Faults.Told, Places.Ends}
 use Rattle.read_heads.{specs.inner.Heads.faultBy, proofs.Codes.told}
 use Rattle.trunk_types.specs.{declared.Trunk.Trunk, Components.noTrunk, Components.trunkAccepted, Components.trunkRefused, Components.trunkComponent, Components.readWholeTrunk, Components.readTrunk}
 use Rattle.trunk_types.proofs.Faults.{whole-told}
 use Rattle.coding.{specs.Reader.Ans, specs.Reader.Fault, specs.Reader.Ans.got, specs.Reader.Ans.halt}
-use Rattle.types.proofs.Places.{Ends}
 
 -- where an answer lies
 placed-in : {A : Type 0} (P : Fault → ℕ → Type 0) (a e : ℕ) (x : Ans A) (z : A) {k p n : ℕ} {v : A} → Ends P a e x → (k, p, v, n) ≡ shown z x → p ≤ e

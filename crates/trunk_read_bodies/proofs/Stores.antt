@@ -1,14 +1,12 @@
 -- A body with its extension, read in the code's steps.
-use Rattle.prelude.proofs.Prelude.{ℕ, _≡_, refl, ap, sym, _∙_, true, true≢false, List, replicate, cond, eqb, eqb-true, ne-eqb}
+use Rattle.prelude.proofs.{Prelude.{ℕ, _≡_, refl, ap, sym, _∙_, true, true≢false, List, replicate, cond, eqb, eqb-true, ne-eqb}, Ways.by-cases}
 use Rattle.coding.{specs.Reader.Ans, specs.Reader.part, specs.Reader.after, specs.Reader.code, specs.Reader.opened, specs.Reader.closed, specs.Reader.constructed, specs.Reader.Ans.got}
 use Rattle.coding.{specs.Reader.Ans.halt, specs.Codec.Run, specs.Codec.oneOf, specs.Codec.cons, specs.Codec.pair, specs.Codec.canonical, specs.Codec.over, specs.inner.Shown.shown}
-use Rattle.prelude.proofs.Ways.{by-cases}
 use Rattle.coding.proofs.Reading.{flat, some-code}
 use Rattle.types.specs.{declared.Charge.Charge, Arguments.noCharge, Stored.figureIn, Stored.storedCharge, Stored.Blank, Stored.stored}
 use Rattle.read_elements.specs.declared.Empty.{Empty}
 use Rattle.trunk_types.specs.{declared.Body.Body, Extensions.anyExtension, Components.trunkOperations, Bodies.noBody, Bodies.charging, Bodies.charged, Bodies.extended, Bodies.extending, Bodies.withExtension}
-use Rattle.trunk_types.specs.Bodies.{dummy, argumentOf, resultOf, finalCharge, interim, tariff, complete, diverted}
-use Rattle.trunk_types.specs.Stored.{extensionIn, bodyIn}
+use Rattle.trunk_types.specs.{Bodies.{dummy, argumentOf, resultOf, finalCharge, interim, tariff, complete, diverted}, Stored.{extensionIn, bodyIn}}
 use Rattle.read_lists.specs.inner.Answers.{whole}
 use Rattle.trunk_read_fields.specs.inner.Fields.{innerIn, inner, users, diverting}
 use Rattle.trunk_read_bodies.specs.inner.Bodied.{innerOf, chargeFor}

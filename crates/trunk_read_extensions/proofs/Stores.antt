@@ -4,9 +4,7 @@ use Rattle.coding.{specs.Reader.Ans, specs.Reader.got, specs.Reader.after, spec
 use Rattle.coding.{specs.Codec.canonical, specs.Codec.over, specs.Codec.pad, specs.inner.Shown.shown, specs.Normal.limited, specs.Normal.normalForm, specs.Normal.severalAt, specs.inner.Written.Wrote, specs.inner.Written.Room, proofs.Laws.Octets}
 use Rattle.coding.{specs.declared.Extent.Extent, proofs.Reading.after-assoc, proofs.Reading.step}
 use Rattle.any_elements.specs.inner.Forms.{sized, isRead, formsOf, told}
-use Rattle.trunk_types.specs.declared.Extension.{Extension}
-use Rattle.trunk_types.specs.Stored.{extensionIn}
-use Rattle.trunk_types.specs.Extensions.{noExtension, extensionBy, extensionAt}
+use Rattle.trunk_types.specs.{declared.Extension.Extension, Stored.extensionIn, Extensions.{noExtension, extensionBy, extensionAt}}
 use Rattle.trunk_read_extensions.specs.inner.Judges.{judgeOf, insideOf}
 use Rattle.trunk_read_extensions.proofs.{Bridge.counted, Bridge.put, Forms.told-got, Forms.told-halt, Forms.held}
 

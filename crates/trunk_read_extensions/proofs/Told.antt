@@ -1,6 +1,5 @@
 -- What is in an extension, read in the code's steps.
-use Rattle.prelude.proofs.Prelude.{ℕ, zero, suc, _≤_, _<_, _≡_, refl, sym, ap, _∙_, List, [], _∷_, Bool, cond, leb, eqb}
-use Rattle.prelude.proofs.Ways.{by-cases}
+use Rattle.prelude.proofs.{Prelude.{ℕ, zero, suc, _≤_, _<_, _≡_, refl, sym, ap, _∙_, List, [], _∷_, Bool, cond, leb, eqb}, Ways.by-cases}
 use Rattle.coding.{specs.Reader.Ans, specs.Reader.Reader, specs.Reader.Ruling, specs.Reader.got, specs.Reader.halt, specs.Reader.after, specs.Reader.opened, specs.Reader.closed, specs.Reader.constructed}
 use Rattle.coding.{specs.Reader.primitive, specs.Reader.ruled, specs.Reader.mapped, specs.Reader.part, specs.Reader.tagged, specs.Reader.entries, specs.Codec.prim, specs.Codec.cons, specs.Codec.pair}
 use Rattle.coding.{specs.Codec.any·more, specs.Normal.asJudged, specs.Normal.Any, specs.Normal.anyElement, proofs.Basic.after-same, proofs.Reading.after-assoc, proofs.Reading.some-code, specs.inner.Shown.shown}

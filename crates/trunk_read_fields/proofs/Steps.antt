@@ -65,9 +65,8 @@ pub priced-read : (most : ℕ) (s : List ℕ) (at end : ℕ) →
     (ending (billings most) (inMoney true)) .read s at end ≡
     after (opened 0x30 s at end) (λ e next.
     after (opened 0xa1 s (e .start) (e .stop)) (λ a m.
-    after ((money true) .read s (a .start) (a .stop)) (λ v last.
-    after (closed (plain (moneyFigure v)) last (a .stop) m) (λ c k.
-    billed most c s k (e .stop) next))))
+    after (after ((money true) .read s (a .start) (a .stop)) (λ v last. closed (plain (moneyFigure v)) last (a .stop) m)) (λ c k.
+    billed most c s k (e .stop) next)))
 unfolding ending inMoney cons constructed canonical over pair
 priced-read most s at end = simp flat
 

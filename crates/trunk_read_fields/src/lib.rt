@@ -74,14 +74,12 @@ fn priced_at(
     if a.fault != 0 {
         return read_elements::halted(a.fault, a.place);
     }
-    let m = read_figures::money_at(s, a.value.start, a.value.stop, true, figure);
+    let contents = read_figures::money_at(s, a.value.start, a.value.stop, true, figure);
+    let m = read_elements::closed(contents, a.value.stop, a.next);
     if m.fault != 0 {
         return read_elements::halted(m.fault, m.place);
     }
-    if m.next != a.value.stop {
-        return read_elements::halted(refusal::UNEXPECTED, m.next);
-    }
-    let b = billing_at(s, a.next, e.value.stop, most);
+    let b = billing_at(s, m.next, e.value.stop, most);
     if b.fault != 0 {
         return read_elements::halted(b.fault, b.place);
     }
@@ -135,11 +133,7 @@ pub fn final_at(s: &[u8], at: usize, end: usize, figure: &mut [u8; 48]) -> read_
     if u.fault != 0 {
         return read_elements::halted(u.fault, u.place);
     }
-    let a = read_figures::association_at(s, u.next, end, true, figure);
-    if a.fault != 0 {
-        return read_elements::halted(a.fault, a.place);
-    }
-    read_elements::reached(a.next)
+    read_figures::association_at(s, u.next, end, true, figure)
 }
 
 // ---- what comes before the extension. After each of these the last four octets of the front are zero still.
@@ -261,13 +255,7 @@ pub fn modes_at(s: &[u8], at: usize, end: usize, front: &mut [u8; 48]) -> read_e
         return read_elements::halted(e.fault, e.place);
     }
     let m = modes_in(s, e.value.start, e.value.stop, front);
-    if m.fault != 0 {
-        return read_elements::halted(m.fault, m.place);
-    }
-    if m.next != e.value.stop {
-        return read_elements::halted(refusal::UNEXPECTED, m.next);
-    }
-    read_elements::reached(e.next)
+    read_elements::closed(m, e.value.stop, e.next)
 }
 
 // ---- the network facility extension

@@ -3,9 +3,7 @@ use Rattle.prelude.proofs.Prelude.{ℕ, _+_, _*_, _/_, _%_, arith, _≡_, refl,
 use Rattle.coding.specs.Reader.{part}
 use Rattle.types.specs.{declared.Charge.Charge, Arguments.noCharge}
 use Rattle.types.proofs.Stored.{halves, by-octets}
-use Rattle.trunk_types.specs.Components.{leadBy, trunkBy}
-use Rattle.trunk_types.specs.Bodies.{detailed}
-use Rattle.trunk_types.specs.Stored.{Spare, bodyIn, trunkIn}
+use Rattle.trunk_types.specs.{Components.{leadBy, trunkBy}, Bodies.detailed, Stored.{Spare, bodyIn, trunkIn}}
 use Rattle.trunk_read_fields.specs.inner.Fields.{innerIn}
 use Rattle.trunk_read_fields.proofs.Stores.{detail-stored}
 

@@ -1,7 +1,6 @@
 -- What is read under a mark: its faults are told anew.
-use Rattle.prelude.proofs.Prelude.{ℕ, _≡_, arith, ap, sym, _∙_, ltb}
+use Rattle.prelude.proofs.{Prelude.{ℕ, _≡_, arith, ap, sym, _∙_, ltb}, Ways.by-cases}
 use Rattle.coding.{specs.Reader.Ans, specs.Reader.Fault, specs.Reader.after, specs.Reader.blamed, specs.inner.Shown.shown, proofs.Reading.got-of, proofs.Reading.halt-of}
-use Rattle.prelude.proofs.Ways.{by-cases}
 use Rattle.types.specs.{Frames.inArgument, Stored.stored}
 use Rattle.read_elements.specs.declared.Empty.{Empty}
 use Rattle.read_figures.proofs.Answers.{is-stored, refused}

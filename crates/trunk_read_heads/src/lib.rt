@@ -1,21 +1,21 @@
 // What is at the head of a trunk's component: the component's own element, and its operation or error value.
 use coding::named;
-use coding::refusal;
+use read_heads::values;
 use types::error;
 use types::frame;
 use types::operation;
 ghost use mathlib.Core.Path.{_≡_};
 ghost use mathlib.Core.Bool.{true};
-ghost use Prim.Native.Nat.{_+_, _≤_, _<_};
+ghost use Prim.Native.Nat.{_≤_, _<_};
 ghost use lib.ListN.{length};
-ghost use Rattle.coding.specs.Reader.{part, enteredAny};
+ghost use Rattle.coding.specs.Reader.{enteredAny};
 ghost use Rattle.coding.specs.Reader.Fault.{named};
 ghost use Rattle.coding.specs.Codec.{oneOf};
-ghost use Rattle.coding.specs.Leaves.{listing};
-ghost use Rattle.coding.specs.inner.Shown.{shown, verdict};
+ghost use Rattle.coding.specs.inner.Shown.{shown};
 ghost use Rattle.types.specs.Frames.{outside, value};
 ghost use Rattle.trunk_types.specs.Components.{trunkOperations, answerable, trunkErrors, tags};
-ghost use Rattle.trunk_read_heads.specs.inner.Known.{knownIn, unknownIn};
+ghost use Rattle.trunk_read_heads.specs.inner.Known.{knownIn};
+ghost use Rattle.read_heads.specs.inner.Heads.{unknownIn};
 ghost use Rattle.read_lengths.specs.inner.Bounds.{Bounded};
 
 // As wide as a value that is read.
@@ -30,96 +30,42 @@ const DIVERSION: u32 = operation::DIVERSION as u32;
 pub fn known_operation(n: u32) -> bool
     ensures { λ r. ⌜ r ≡ oneOf trunkOperations n ⌝ }
 {
-    if n < CHARGE_REQUEST {
-        return false;
+    match n {
+        CHARGE_REQUEST..=DIVERSION => true,
+        _ => false,
     }
-    if DIVERSION < n {
-        return false;
-    }
-    true
 }
 
 pub fn is_answerable(n: u32) -> bool
     ensures { λ r. ⌜ r ≡ oneOf answerable n ⌝ }
 {
-    if n == CHARGE_REQUEST {
-        return true;
+    match n {
+        CHARGE_REQUEST => true,
+        COMPLETE => true,
+        _ => false,
     }
-    if n == COMPLETE {
-        return true;
-    }
-    false
 }
 
 pub fn known_error(n: u32) -> bool
     ensures { λ r. ⌜ r ≡ oneOf trunkErrors n ⌝ }
 {
-    if n == error::NOT_AVAILABLE {
-        return true;
+    match n {
+        error::NOT_AVAILABLE => true,
+        error::INTERACTION => true,
+        error::UNSPECIFIED => true,
+        error::FREE => true,
+        _ => false,
     }
-    if n == error::INTERACTION {
-        return true;
-    }
-    if n == error::UNSPECIFIED {
-        return true;
-    }
-    if n == error::FREE {
-        return true;
-    }
-    false
 }
 
 fn is_known(frame: u8, n: u32) -> bool
     ensures { λ r. ⌜ r ≡ oneOf (knownIn frame) n ⌝ }
 {
-    if frame == frame::INVOKE {
-        return known_operation(n);
+    match frame {
+        frame::INVOKE => known_operation(n),
+        frame::RESULT => is_answerable(n),
+        _ => known_error(n),
     }
-    if frame == frame::RESULT {
-        return is_answerable(n);
-    }
-    known_error(n)
-}
-
-// The fault of a value that is not known.
-fn unknown(frame: u8) -> u8
-    ensures { λ r. ⌜ r ≡ 100 + unknownIn frame ⌝ }
-{
-    if frame == frame::ERROR {
-        return named::UNKNOWN_ERROR;
-    }
-    named::UNKNOWN_OPERATION
-}
-
-// The contents of an operation or error value.
-fn value_in(s: &[u8], start: usize, stop: usize, frame: u8) -> read_elements::Verdict
-    requires { ⌜ (start ≤ stop) × (stop ≤ length (now s)) ⌝ }
-    ensures { λ r. ⌜ (r .fault, r .value) ≡ verdict 0 (listing (unknownIn frame) (knownIn frame) (part (now (s .entry)) start stop)) ⌝ }
-    ensures bounded { λ r. ⌜ r .value < 1017 ⌝ }
-    ensures known { λ r. ⌜ (r .fault ≡ 0 → oneOf (knownIn frame) (r .value) ≡ true) ⌝ }
-{
-    if !read_elements::is_shortest(s, start, stop) {
-        return read_elements::Verdict {
-            fault: refusal::NOT_SHORTEST,
-            value: 0,
-        };
-    }
-    if 4 < stop - start {
-        return read_elements::Verdict {
-            fault: refusal::BAD_CONTENTS,
-            value: 0,
-        };
-    }
-    if read_elements::is_negative(s, start, stop) {
-        let fault = unknown(frame);
-        return read_elements::Verdict { fault, value: 0 };
-    }
-    let n = read_elements::magnitude(s, start, stop);
-    if is_known(frame, n) {
-        return read_elements::Verdict { fault: 0, value: n };
-    }
-    let fault = unknown(frame);
-    read_elements::Verdict { fault, value: 0 }
 }
 
 pub fn value_at(s: &[u8], at: usize, end: usize, frame: u8) -> read_elements::NumberRead
@@ -128,39 +74,14 @@ pub fn value_at(s: &[u8], at: usize, end: usize, frame: u8) -> read_elements::Nu
     ensures bounded { λ r. ⌜ r .value < 1017 ⌝ }
     ensures known { λ r. ⌜ (r .fault ≡ 0 → oneOf (knownIn frame) (r .value) ≡ true) ⌝ }
 {
-    if read_lengths::is_tag(s, at, end, 0x06) {
-        let fault = unknown(frame);
-        return read_elements::NumberRead {
-            fault,
-            place: at,
-            value: 0,
-            next: 0,
-        };
+    let n = values::number_at(s, at, end);
+    if n.fault != 0 {
+        return values::no_value(n.fault, n.place);
     }
-    let e = read_lengths::open_at(s, at, end, 0x02);
-    if e.fault != 0 {
-        return read_elements::NumberRead {
-            fault: e.fault,
-            place: e.place,
-            value: 0,
-            next: 0,
-        };
+    if is_known(frame, n.value) {
+        return n;
     }
-    let v = value_in(s, e.value.start, e.value.stop, frame);
-    if v.fault != 0 {
-        return read_elements::NumberRead {
-            fault: v.fault,
-            place: at,
-            value: 0,
-            next: 0,
-        };
-    }
-    read_elements::NumberRead {
-        fault: 0,
-        place: 0,
-        value: v.value,
-        next: e.next,
-    }
+    values::no_value(values::unknown(frame), at)
 }
 
 // The operation that is invoked, a known one of one octet at once. With one caller it becomes part of it.
@@ -185,31 +106,15 @@ pub fn operation_at(s: &[u8], at: usize, end: usize) -> read_elements::NumberRea
 
 // ---- the component's own element
 
-fn shut_out(fault: u8, place: usize) -> read_lengths::Opened
-    ensures { λ r. ⌜ r ≡ record { fault = fault; place = place; value = record { start = 0; stop = 0 }; next = 0 } ⌝ }
-{
-    read_lengths::Opened {
-        fault,
-        place,
-        value: coding::Extent { start: 0, stop: 0 },
-        next: 0,
-    }
-}
-
 // A1 to A4, and AA.
 fn is_frame(tag: u8) -> bool
     ensures { λ r. ⌜ r ≡ oneOf tags tag ⌝ }
 {
-    if tag == 0xaa {
-        return true;
+    match tag {
+        0xa1..=0xa4 => true,
+        0xaa => true,
+        _ => false,
     }
-    if tag < 0xa1 {
-        return false;
-    }
-    if 0xa4 < tag {
-        return false;
-    }
-    true
 }
 
 // Its first octet, its length, its end, and nothing after it.
@@ -221,18 +126,18 @@ pub fn enter(s: &[u8]) -> read_lengths::Opened
 {
     let n = s.len();
     if n == 0 {
-        return shut_out(named::CUT, n);
+        return read_heads::shut_out(named::CUT, n);
     }
     let tag = s[0];
     if !is_frame(tag) {
-        return shut_out(named::UNKNOWN_COMPONENT, 0);
+        return read_heads::shut_out(named::UNKNOWN_COMPONENT, 0);
     }
     let e = read_lengths::open_at(s, 0, n, tag);
     if e.fault != 0 {
-        return shut_out(read_heads::outer(e.fault), e.place);
+        return read_heads::shut_out(read_heads::outer(e.fault), e.place);
     }
     if e.next != n {
-        return shut_out(named::TRAILING, e.next);
+        return read_heads::shut_out(named::TRAILING, e.next);
     }
     let value = e.value;
     read_lengths::Opened {

@@ -1,8 +1,7 @@
 -- What writing answers and leaves, by how many octets the frame holds.
 use Rattle.prelude.proofs.Prelude.{ℕ, _+_, _≤_, _<_, arith, _≡_, ap, sym, _∙_, Bool, true, not, List, _++_, length, ltb, ltb-true, ltb-false}
-use Rattle.prelude.proofs.Prelude.{not-true}
+use Rattle.prelude.proofs.{Prelude.not-true, Ways.by-cases}
 use Rattle.coding.{specs.Codec.frames, specs.inner.Written.Wrote, specs.inner.Written.Room, specs.inner.Written.lead, proofs.Basic.picked, proofs.Basic.unpicked, proofs.Writing.lead-length}
-use Rattle.prelude.proofs.Ways.{by-cases}
 use Rattle.coding.proofs.Writing.{lead-length-short, lead-length-long, Split, split-length, room-first, room-rest, wrote-parts}
 use Rattle.trunk_types.specs.Components.{trunkComponent}
 use Rattle.write.{specs.declared.Written.Written, specs.Outcome.done, specs.Outcome.no}

@@ -1,8 +1,15 @@
 -- A writer that chooses by a form: all its octets are those of the choice.
-use Rattle.prelude.proofs.Prelude.{ℕ, _≤_, _≡_, sym, ap, _∙_, List, true, arith, length}
-use Rattle.coding.{specs.Codec.Run, specs.inner.Written.Wrote, specs.inner.Written.Room, proofs.Writing.room-as}
-use Rattle.write_figures.proofs.Sizes.{wrote-is}
+use Rattle.prelude.proofs.Prelude.{ℕ, _≤_, _≡_, sym, ap, _∙_, List, _++_, true, arith, length}
+use Rattle.coding.{specs.Codec.Run, specs.inner.Written.Wrote, specs.inner.Written.Room, proofs.Writing.{room-as, room-head}}
+use Rattle.write_figures.proofs.Sizes.{wrote-is, room-2}
 use Rattle.trunk_write_frames.specs.inner.Octets.{Fits}
+
+-- octets in parts: the first has room where all have, and so has the second
+pub room-1 : {all xs l : List ℕ} {a : ℕ} (ys : List ℕ) → all ≡ xs ++ ys → Room l a all → Room l a xs
+room-1 ys e r = room-head ys (room-as r e)
+
+pub room-mid : {all xs ys l m : List ℕ} {a b : ℕ} (zs : List ℕ) → all ≡ xs ++ (ys ++ zs) → Room l a all → Wrote l m a xs b → Room m b ys
+room-mid zs e r p = room-head zs (room-2 e r p)
 
 -- what the function that puts the choice asks for, and its octets
 pub record Form (all : List ℕ) (Asked : Type 0) (xs : List ℕ) : Type 0 where

@@ -1,5 +1,5 @@
 -- What comes before the extension, by its form: what a valid one holds, and its octets.
-use Rattle.prelude.proofs.Prelude.{ℕ, _+_, _*_, _≤_, _<_, _≡_, refl, sym, ap, _∙_, List, [], _∷_, _++_, append-assoc, Bool, true, _&&_, arith, length, getD, take, drop}
+use Rattle.prelude.proofs.Prelude.{ℕ, _+_, _*_, _≤_, _<_, _≡_, refl, sym, ap, _∙_, List, [], _∷_, _++_, append-assoc, _⊎_, inl, inr, Bool, true, _&&_, arith, length, getD, take, drop}
 use Rattle.prelude.proofs.Prelude.{length-append, length-take, length-drop, length-take-le, getD-take, getD-drop, eqb, eqb-true, ne-eqb, leb-true, leb}
 use Rattle.coding.specs.{Reader.part, Codec.{canonical, over, pair, prim, cons, any·more, all, writeAll}, Rows.table, Leaves.number}
 use Rattle.coding.{specs.inner.Written.{lead, fullNumber}, proofs.Basic.{and-left, and-right}, proofs.Rows.{rows-table, table-length}}
@@ -8,8 +8,8 @@ use Rattle.types.specs.{declared.Figure.Figure, declared.Charge.Charge, Charges
 use Rattle.types.specs.Arguments.{noCharge, sameCharge}
 use Rattle.trunk_types.specs.{Extensions.{noExtension, sameExtension}, Stored.modesIn, Bodies.{sameBody, sameModes, askingFor, modes, detail, detailed}}
 use Rattle.trunk_types.specs.{Bodies.{charged, charging, naming, chargeFor}, inner.Forms.{innerIn, users, diverting, innerOf}}
-use Rattle.trunk_write_frames.specs.inner.Octets.{mode, modeAt, modesOf, modesOctets, detailIn, usersOctets}
-use Rattle.trunk_write_frames.proofs.{Given.Four, Given.inner, Dispatch.Form, Dispatch.form-size}
+use Rattle.trunk_write_frames.specs.inner.Octets.{Four, inner, mode, modeAt, modesOf, modesOctets, detailIn, usersOctets}
+use Rattle.trunk_write_frames.proofs.Dispatch.{Form, form-size}
 
 -- ---- modes
 
@@ -88,20 +88,17 @@ abbrev Users : List ℕ → List ℕ → Type 0
 Users front figure = ((partyNumber true) .valid (associationIn front) ≡ true) × ((association true) .valid (associationIn figure) ≡ true)
 
 detail-form : (front : List ℕ) (c : Charge) (most : ℕ) → most < 128 → (detail most) .valid (innerIn front c) ≡ true
-    → (detailIn front < 128) × ((detail most) .write (innerIn front c) ≡ fullNumber 0x0a (detailIn front))
+    → Form ((detail most) .write (innerIn front c)) (detailIn front < 128) (fullNumber 0x0a (detailIn front))
 unfolding innerIn detail canonical over prim number
 detail-form front c most h v =
     let w = and-right (sameBody (detailed (detailIn front)) (innerIn front c)) _ v in
-    (omega (arith, h, leb-true (detailIn front) most (and-right (leb 0 (detailIn front)) _ w)), number-write 0x0a 0 most (detailIn front))
+    record { asked = omega (arith, h, leb-true (detailIn front) most (and-right (leb 0 (detailIn front)) _ w)); octets = number-write 0x0a 0 most (detailIn front) }
 
 module _ {form : ℕ} (p : Four) (v : (innerOf form) .valid (inner p) ≡ true) where
-  pub form-1 : form ≡ 1 → Form ((innerOf form) .write (inner p)) (detailIn (p .front) < 128) (fullNumber 0x0a (detailIn (p .front)))
+  pub form-detail : (form ≡ 1) ⊎ (form ≡ 2) → Form ((innerOf form) .write (inner p)) (detailIn (p .front) < 128) (fullNumber 0x0a (detailIn (p .front)))
   unfolding innerOf
-  form-1 e = let w = detail-form (p .front) _ 6 (omega arith) (rw e at v) in record { asked = w .0; octets = rw e (w .1) }
-
-  pub form-2 : form ≡ 2 → Form ((innerOf form) .write (inner p)) (detailIn (p .front) < 128) (fullNumber 0x0a (detailIn (p .front)))
-  unfolding innerOf
-  form-2 e = let w = detail-form (p .front) _ 2 (omega arith) (rw e at v) in record { asked = w .0; octets = rw e (w .1) }
+  form-detail (inl e) = rw e (detail-form (p .front) _ 6 (omega arith) (rw e at v))
+  form-detail (inr e) = rw e (detail-form (p .front) _ 2 (omega arith) (rw e at v))
 
   pub form-59 : length (p .front) ≡ 48 → form ≡ 59 → Form ((innerOf form) .write (inner p)) (Asking (p .front)) (modesOctets (p .front))
   unfolding innerOf
@@ -132,18 +129,23 @@ module _ {form : ℕ} (p : Four) (v : (innerOf form) .valid (inner p) ≡ true) 
             (sym (append-assoc ((partyNumber true) .write (associationIn (p .front))) ((association true) .write (associationIn (p .figure))) (fullNumber 0x0a d)));
       }
 
-  -- any other, with a figure as the code has it
-  pub form-charge : {f : Figure} → f ≡ figureIn (p .figure) → (form ≡ 1 → ⊥) → (form ≡ 2 → ⊥) → (form ≡ 59 → ⊥) → (form ≡ 64 → ⊥) → (form ≡ 65 → ⊥)
+  -- any other, as the code finds it, with a figure as it has it
+  pub form-charge : {f : Figure} → f ≡ figureIn (p .figure)
+      → ((((Unit {0} × (form ≡ 1 → ⊥)) × (form ≡ 2 → ⊥)) × (form ≡ 59 → ⊥)) × (form ≡ 64 → ⊥)) × (form ≡ 65 → ⊥)
       → Form ((innerOf form) .write (inner p)) ((chargeFor form) .valid (withList f (p .numbers) (p .rows)) ≡ true)
       ((chargeFor form) .write (withList f (p .numbers) (p .rows)))
   unfolding innerOf innerIn charged canonical over
-  form-charge is a b c d e =
-      let w = rw (ne-eqb form 1 a, ne-eqb form 2 b, ne-eqb form 59 c, ne-eqb form 64 d, ne-eqb form 65 e) at v in
+  form-charge is n =
+      let n1 = ne-eqb form 1 (n .0 .0 .0 .0 .1) in
+      let n2 = ne-eqb form 2 (n .0 .0 .0 .1) in
+      let n59 = ne-eqb form 59 (n .0 .0 .1) in
+      let n64 = ne-eqb form 64 (n .0 .1) in
+      let n65 = ne-eqb form 65 (n .1) in
+      let w = rw (n1, n2, n59, n64, n65) at v in
       record {
         asked = ap (λ (g : Figure). (chargeFor form) .valid (withList g (p .numbers) (p .rows))) is
             ∙ and-right (sameBody (charging (storedCharge (p .figure) (p .numbers) (p .rows))) (inner p)) _ w;
-        octets = rw (ne-eqb form 1 a, ne-eqb form 2 b, ne-eqb form 59 c, ne-eqb form 64 d, ne-eqb form 65 e)
-            (ap (λ (g : Figure). (chargeFor form) .write (withList g (p .numbers) (p .rows))) (sym is));
+        octets = rw (n1, n2, n59, n64, n65) (ap (λ (g : Figure). (chargeFor form) .write (withList g (p .numbers) (p .rows))) (sym is));
       }
 
 -- ---- how many octets

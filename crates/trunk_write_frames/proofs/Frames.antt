@@ -1,7 +1,7 @@
 -- What a frame holds, by its kind: what a valid component has, and its octets.
 use Rattle.prelude.proofs.Prelude.{ℕ, _+_, _≤_, _<_, _≡_, refl, sym, ap, ap₂, _∙_, List, _++_, true, false, cond, _⊎_, inl, inr, arith, length, getD}
 use Rattle.prelude.proofs.{Prelude.{length-append, leb, eqb, eqb-true, ne-eqb, leb-true}, Ways.by-cases}
-use Rattle.coding.specs.Codec.{Run, oneOf, prim, cons, pair, alt, sort, canonical, over, leads, barring, marked, frames, nothing, pickRun}
+use Rattle.coding.specs.Codec.{Run, oneOf, prim, cons, pair, alt, sort, canonical, over, leads, barring, marked, frames, pickRun}
 use Rattle.coding.{specs.Leaves.{number, identifier, listed}, specs.inner.Written.{lead, fullNumber}, proofs.Basic.{and-left, and-right, or-false}}
 use Rattle.coding.proofs.{Holds.holds, Small.{null-write, small-length, id-length}, Writing.number-write}
 use Rattle.types.specs.{declared.Record.Record, Frames.value, Frames.caller, Frames.problem, Frames.problems, Frames.reject, Frames.frontBy, Frames.sameFront, Frames.sameRecord}
@@ -13,9 +13,9 @@ use Rattle.trunk_types.specs.Bodies.{argumentOf, resultOf, finalCharge, interim
 use Rattle.trunk_types.specs.Components.{leadBy, trunkBy, sameTrunk, trunkOperations, answerable, carryingBody, trunkInvoke, trunkResult, trunkErrors, failing, trunkError}
 use Rattle.trunk_types.specs.Components.{ofReject, rejectOf, rejected, facility, tags, trunkFrame, trunkComponent}
 use Rattle.trunk_types.specs.inner.Forms.{users, diverting, innerOf}
-use Rattle.trunk_write_frames.specs.{inner.Octets.given, inner.Octets.bodyOf, inner.Octets.resultForm, inner.Octets.idOctets}
-use Rattle.trunk_write_frames.specs.inner.Octets.{detailIn, errorOctets, rejectOctets, NetworkFine, networkOctets, contentsOf}
-use Rattle.trunk_write_frames.proofs.{Extensions.bare-parameter, Given.Parts, Given.whole, Given.body, Dispatch.Form, Dispatch.form-then}
+use Rattle.trunk_write_frames.specs.{inner.Octets.Parts, inner.Octets.body, inner.Octets.whole, inner.Octets.bodyOf, inner.Octets.resultForm, inner.Octets.idOctets}
+use Rattle.trunk_write_frames.specs.inner.Octets.{Counted, detailIn, errorOctets, rejectOctets, NetworkFine, networkOctets, contentsOf}
+use Rattle.trunk_write_frames.proofs.{Extensions.failing-form, Dispatch.Form, Dispatch.form-then}
 
 -- an operation or error value
 value-write : (unknown : ℕ) (known : List ℕ) (n : ℕ) → (value unknown known) .write n ≡ fullNumber 0x02 n
@@ -164,13 +164,11 @@ module _ (five : Parts) where
         let p = and-right (oneOf trunkErrors code) _ (and-right (identifier .valid (two (five .front) 2)) _ v) in
         and-right (sameTrunk (trunkBy (leadBy 3 0 (two (five .front) 2) code 0 0) (extending (extensionIn (five .extension)))) (whole five)) _ p
 
-    error-form : Form (trunkError .write (whole five)) (parameter .valid (extensionIn (five .extension)) ≡ true) (errorOctets (five .front) (five .extension))
-    unfolding trunkError leads failing canonical over trunkIn bodyIn errorOctets unextended nothing
+    error-form : Form (trunkError .write (whole five)) (Counted (extensionIn (five .extension))) (errorOctets (five .front) (five .extension))
+    unfolding trunkError leads failing canonical over trunkIn bodyIn errorOctets
     error-form =
-        by-cases (eqb code 1008) (λ t. record { asked = rw t at error-parts; octets = rw (t, value-write 8 trunkErrors code) })
-        (λ t.
-        let b = bare-parameter (extensionIn (five .extension)) (rw t at error-parts) in
-        record { asked = b .0; octets = rw (t, value-write 8 trunkErrors code, b .1) })
+        let f = failing-form (extensionIn (five .extension)) (eqb code 1008) error-parts in
+        record { asked = f .asked; octets = rw (value-write 8 trunkErrors code, f .octets) }
 
   -- ---- A4
 
@@ -235,7 +233,7 @@ module _ (five : Parts) where
     unfolding trunkFrame
     holds-2 e = holding 2 e
 
-    pub holds-3 : kind ≡ 3 → Holds (parameter .valid (extensionIn (five .extension)) ≡ true) (errorOctets (five .front) (five .extension))
+    pub holds-3 : kind ≡ 3 → Holds (Counted (extensionIn (five .extension))) (errorOctets (five .front) (five .extension))
     unfolding trunkFrame
     holds-3 e = form-then (holding 3 e) error-form
 
@@ -243,17 +241,16 @@ module _ (five : Parts) where
     unfolding trunkFrame
     holds-4 e = form-then (holding 4 e) reject-form
 
-    pub holds-10 : (kind ≡ 1 → ⊥) → (kind ≡ 2 → ⊥) → (kind ≡ 3 → ⊥) → (kind ≡ 4 → ⊥)
+    -- any other, as the code finds it
+    pub holds-10 : (((Unit {0} × (kind ≡ 1 → ⊥)) × (kind ≡ 2 → ⊥)) × (kind ≡ 3 → ⊥)) × (kind ≡ 4 → ⊥)
         → Holds (NetworkFine (five .front) (five .figure)) (networkOctets (five .front) (five .figure))
     unfolding trunkFrame trunkIn
-    holds-10 n1 n2 n3 n4 =
-        let a = ne-eqb (0xa0 + kind) 0xa1 (λ z. n1 (omega (arith, z))) in
-        let b = ne-eqb (0xa0 + kind) 0xa2 (λ z. n2 (omega (arith, z))) in
-        let c = ne-eqb (0xa0 + kind) 0xa3 (λ z. n3 (omega (arith, z))) in
-        let d = ne-eqb (0xa0 + kind) 0xa4 (λ z. n4 (omega (arith, z))) in
+    holds-10 n =
+        let a = ne-eqb (0xa0 + kind) 0xa1 (λ z. n .0 .0 .0 .1 (omega (arith, z))) in
+        let b = ne-eqb (0xa0 + kind) 0xa2 (λ z. n .0 .0 .1 (omega (arith, z))) in
+        let c = ne-eqb (0xa0 + kind) 0xa3 (λ z. n .0 .1 (omega (arith, z))) in
+        let d = ne-eqb (0xa0 + kind) 0xa4 (λ z. n .1 (omega (arith, z))) in
         form-then (record { asked = rw (a, b, c, d) at (frame-valid v .1); octets = rw (a, b, c, d, contentsOf) }) network-form
 
-pub known-frame : (front extension figure numbers rows : List ℕ) → trunkComponent .valid (given front extension figure numbers rows) ≡ true → getD front 0 0 < 11
-known-frame front extension figure numbers rows v =
-    let five : Parts = record { front = front; extension = extension; figure = figure; numbers = numbers; rows = rows } in
-    omega (arith, has-below 171 tags (0xa0 + getD front 0 0) refl (frame-valid five v .0))
+  pub known-frame : trunkComponent .valid (whole five) ≡ true → kind < 11
+  known-frame v = omega (arith, has-below 171 tags (0xa0 + kind) refl (frame-valid v .0))

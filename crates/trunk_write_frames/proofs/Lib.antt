@@ -1,5 +1,4 @@
 mod Cited
-pub mod Given
 pub mod Dispatch
 pub mod Extensions
 pub mod Forms

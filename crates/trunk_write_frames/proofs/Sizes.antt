@@ -1,12 +1,12 @@
 -- How many octets the parts take, and the parts one after the other, by what the code has of each.
-use Rattle.prelude.proofs.Prelude.{ℕ, _+_, _-_, _*_, _≤_, _<_, _≡_, refl, sym, ap, ap₂, _∙_, List, [], _∷_, _++_, true, arith, length, getD, take, drop, length-append}
+use Rattle.prelude.proofs.Prelude.{ℕ, _+_, _-_, _*_, _≤_, _<_, _≡_, sym, ap, ap₂, _∙_, List, [], _∷_, _++_, true, arith, length, getD, take, drop, length-append}
 use Rattle.prelude.proofs.Prelude.{length-drop, take-length, eq-eqb, ne-eqb}
 use Rattle.coding.specs.{Codec.{canonical, over, sort, cons, nothing, prim, all, writeAll, lengthOctets}, Rows.table, Leaves.{identifier, width}}
 use Rattle.coding.{specs.inner.Written.{lead, fullNumber}, proofs.Basic.{picked, unpicked}, proofs.Small.{small-length, id-length, null-length}}
 use Rattle.coding.proofs.Writing.{number-length}
 use Rattle.types.specs.{declared.Association.Association, Charges.partyNumber, Charges.association, Charges.unassociated, Stored.two, Stored.associationIn}
-use Rattle.trunk_types.specs.{Extensions.parameter, Bodies.address, Stored.modesIn, Stored.extensionIn}
-use Rattle.trunk_write_frames.specs.{inner.Octets.extensionOctets, inner.Octets.Counted, inner.Octets.mode, inner.Octets.modeAt, inner.Octets.modesOf, inner.Octets.modesOctets, inner.Octets.detailIn}
+use Rattle.trunk_types.specs.{Bodies.address, Stored.modesIn, Stored.extensionIn}
+use Rattle.trunk_write_frames.specs.{inner.Octets.extensionOctets, inner.Octets.taggedBy, inner.Octets.Counted, inner.Octets.mode, inner.Octets.modeAt, inner.Octets.modesOf, inner.Octets.modesOctets, inner.Octets.detailIn}
 use Rattle.trunk_write_frames.specs.inner.Octets.{usersOctets, idOctets, errorOctets, callerOctets, rejectOctets, NetworkFine, networkOctets}
 use Rattle.trunk_write_frames.proofs.{Extensions.kept-as, Extensions.kept-fits, Dispatch.Form}
 
@@ -65,13 +65,6 @@ module _ {front figure : List ℕ} (f : NetworkFine front figure) where
       let destination = small-length 0x82 (getD front 43 0) (omega (arith, f .destination)) in
       simp length-append (omega (arith, p 0xa1, q 0xa3, source, destination))
 
-pub network-split : (front figure : List ℕ)
-    → networkOctets front figure
-    ≡ fullNumber 0x80 (getD front 42 0)
-    ++ ((address 0xa1) .write (associationIn front) ++ (fullNumber 0x82 (getD front 43 0) ++ (address 0xa3) .write (associationIn figure)))
-unfolding networkOctets
-network-split front figure = refl
-
 -- ---- identifiers, errors, rejects
 
 module _ (front : List ℕ) {i : ℕ} (is : i ≡ two front 2) where
@@ -79,11 +72,11 @@ module _ (front : List ℕ) {i : ℕ} (is : i ≡ two front 2) where
   id-is = ap ((prim 0x02 identifier) .write) (sym is)
 
   module _ (extension : List ℕ) {n : ℕ} (en : n ≡ two front 4) where
-    pub error-split : errorOctets front extension ≡ (prim 0x02 identifier) .write i ++ (fullNumber 0x02 n ++ parameter .write (extensionIn extension))
+    pub error-split : errorOctets front extension ≡ (prim 0x02 identifier) .write i ++ (fullNumber 0x02 n ++ taggedBy 0x30 (extensionIn extension))
     unfolding errorOctets
-    error-split = ap₂ (λ (x : List ℕ) (k : ℕ). x ++ (fullNumber 0x02 k ++ parameter .write (extensionIn extension))) id-is (sym en)
+    error-split = ap₂ (λ (x : List ℕ) (k : ℕ). x ++ (fullNumber 0x02 k ++ taggedBy 0x30 (extensionIn extension))) id-is (sym en)
 
-    pub error-length : {w d x : ℕ} → w ≡ length (identifier .write i) → d ≡ width n → x ≡ length (parameter .write (extensionIn extension)) → 4 + w + d + x ≡ length (errorOctets front extension)
+    pub error-length : {w d x : ℕ} → w ≡ length (identifier .write i) → d ≡ width n → x ≡ length (taggedBy 0x30 (extensionIn extension)) → 4 + w + d + x ≡ length (errorOctets front extension)
     error-length ew ed ex = omega (arith, ew, ed, ex, simp length-append at (ap length error-split), id-length 0x02 i, number-length 0x02 n)
 
   pub caller-id : (getD front 1 0 ≡ 1 → ⊥) → callerOctets front ≡ (prim 0x02 identifier) .write i

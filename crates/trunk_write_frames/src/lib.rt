@@ -10,29 +10,26 @@ use types::association_kind;
 use types::frame;
 use types::operation;
 ghost use mathlib.Core.Path.{_≡_};
-ghost use mathlib.Core.Bool.{true, cond};
-ghost use mathlib.Core.List.{_++_};
+ghost use mathlib.Core.Bool.{true};
 ghost use Prim.Native.Nat.{ℕ, _+_, _*_, _≤_, _<_};
 ghost use lib.ListN.{length};
-ghost use lib.Dec.{eqb};
 ghost use Rattle.coding.specs.Codec.{all, writeAll};
 ghost use Rattle.coding.specs.Rows.{table};
-ghost use Rattle.coding.specs.inner.Written.{Wrote, Room, fullNumber};
+ghost use Rattle.coding.specs.inner.Written.{Wrote, Room};
 ghost use Rattle.types.specs.Charges.{partyNumber, association};
 ghost use Rattle.types.specs.Stored.{associationIn};
-ghost use Rattle.trunk_types.specs.Extensions.{anyExtension, parameter};
-ghost use Rattle.trunk_types.specs.Bodies.{extended, address};
+ghost use Rattle.trunk_types.specs.Bodies.{address};
 ghost use Rattle.trunk_types.specs.Components.{trunkInvoke, trunkResult, trunkComponent};
 ghost use Rattle.trunk_types.specs.Stored.{modesIn, extensionIn};
 ghost use Rattle.trunk_types.specs.inner.Forms.{innerOf};
-ghost use Rattle.trunk_write_frames.specs.inner.Octets.{Fits, given, bodyGiven, innerGiven, extensionOctets, Counted, mode, modeAt, usersOctets, detailIn, modesOf, modesOctets, bodyOf, resultForm, callerOctets, rejectOctets, errorOctets, NetworkFine, networkOctets, contentsOf};
+ghost use Rattle.trunk_write_frames.specs.inner.Octets.{Fits, heldFour, lentFour, inner, held, lent, whole, body, extensionOctets, taggedBy, Counted, mode, modeAt, usersOctets, detailIn, modesOf, modesOctets, bodyOf, resultForm, callerOctets, rejectOctets, errorOctets, NetworkFine, networkOctets, contentsOf};
 
 // ---- extensions
 
-// Whatever its tag; nothing where there is none.
+// Nothing where there is none.
 fn extension_size(extension: &[u8; 244]) -> usize
     requires { ⌜ Counted (extensionIn (now extension)) ⌝ }
-    ensures { λ r. ⌜ ((tag : ℕ) → r ≡ cond (eqb (extensionIn (now (extension .entry)) .kind) 0) 0 (length (extensionOctets tag (extensionIn (now (extension .entry)))))) ⌝ }
+    ensures { λ r. ⌜ ((tag : ℕ) → r ≡ length (taggedBy tag (extensionIn (now (extension .entry))))) ⌝ }
     ensures few { λ r. ⌜ r ≤ 260 ⌝ }
 {
     if extension[in_extension::EXTENDED] == extended::NOT {
@@ -53,31 +50,18 @@ fn put_kept(buf: &mut [u8], at: usize, tag: u8, extension: &[u8; 244]) -> usize
     write_elements::put_string(buf, at, tag, &all[in_extension::EXTENSION..], n)
 }
 
-// A1 with one, A2 with a list, or nothing.
-fn put_extension(buf: &mut [u8], at: usize, extension: &[u8; 244]) -> usize
-    requires { ⌜ anyExtension .valid (extensionIn (now extension)) ≡ true ⌝ }
-    requires { ⌜ Room (now buf) at (anyExtension .write (extensionIn (now extension))) ⌝ }
-    ensures { λ r. ⌜ Wrote (now (buf .entry)) (now (buf .exit)) at (anyExtension .write (extensionIn (now (extension .entry)))) r ⌝ }
+// A2 with a list, another tag with one, or nothing.
+fn put_extension(buf: &mut [u8], at: usize, one: u8, extension: &[u8; 244]) -> usize
+    requires { ⌜ Counted (extensionIn (now extension)) ⌝ }
+    requires { ⌜ Room (now buf) at (taggedBy one (extensionIn (now extension))) ⌝ }
+    ensures { λ r. ⌜ Wrote (now (buf .entry)) (now (buf .exit)) at (taggedBy one (extensionIn (now (extension .entry)))) r ⌝ }
 {
-    if extension[in_extension::EXTENDED] == extended::ONCE {
-        return put_kept(buf, at, 0xa1, extension);
+    let kind = extension[in_extension::EXTENDED];
+    match kind {
+        extended::NOT => at,
+        extended::LIST => put_kept(buf, at, 0xa2, extension),
+        _ => put_kept(buf, at, one, extension),
     }
-    if extension[in_extension::EXTENDED] == extended::LIST {
-        return put_kept(buf, at, 0xa2, extension);
-    }
-    at
-}
-
-// The parameter of an error: 30 with one, or nothing.
-fn put_parameter(buf: &mut [u8], at: usize, extension: &[u8; 244]) -> usize
-    requires { ⌜ parameter .valid (extensionIn (now extension)) ≡ true ⌝ }
-    requires { ⌜ Room (now buf) at (parameter .write (extensionIn (now extension))) ⌝ }
-    ensures { λ r. ⌜ Wrote (now (buf .entry)) (now (buf .exit)) at (parameter .write (extensionIn (now (extension .entry)))) r ⌝ }
-{
-    if extension[in_extension::EXTENDED] == extended::ONCE {
-        return put_kept(buf, at, 0x30, extension);
-    }
-    at
 }
 
 // ---- what comes before the extension
@@ -139,41 +123,21 @@ fn inner_size(
     numbers: &[u32; 32],
     rows: &[u8; 192],
 ) -> usize
-    requires { ⌜ (innerOf form) .valid (innerGiven (now front) (now figure) (now numbers) (now rows)) ≡ true ⌝ }
-    ensures { λ r. ⌜ r ≡ length ((innerOf form) .write (innerGiven (now (front .entry)) (now (figure .entry)) (now (numbers .entry)) (now (rows .entry)))) ⌝ }
+    requires { ⌜ (innerOf form) .valid (inner (heldFour front figure numbers rows)) ≡ true ⌝ }
+    ensures { λ r. ⌜ r ≡ length ((innerOf form) .write (inner (lentFour front figure numbers rows))) ⌝ }
     ensures few { λ r. ⌜ r ≤ 600 ⌝ }
 {
     // As slices the arrays show their lengths to the proof.
     let all: &[u8] = front;
     let octets: &[u8] = rows;
-    if form == form::CHARGE_RESULT {
-        return 3;
+    match form {
+        form::CHARGE_RESULT => 3,
+        form::COMPLETE_RESULT => 3,
+        operation::CHARGE_REQUEST => 2 + 3 * octets::wide(front[in_front::ASKED]),
+        operation::COMPLETE => users_size(front, figure),
+        operation::DIVERSION => users_size(front, figure) + 3,
+        _ => trunk_write_charges::charge_size(form, types_parts::figure_of(figure), numbers, rows),
     }
-    if form == form::COMPLETE_RESULT {
-        return 3;
-    }
-    if form == operation::CHARGE_REQUEST {
-        let n = octets::wide(front[in_front::ASKED]);
-        return 2 + 3 * n;
-    }
-    if form == operation::COMPLETE {
-        return users_size(front, figure);
-    }
-    if form == operation::DIVERSION {
-        return users_size(front, figure) + 3;
-    }
-    let f = types_parts::figure_of(figure);
-    trunk_write_charges::charge_size(form, f, numbers, rows)
-}
-
-// The number in a 0A after the users of 65.
-fn put_diverting(buf: &mut [u8], at: usize, front: &[u8; 48], figure: &[u8; 48]) -> usize
-    requires { ⌜ ((partyNumber true) .valid (associationIn (now front)) ≡ true) × ((association true) .valid (associationIn (now figure)) ≡ true) ⌝ }
-    requires { ⌜ (detailIn (now front) < 128) × Room (now buf) at (usersOctets (associationIn (now front)) (associationIn (now figure)) ++ fullNumber 0x0a (detailIn (now front))) ⌝ }
-    ensures { λ r. ⌜ Wrote (now (buf .entry)) (now (buf .exit)) at (usersOctets (associationIn (now (front .entry))) (associationIn (now (figure .entry))) ++ fullNumber 0x0a (detailIn (now (front .entry)))) r ⌝ }
-{
-    let p = put_users(buf, at, front, figure);
-    write_elements::put_small(buf, p, 0x0a, front[in_front::DETAIL])
 }
 
 fn put_inner(
@@ -185,28 +149,25 @@ fn put_inner(
     numbers: &[u32; 32],
     rows: &[u8; 192],
 ) -> usize
-    requires { ⌜ Fits (innerOf form) (innerGiven (now front) (now figure) (now numbers) (now rows)) 254 (now buf) at ⌝ }
-    ensures { λ r. ⌜ Wrote (now (buf .entry)) (now (buf .exit)) at ((innerOf form) .write (innerGiven (now (front .entry)) (now (figure .entry)) (now (numbers .entry)) (now (rows .entry)))) r ⌝ }
+    requires { ⌜ Fits (innerOf form) (inner (heldFour front figure numbers rows)) 254 (now buf) at ⌝ }
+    ensures { λ r. ⌜ Wrote (now (buf .entry)) (now (buf .exit)) at ((innerOf form) .write (inner (lentFour front figure numbers rows))) r ⌝ }
 {
     let all: &[u8] = front;
     let octets: &[u8] = rows;
-    if form == form::CHARGE_RESULT {
-        return write_elements::put_small(buf, at, 0x0a, front[in_front::DETAIL]);
+    match form {
+        form::CHARGE_RESULT => write_elements::put_small(buf, at, 0x0a, front[in_front::DETAIL]),
+        form::COMPLETE_RESULT => write_elements::put_small(buf, at, 0x0a, front[in_front::DETAIL]),
+        operation::CHARGE_REQUEST => put_modes(buf, at, front),
+        operation::COMPLETE => put_users(buf, at, front, figure),
+        operation::DIVERSION => {
+            let p = put_users(buf, at, front, figure);
+            write_elements::put_small(buf, p, 0x0a, front[in_front::DETAIL])
+        }
+        _ => {
+            let f = types_parts::figure_of(figure);
+            trunk_write_charges::put_charge(buf, at, form, f, numbers, rows)
+        }
     }
-    if form == form::COMPLETE_RESULT {
-        return write_elements::put_small(buf, at, 0x0a, front[in_front::DETAIL]);
-    }
-    if form == operation::CHARGE_REQUEST {
-        return put_modes(buf, at, front);
-    }
-    if form == operation::COMPLETE {
-        return put_users(buf, at, front, figure);
-    }
-    if form == operation::DIVERSION {
-        return put_diverting(buf, at, front, figure);
-    }
-    let f = types_parts::figure_of(figure);
-    trunk_write_charges::put_charge(buf, at, form, f, numbers, rows)
 }
 
 // ---- what follows the operation: the 30 around what a form has and its extension; of 60, 05 00 or the extension by itself
@@ -219,8 +180,8 @@ fn body_size(
     numbers: &[u32; 32],
     rows: &[u8; 192],
 ) -> usize
-    requires { ⌜ (bodyOf form) .valid (bodyGiven (now front) (now extension) (now figure) (now numbers) (now rows)) ≡ true ⌝ }
-    ensures { λ r. ⌜ r ≡ length ((bodyOf form) .write (bodyGiven (now (front .entry)) (now (extension .entry)) (now (figure .entry)) (now (numbers .entry)) (now (rows .entry)))) ⌝ }
+    requires { ⌜ (bodyOf form) .valid (body (held front extension figure numbers rows)) ≡ true ⌝ }
+    ensures { λ r. ⌜ r ≡ length ((bodyOf form) .write (body (lent front extension figure numbers rows))) ⌝ }
     ensures few { λ r. ⌜ r ≤ 864 ⌝ }
 {
     if form == operation::GET_FINAL_CHARGE {
@@ -230,26 +191,6 @@ fn body_size(
         return extension_size(extension);
     }
     write_figures::sized(inner_size(form, front, figure, numbers, rows) + extension_size(extension))
-}
-
-fn put_extended(
-    buf: &mut [u8],
-    at: usize,
-    form: u8,
-    front: &[u8; 48],
-    extension: &[u8; 244],
-    figure: &[u8; 48],
-    numbers: &[u32; 32],
-    rows: &[u8; 192],
-) -> usize
-    requires { ⌜ Fits (extended (innerOf form)) (bodyGiven (now front) (now extension) (now figure) (now numbers) (now rows)) 254 (now buf) at ⌝ }
-    ensures { λ r. ⌜ Wrote (now (buf .entry)) (now (buf .exit)) at ((extended (innerOf form)) .write (bodyGiven (now (front .entry)) (now (extension .entry)) (now (figure .entry)) (now (numbers .entry)) (now (rows .entry)))) r ⌝ }
-{
-    let n = inner_size(form, front, figure, numbers, rows);
-    let k = extension_size(extension);
-    let p = write_elements::put_lead(buf, at, 0x30, n + k);
-    let q = put_inner(buf, p, form, front, figure, numbers, rows);
-    put_extension(buf, q, extension)
 }
 
 fn put_body(
@@ -262,16 +203,20 @@ fn put_body(
     numbers: &[u32; 32],
     rows: &[u8; 192],
 ) -> usize
-    requires { ⌜ Fits (bodyOf form) (bodyGiven (now front) (now extension) (now figure) (now numbers) (now rows)) 254 (now buf) at ⌝ }
-    ensures { λ r. ⌜ Wrote (now (buf .entry)) (now (buf .exit)) at ((bodyOf form) .write (bodyGiven (now (front .entry)) (now (extension .entry)) (now (figure .entry)) (now (numbers .entry)) (now (rows .entry)))) r ⌝ }
+    requires { ⌜ Fits (bodyOf form) (body (held front extension figure numbers rows)) 254 (now buf) at ⌝ }
+    ensures { λ r. ⌜ Wrote (now (buf .entry)) (now (buf .exit)) at ((bodyOf form) .write (body (lent front extension figure numbers rows))) r ⌝ }
 {
     if form == operation::GET_FINAL_CHARGE {
         if extension[in_extension::EXTENDED] == extended::NOT {
             return write_elements::put_null(buf, at, 0x05);
         }
-        return put_extension(buf, at, extension);
+        return put_extension(buf, at, 0xa1, extension);
     }
-    put_extended(buf, at, form, front, extension, figure, numbers, rows)
+    let n = inner_size(form, front, figure, numbers, rows);
+    let k = extension_size(extension);
+    let p = write_elements::put_lead(buf, at, 0x30, n + k);
+    let q = put_inner(buf, p, form, front, figure, numbers, rows);
+    put_extension(buf, q, 0xa1, extension)
 }
 
 // ---- the network facility extension
@@ -330,8 +275,8 @@ fn invoke_size(
     numbers: &[u32; 32],
     rows: &[u8; 192],
 ) -> usize
-    requires { ⌜ trunkInvoke .valid (given (now front) (now extension) (now figure) (now numbers) (now rows)) ≡ true ⌝ }
-    ensures { λ r. ⌜ r ≡ length (trunkInvoke .write (given (now (front .entry)) (now (extension .entry)) (now (figure .entry)) (now (numbers .entry)) (now (rows .entry)))) ⌝ }
+    requires { ⌜ trunkInvoke .valid (whole (held front extension figure numbers rows)) ≡ true ⌝ }
+    ensures { λ r. ⌜ r ≡ length (trunkInvoke .write (whole (lent front extension figure numbers rows))) ⌝ }
     ensures few { λ r. ⌜ r ≤ 900 ⌝ }
 {
     5
@@ -355,8 +300,8 @@ fn put_invoke(
     numbers: &[u32; 32],
     rows: &[u8; 192],
 ) -> usize
-    requires { ⌜ Fits trunkInvoke (given (now front) (now extension) (now figure) (now numbers) (now rows)) 251 (now buf) at ⌝ }
-    ensures { λ r. ⌜ Wrote (now (buf .entry)) (now (buf .exit)) at (trunkInvoke .write (given (now (front .entry)) (now (extension .entry)) (now (figure .entry)) (now (numbers .entry)) (now (rows .entry)))) r ⌝ }
+    requires { ⌜ Fits trunkInvoke (whole (held front extension figure numbers rows)) 251 (now buf) at ⌝ }
+    ensures { λ r. ⌜ Wrote (now (buf .entry)) (now (buf .exit)) at (trunkInvoke .write (whole (lent front extension figure numbers rows))) r ⌝ }
 {
     let p = write_elements::put_id(buf, at, 0x02, types_parts::id_of(front));
     let q = write_elements::put_small(buf, p, 0x02, front[in_front::OPERATION]);
@@ -389,8 +334,8 @@ fn result_size(
     numbers: &[u32; 32],
     rows: &[u8; 192],
 ) -> usize
-    requires { ⌜ trunkResult .valid (given (now front) (now extension) (now figure) (now numbers) (now rows)) ≡ true ⌝ }
-    ensures { λ r. ⌜ r ≡ length (trunkResult .write (given (now (front .entry)) (now (extension .entry)) (now (figure .entry)) (now (numbers .entry)) (now (rows .entry)))) ⌝ }
+    requires { ⌜ trunkResult .valid (whole (held front extension figure numbers rows)) ≡ true ⌝ }
+    ensures { λ r. ⌜ r ≡ length (trunkResult .write (whole (lent front extension figure numbers rows))) ⌝ }
     ensures few { λ r. ⌜ r ≤ 900 ⌝ }
 {
     let n = body_size(
@@ -413,8 +358,8 @@ fn put_result(
     numbers: &[u32; 32],
     rows: &[u8; 192],
 ) -> usize
-    requires { ⌜ Fits trunkResult (given (now front) (now extension) (now figure) (now numbers) (now rows)) 251 (now buf) at ⌝ }
-    ensures { λ r. ⌜ Wrote (now (buf .entry)) (now (buf .exit)) at (trunkResult .write (given (now (front .entry)) (now (extension .entry)) (now (figure .entry)) (now (numbers .entry)) (now (rows .entry)))) r ⌝ }
+    requires { ⌜ Fits trunkResult (whole (held front extension figure numbers rows)) 251 (now buf) at ⌝ }
+    ensures { λ r. ⌜ Wrote (now (buf .entry)) (now (buf .exit)) at (trunkResult .write (whole (lent front extension figure numbers rows))) r ⌝ }
 {
     let form = result_form(front[in_front::OPERATION]);
     let n = body_size(form, front, extension, figure, numbers, rows);
@@ -426,7 +371,7 @@ fn put_result(
 
 // An error's identifier, its value in one or two octets, and the parameter.
 fn error_size(front: &[u8; 48], extension: &[u8; 244]) -> usize
-    requires { ⌜ parameter .valid (extensionIn (now extension)) ≡ true ⌝ }
+    requires { ⌜ Counted (extensionIn (now extension)) ⌝ }
     ensures { λ r. ⌜ r ≡ length (errorOctets (now (front .entry)) (now (extension .entry))) ⌝ }
     ensures few { λ r. ⌜ r ≤ 900 ⌝ }
 {
@@ -438,14 +383,14 @@ fn error_size(front: &[u8; 48], extension: &[u8; 244]) -> usize
 }
 
 fn put_error(buf: &mut [u8], at: usize, front: &[u8; 48], extension: &[u8; 244]) -> usize
-    requires { ⌜ parameter .valid (extensionIn (now extension)) ≡ true ⌝ }
+    requires { ⌜ Counted (extensionIn (now extension)) ⌝ }
     requires { ⌜ Room (now buf) at (errorOctets (now front) (now extension)) ⌝ }
     ensures { λ r. ⌜ Wrote (now (buf .entry)) (now (buf .exit)) at (errorOctets (now (front .entry)) (now (extension .entry))) r ⌝ }
 {
     let e = types_parts::error_of(front) as u32;
     let p = write_elements::put_id(buf, at, 0x02, types_parts::id_of(front));
     let q = write_elements::put_number(buf, p, 0x02, e);
-    put_parameter(buf, q, extension)
+    put_extension(buf, q, 0x30, extension)
 }
 
 // A reject: the identifier or NULL, and the problem.
@@ -486,23 +431,18 @@ pub fn contents_size(
     numbers: &[u32; 32],
     rows: &[u8; 192],
 ) -> usize
-    requires { ⌜ trunkComponent .valid (given (now front) (now extension) (now figure) (now numbers) (now rows)) ≡ true ⌝ }
-    ensures { λ r. ⌜ r ≡ length (contentsOf (given (now (front .entry)) (now (extension .entry)) (now (figure .entry)) (now (numbers .entry)) (now (rows .entry)))) ⌝ }
+    requires { ⌜ trunkComponent .valid (whole (held front extension figure numbers rows)) ≡ true ⌝ }
+    ensures { λ r. ⌜ r ≡ length (contentsOf (whole (lent front extension figure numbers rows))) ⌝ }
     ensures few { λ r. ⌜ r ≤ 900 ⌝ }
 {
-    if front[in_front::FRAME] == frame::INVOKE {
-        return invoke_size(front, extension, figure, numbers, rows);
+    let kind = front[in_front::FRAME];
+    match kind {
+        frame::INVOKE => invoke_size(front, extension, figure, numbers, rows),
+        frame::RESULT => result_size(front, extension, figure, numbers, rows),
+        frame::ERROR => error_size(front, extension),
+        frame::REJECT => reject_size(front),
+        _ => network_size(front, figure),
     }
-    if front[in_front::FRAME] == frame::RESULT {
-        return result_size(front, extension, figure, numbers, rows);
-    }
-    if front[in_front::FRAME] == frame::ERROR {
-        return error_size(front, extension);
-    }
-    if front[in_front::FRAME] == frame::REJECT {
-        return reject_size(front);
-    }
-    network_size(front, figure)
 }
 
 // The same, of at most 251 octets.
@@ -515,22 +455,17 @@ pub fn put_contents(
     numbers: &[u32; 32],
     rows: &[u8; 192],
 ) -> usize
-    requires { ⌜ trunkComponent .valid (given (now front) (now extension) (now figure) (now numbers) (now rows)) ≡ true ⌝ }
-    requires { ⌜ length (contentsOf (given (now front) (now extension) (now figure) (now numbers) (now rows))) ≤ 251 ⌝ }
-    requires { ⌜ Room (now buf) at (contentsOf (given (now front) (now extension) (now figure) (now numbers) (now rows))) ⌝ }
-    ensures { λ r. ⌜ Wrote (now (buf .entry)) (now (buf .exit)) at (contentsOf (given (now (front .entry)) (now (extension .entry)) (now (figure .entry)) (now (numbers .entry)) (now (rows .entry)))) r ⌝ }
+    requires { ⌜ trunkComponent .valid (whole (held front extension figure numbers rows)) ≡ true ⌝ }
+    requires { ⌜ length (contentsOf (whole (held front extension figure numbers rows))) ≤ 251 ⌝ }
+    requires { ⌜ Room (now buf) at (contentsOf (whole (held front extension figure numbers rows))) ⌝ }
+    ensures { λ r. ⌜ Wrote (now (buf .entry)) (now (buf .exit)) at (contentsOf (whole (lent front extension figure numbers rows))) r ⌝ }
 {
-    if front[in_front::FRAME] == frame::INVOKE {
-        return put_invoke(buf, at, front, extension, figure, numbers, rows);
+    let kind = front[in_front::FRAME];
+    match kind {
+        frame::INVOKE => put_invoke(buf, at, front, extension, figure, numbers, rows),
+        frame::RESULT => put_result(buf, at, front, extension, figure, numbers, rows),
+        frame::ERROR => put_error(buf, at, front, extension),
+        frame::REJECT => put_reject(buf, at, front),
+        _ => put_network(buf, at, front, figure),
     }
-    if front[in_front::FRAME] == frame::RESULT {
-        return put_result(buf, at, front, extension, figure, numbers, rows);
-    }
-    if front[in_front::FRAME] == frame::ERROR {
-        return put_error(buf, at, front, extension);
-    }
-    if front[in_front::FRAME] == frame::REJECT {
-        return put_reject(buf, at, front);
-    }
-    put_network(buf, at, front, figure)
 }

@@ -1,8 +1,7 @@
 -- What is all of zeros: no extension, no modes and no user.
 use Rattle.prelude.proofs.Prelude.{ℕ, _+_, _≡_, refl, sym, ap, _∙_, List, _++_, Bool, true, not, _&&_, arith, length, drop, replicate, eqb, leb·zero, take-append-drop}
-use Rattle.prelude.proofs.Prelude.{drop-drop}
+use Rattle.prelude.proofs.{Prelude.drop-drop, Ways.by-cases}
 use Rattle.coding.{specs.Reader.part, specs.Codec.sameList, specs.Codec.sort, specs.Codec.canonical, specs.Codec.over, specs.Codec.nothing, specs.Codec.pad}
-use Rattle.prelude.proofs.Ways.{by-cases}
 use Rattle.types.specs.{Charges.noAssociation}
 use Rattle.types.{specs.Stored.associationIn, proofs.Stored.by-front}
 use Rattle.trunk_types.specs.{Bodies.noModes, Extensions.unextended, Extensions.anyExtension, Stored.modesIn, Stored.extensionIn}
@@ -29,7 +28,7 @@ no-modes k = by-cases (eqb k 59) (λ q. rw q) (λ q. rw q)
 no-user : (k : ℕ) → userFine k noAssociation ≡ not (names k)
 unfolding userFine
 no-user k =
-    by-cases (names k) (λ q. rw q (number-plain true noAssociation refl ∙ plain-is noAssociation)) (λ q. rw q (by-cases (eqb k 10) (λ p. rw p) (λ p. rw p)))
+    by-cases (names k) (λ q. rw q (number-plain noAssociation refl ∙ plain-is noAssociation)) (λ q. rw q (by-cases (eqb k 10) (λ p. rw p) (λ p. rw p)))
 
 none-in : (s : List ℕ) → length s ≡ 48 → part s 8 42 ≡ replicate 34 0 → (modesIn s ≡ noModes) × (associationIn s ≡ noAssociation)
 unfolding part

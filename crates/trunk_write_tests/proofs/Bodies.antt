@@ -11,8 +11,7 @@ use Rattle.trunk_types.specs.{declared.Modes.Modes, declared.Extension.Extensio
 use Rattle.trunk_types.specs.{Extensions.unextended, Extensions.someExtension, Extensions.anyExtension, Extensions.parameter, Bodies.noModes, Bodies.sameModes, Bodies.bodyBy}
 use Rattle.trunk_types.specs.{Bodies.sameBody, Bodies.withExtension, Bodies.extended}
 use Rattle.trunk_types.specs.Bodies.{askingFor, detailed, extending, modes, detail, dummy, charged, finalCharge, interim, tariff, otherOf, complete, diverted, address, network}
-use Rattle.trunk_types.specs.Bodies.{argumentOf, resultOf}
-use Rattle.trunk_types.specs.Components.{trunkOperations, answerable}
+use Rattle.trunk_types.specs.{Bodies.{argumentOf, resultOf}, Components.{trunkOperations, answerable}}
 use Rattle.trunk_types.proofs.ExtensionLaws.{extensionEqual}
 use Rattle.write_heads.specs.inner.Fronts.{problemFine}
 use Rattle.write_tests.proofs.Truth.{kinds, other-kind, other-kind'}
@@ -22,46 +21,33 @@ use Rattle.trunk_write_tests.proofs.Charges.{list-self, past-kind, fina
 
 -- ---- extensions: by how great a kind may be
 
-module _ (n : ℕ) (os : List ℕ) where
-  abbrev of : ℕ → Extension
-  of k = record { kind = k; count = n; octets = os }
-
-  none-of : (k : ℕ) → sameExtension noExtension (of k) ≡ leb k 0 && anyExtension .valid (of k)
-  unfolding anyExtension sort unextended canonical over nothing
-  none-of =
-      kinds (λ (k : ℕ). sameExtension noExtension (of k) ≡ leb k 0 && anyExtension .valid (of k)) (sym (and-true _)) refl refl refl refl refl
-      (λ k h. simp (other-kind', past-kind))
-
-  one-of : (k : ℕ) → parameter .valid (of k) ≡ leb k 1 && anyExtension .valid (of k)
-  unfolding parameter anyExtension sort extensionAt unextended canonical over nothing cons
-  one-of =
-      kinds (λ (k : ℕ). parameter .valid (of k) ≡ leb k 1 && anyExtension .valid (of k)) refl refl refl refl refl refl
-      (λ k h. simp (other-kind, other-kind', past-kind))
-
-  any-of : (k : ℕ) → anyExtension .valid (of k) ≡ leb k 2 && anyExtension .valid (of k)
-  unfolding anyExtension sort unextended canonical over nothing
-  any-of =
-      kinds (λ (k : ℕ). anyExtension .valid (of k) ≡ leb k 2 && anyExtension .valid (of k)) refl refl refl refl refl refl
-      (λ k h. simp (other-kind, other-kind', past-kind))
-
-  some-of : (k : ℕ) → cond (eqb k 0) (sameExtension noExtension (of k)) (someExtension .valid (of k)) ≡ leb k 2 && anyExtension .valid (of k)
-  unfolding someExtension anyExtension sort extensionAt unextended canonical over nothing cons
-  some-of =
-      kinds (λ (k : ℕ). cond (eqb k 0) (sameExtension noExtension (of k)) (someExtension .valid (of k)) ≡ leb k 2 && anyExtension .valid (of k))
-      (sym (and-true _)) refl refl refl refl refl (λ k h. simp (other-kind, other-kind', past-kind))
-
 module _ (x : Extension) where
-  pub no-extension : sameExtension noExtension x ≡ leb (x .kind) 0 && anyExtension .valid x
-  no-extension = none-of (x .count) (x .octets) (x .kind)
+  abbrev of : ℕ → Extension
+  of k = record { kind = k; count = x .count; octets = x .octets }
 
-  pub one-extension : parameter .valid x ≡ leb (x .kind) 1 && anyExtension .valid x
-  one-extension = one-of (x .count) (x .octets) (x .kind)
+  no-extension : sameExtension noExtension x ≡ leb (x .kind) 0 && anyExtension .valid x
+  unfolding anyExtension sort unextended canonical over nothing
+  no-extension =
+      kinds (λ (k : ℕ). sameExtension noExtension (of k) ≡ leb k 0 && anyExtension .valid (of k)) (sym (and-true _)) refl refl refl refl refl
+      (λ k h. simp (other-kind', past-kind)) (x .kind)
 
-  pub any-extension : anyExtension .valid x ≡ leb (x .kind) 2 && anyExtension .valid x
-  any-extension = any-of (x .count) (x .octets) (x .kind)
+  one-extension : parameter .valid x ≡ leb (x .kind) 1 && anyExtension .valid x
+  unfolding parameter anyExtension sort extensionAt unextended canonical over nothing cons
+  one-extension =
+      kinds (λ (k : ℕ). parameter .valid (of k) ≡ leb k 1 && anyExtension .valid (of k)) refl refl refl refl refl refl
+      (λ k h. simp (other-kind, other-kind', past-kind)) (x .kind)
+
+  any-extension : anyExtension .valid x ≡ leb (x .kind) 2 && anyExtension .valid x
+  unfolding anyExtension sort unextended canonical over nothing
+  any-extension =
+      kinds (λ (k : ℕ). anyExtension .valid (of k) ≡ leb k 2 && anyExtension .valid (of k)) refl refl refl refl refl refl
+      (λ k h. simp (other-kind, other-kind', past-kind)) (x .kind)
 
   some-extension : cond (eqb (x .kind) 0) (sameExtension noExtension x) (someExtension .valid x) ≡ leb (x .kind) 2 && anyExtension .valid x
-  some-extension = some-of (x .count) (x .octets) (x .kind)
+  unfolding someExtension anyExtension sort extensionAt unextended canonical over nothing cons
+  some-extension =
+      kinds (λ (k : ℕ). cond (eqb k 0) (sameExtension noExtension (of k)) (someExtension .valid (of k)) ≡ leb k 2 && anyExtension .valid (of k))
+      (sym (and-true _)) refl refl refl refl refl (λ k h. simp (other-kind, other-kind', past-kind)) (x .kind)
 
 -- ---- a test of equality of bodies, and a test of what it holds
 
@@ -138,8 +124,8 @@ module _ (p : ℕ) (b : Body) where
       let v = leb (length xs) 7 && all (λ n. leb n 6) xs in
       ap (λ (t : Bool). sameBody (askingFor xs) bare && (leb (length xs) 7 && t)) (up-to-six xs)
       ∙ inner-of 0 0 (record { count = length xs; places = pad 7 0 xs }) noAssociation noCharge b v
-      ∙ modes-order noDetail noEntity (sameModes (record { count = length xs; places = pad 7 0 xs }) (b .modes)) nameless (sameCharge noCharge (b .charge)) v
-      ∙ ap (λ (t : Bool). (noDetail && noEntity) && (someModes (b .modes) && (nameless && t))) (none-fits (b .charge) 59 (λ k. kindless 59 k refl refl refl) refl)
+      ∙ rw (← none-fits (b .charge) 59 (λ k. kindless 59 k refl refl refl) refl)
+      (modes-order noDetail noEntity (sameModes (record { count = length xs; places = pad 7 0 xs }) (b .modes)) nameless (sameCharge noCharge (b .charge)) v)
 
   -- any form whose detail alone is its own
   detail-inner : (form most : ℕ) → ((k : ℕ) → kindFine form k ≡ eqb k 0) → otherFine form (otherOf b) ≡ sameAssociation noAssociation (otherOf b)
@@ -148,16 +134,13 @@ module _ (p : ℕ) (b : Body) where
   detail-inner form most h o =
       simp leb·zero
       (inner-of (b .detail) 0 noModes noAssociation noCharge b (leb (b .detail) most)
-      ∙ ap (λ (t : Bool). ((t && noEntity) && (modeless && nameless)) && (sameCharge noCharge (b .charge) && leb (b .detail) most)) (eqb-self (b .detail))
-      ∙ detail-order noEntity modeless nameless (sameCharge noCharge (b .charge)) (leb (b .detail) most)
-      ∙ ap (λ (t : Bool). (leb (b .detail) most && noEntity) && (modeless && (nameless && t))) (none-fits (b .charge) form h o))
+      ∙ rw (eqb-self (b .detail), ← none-fits (b .charge) form h o) (detail-order noEntity modeless nameless (sameCharge noCharge (b .charge)) (leb (b .detail) most)))
 
   charge-inner : (f : Run Charge) → (charged f) .valid bare ≡ (noDetail && noEntity) && (modeless && (nameless && f .valid (b .charge)))
   unfolding charged canonical over
   charge-inner f =
       inner-of 0 0 noModes noAssociation (b .charge) b (f .valid (b .charge))
-      ∙ ap (λ (t : Bool). ((noDetail && noEntity) && (modeless && nameless)) && (t && f .valid (b .charge))) (chargeEqual .self (b .charge))
-      ∙ charge-order noDetail noEntity modeless nameless (f .valid (b .charge))
+      ∙ rw (chargeEqual .self (b .charge)) (charge-order noDetail noEntity modeless nameless (f .valid (b .charge)))
 
   -- a user, and another number beside no charge
   abbrev bareOther : Bool
@@ -174,9 +157,7 @@ module _ (p : ℕ) (b : Body) where
       let w = (association true) .valid (otherOf b) in
       joined 64 _ refl
       (inner-of 0 0 noModes (b .user) (associated (otherOf b) noCharge) b (v && w)
-      ∙ ap (λ (t : Bool). ((noDetail && noEntity) && (modeless && t)) && (bareOther && (v && w))) (associationEqual .self (b .user))
-      ∙ users-order noDetail noEntity modeless bareOther v w
-      ∙ ap (λ (t : Bool). (noDetail && noEntity) && (modeless && (v && t))) (other-fits (b .charge) 64 (λ k. kindless 64 k refl refl refl)))
+      ∙ rw (associationEqual .self (b .user), ← other-fits (b .charge) 64 (λ k. kindless 64 k refl refl refl)) (users-order noDetail noEntity modeless bareOther v w))
 
   diverted-body : diverted .valid b ≡ bodyFine 65 p b
   unfolding diverted canonical over pair prim number innerFine detailFine entityFine modesFine userFine otherFine mostExtension
@@ -186,9 +167,8 @@ module _ (p : ℕ) (b : Body) where
       joined 65 _ refl
       (simp leb·zero
       (inner-of (b .detail) 0 noModes (b .user) (associated (otherOf b) noCharge) b (v && (w && leb (b .detail) 3))
-      ∙ ap₂ (λ (s t : Bool). ((s && noEntity) && (modeless && t)) && (bareOther && (v && (w && leb (b .detail) 3)))) (eqb-self (b .detail)) (associationEqual .self (b .user))
-      ∙ diverted-order noEntity modeless bareOther v w (leb (b .detail) 3)
-      ∙ ap (λ (t : Bool). (leb (b .detail) 3 && noEntity) && (modeless && (v && t))) (other-fits (b .charge) 65 (λ k. kindless 65 k refl refl refl))))
+      ∙ rw (eqb-self (b .detail), associationEqual .self (b .user), ← other-fits (b .charge) 65 (λ k. kindless 65 k refl refl refl))
+      (diverted-order noEntity modeless bareOther v w (leb (b .detail) 3))))
 
   modes-body : (extended modes) .valid b ≡ bodyFine 59 p b
   unfolding mostExtension
@@ -254,9 +234,8 @@ module _ (p : ℕ) (b : Body) where
   rejected-body =
       let v = problemFine p (b .detail) in
       parts-of (b .detail) 0 noModes noAssociation noExtension noCharge b v
-      ∙ ap₂ (λ (s t : Bool). (((s && noEntity) && (modeless && nameless)) && (sameCharge noCharge (b .charge) && v)) && t) (eqb-self (b .detail)) (no-extension (b .extension))
-      ∙ ap (λ (t : Bool). t && (leb (b .extension .kind) 0 && anyExtension .valid (b .extension))) (detail-order noEntity modeless nameless (sameCharge noCharge (b .charge)) v
-      ∙ ap (λ (t : Bool). (v && noEntity) && (modeless && (nameless && t))) (none-fits (b .charge) 4 (λ k. kindless 4 k refl refl refl) refl))
+      ∙ rw (eqb-self (b .detail), no-extension (b .extension), ← none-fits (b .charge) 4 (λ k. kindless 4 k refl refl refl) refl)
+      (ap (λ (t : Bool). t && (leb (b .extension .kind) 0 && anyExtension .valid (b .extension))) (detail-order noEntity modeless nameless (sameCharge noCharge (b .charge)) v))
 
   pub network-body : network .valid b ≡ bodyFine 10 p b
   unfolding network canonical over pair prim number bodyFine innerFine detailFine entityFine modesFine userFine otherFine extensionFine mostExtension
@@ -267,11 +246,14 @@ module _ (p : ℕ) (b : Body) where
       let e = leb (b .entity) 1 in
       simp (leb·zero, address-is)
       (parts-of (b .detail) (b .entity) noModes (b .user) noExtension (associated (otherOf b) noCharge) b (d && (v && (e && w)))
-      ∙ ap₂ (λ (s t : Bool). (((s && eqb (b .entity) (b .entity)) && (modeless && t)) && (bareOther && (d && (v && (e && w))))) && sameExtension noExtension (b .extension))
-      (eqb-self (b .detail)) (associationEqual .self (b .user))
-      ∙ ap₂ (λ (s t : Bool). ((s && (modeless && true)) && (bareOther && (d && (v && (e && w))))) && t) (eqb-self (b .entity)) (no-extension (b .extension))
-      ∙ ap (λ (t : Bool). t && (leb (b .extension .kind) 0 && anyExtension .valid (b .extension))) (network-order modeless bareOther d v e w
-      ∙ ap (λ (t : Bool). (d && e) && (modeless && (v && t))) (other-fits (b .charge) 10 (λ k. kindless 10 k refl refl refl))))
+      ∙ rw (
+        eqb-self (b .detail),
+        eqb-self (b .entity),
+        associationEqual .self (b .user),
+        no-extension (b .extension),
+        ← other-fits (b .charge) 10 (λ k. kindless 10 k refl refl refl),
+      )
+      (ap (λ (t : Bool). t && (leb (b .extension .kind) 0 && anyExtension .valid (b .extension))) (network-order modeless bareOther d v e w)))
 
 -- ---- by the operation, and by the error
 

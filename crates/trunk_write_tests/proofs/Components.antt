@@ -2,13 +2,13 @@
 use Rattle.prelude.proofs.Prelude.{ℕ, _+_, _≡_, refl, sym, ap, subst, _∙_, arith, Bool, true, false, _&&_, cond, leb, eqb, leb·zero, eqb-true, eqb-false, ne-eqb, _⊎_, inl, inr}
 use Rattle.coding.{specs.Codec.oneOf, specs.Codec.prim, specs.Codec.cons, specs.Codec.alt, specs.Codec.canonical, specs.Codec.over, specs.Codec.sort, specs.Codec.frames}
 use Rattle.coding.{specs.Codec.leads, specs.Codec.barring, specs.Codec.marked, specs.Codec.pickRun, specs.Leaves.number, specs.Leaves.nullLeaf, specs.Leaves.identifier}
-use Rattle.coding.{specs.Leaves.listed, proofs.Tests.ands, proofs.Tests.and-assoc, proofs.Tests.and-true, proofs.Tests.eqb-self}
+use Rattle.coding.{specs.Leaves.listed, proofs.Tests.ands, proofs.Tests.and-assoc, proofs.Tests.and-true, proofs.Tests.and-false, proofs.Tests.eqb-self}
 use Rattle.prelude.proofs.Ways.{by-cases}
 use Rattle.types.specs.{declared.Record.Record, Frames.value, Frames.reject, Frames.caller, Frames.problem, Frames.problems, Frames.frontBy, Frames.uncharged, Frames.rejects}
 use Rattle.types.specs.{Frames.sameRecord}
 use Rattle.trunk_types.{specs.declared.Body.Body, specs.declared.Lead.Lead, specs.declared.Trunk.Trunk, specs.Bodies.detailed, specs.Bodies.extending, specs.Bodies.sameBody}
 use Rattle.trunk_types.{specs.Bodies.network, specs.Bodies.argumentOf, specs.Bodies.resultOf, specs.Extensions.parameter, specs.Extensions.unextended, proofs.BodyLaws.bodyEqual}
-use Rattle.trunk_types.specs.Components.{leadBy, trunkBy, sameLead, tags, trunkOperations, answerable, trunkErrors, carryingBody, trunkInvoke, trunkResult, failing, trunkError}
+use Rattle.trunk_types.specs.Components.{leadBy, trunkBy, tags, trunkOperations, answerable, trunkErrors, carryingBody, trunkInvoke, trunkResult, failing, trunkError}
 use Rattle.trunk_types.specs.Components.{rejected, facility, trunkFrame, trunkComponent}
 use Rattle.write_heads.specs.inner.Fronts.{problemFine}
 use Rattle.trunk_write_tests.specs.inner.Fine.{isPattern, calledBy, leadFine, formOf, bodyFine, trunkFine}
@@ -47,16 +47,19 @@ unfolding oneOf
 tag = (refl, (refl, (refl, (refl, refl))))
 
 -- tests in another order, where what a body is tested by hangs on the operation
-carried : (i o s x y : Bool) → (o ≡ true → x ≡ y) → i && (o && ((s && true) && x)) ≡ (i && (o && s)) && y
-carried false o s x y h = refl
-carried true false s x y h = refl
-carried true true s x y h = ap (λ (t : Bool). t && x) (and-true s) ∙ ap (λ (t : Bool). s && t) (h refl)
+carried : (i o u e p x y : Bool) → (o ≡ true → x ≡ y) → i && (o && ((((u && e) && p) && true) && x)) ≡ (u && (p && (e && (i && o)))) && y
+carried false o u e p x y h = simp ands
+carried true false u e p x y h = simp ands
+carried true true u e p x y h = rw (h refl) (simp ands)
 
-failed-order : (i o s t v : Bool) → i && (o && ((s && t) && v)) ≡ (i && (o && s)) && (t && v)
-failed-order i o s t v = simp ands
+failed-order : (i x u o p t v : Bool) → i && (x && ((((u && true) && (o && p)) && t) && v)) ≡ (u && (p && (o && (i && x)))) && (t && v)
+failed-order i x u o p t v = simp ands
 
-rejected-order : (s t c v : Bool) → (s && t) && (c && v) ≡ (c && s) && (t && v)
-rejected-order s t c v = simp ands
+rejected-order : (e o c t v : Bool) → ((e && (o && true)) && t) && (c && v) ≡ (e && (o && c)) && (t && v)
+rejected-order e o c t v = simp ands
+
+network-order : (u i e o p v : Bool) → (((u && (i && e)) && (o && p)) && true) && v ≡ (u && (p && (e && (i && (o && true))))) && v
+network-order u i e o p v = simp ands
 
 module _ (u i e o p : ℕ) (b : Body) where
   abbrev lead : ℕ → Lead
@@ -65,41 +68,54 @@ module _ (u i e o p : ℕ) (b : Body) where
   abbrev Law : ℕ → Type 0
   Law k = trunkComponent .valid (trunkBy (lead k) b) ≡ trunkFine (trunkBy (lead k) b)
 
+  -- tests that the lead has no such part
+  abbrev named : Bool
+  named = eqb 0 u
+
+  abbrev noError : Bool
+  noError = eqb 0 e
+
+  abbrev noOperation : Bool
+  noOperation = eqb 0 o
+
+  abbrev noProblem : Bool
+  noProblem = eqb 0 p
+
   valid-1 : Law 1
   unfolding trunkComponent frames trunkFrame trunkInvoke leads value barring prim listed identifier carryingBody canonical over marked trunkFine leadFine formOf
   valid-1 =
-      rw (tag .0, bodyEqual .self b)
-      (carried (isPattern i) (oneOf trunkOperations o) (sameLead (leadBy 1 0 i 0 o 0) (lead 1)) ((argumentOf o) .valid b) (bodyFine o p b) (argument-body p b o))
+      rw (tag .0, bodyEqual .self b, eqb-self i, eqb-self o)
+      (carried (isPattern i) (oneOf trunkOperations o) named noError noProblem ((argumentOf o) .valid b) (bodyFine o p b) (argument-body p b o))
 
   valid-2 : Law 2
   unfolding trunkComponent frames trunkFrame trunkResult leads value barring prim cons listed identifier carryingBody canonical over marked trunkFine leadFine formOf
   valid-2 =
-      rw (tag .1 .0, bodyEqual .self b)
-      (carried (isPattern i) (oneOf answerable o) (sameLead (leadBy 2 0 i 0 o 0) (lead 2)) ((resultOf o) .valid b) (bodyFine (cond (eqb o 59) 1 2) p b) (result-body p b o))
+      rw (tag .1 .0, bodyEqual .self b, eqb-self i, eqb-self o)
+      (carried (isPattern i) (oneOf answerable o) named noError noProblem ((resultOf o) .valid b) (bodyFine (cond (eqb o 59) 1 2) p b) (result-body p b o))
 
   valid-3 : Law 3
   unfolding trunkComponent frames trunkFrame trunkError leads value barring prim listed identifier failing canonical over trunkFine leadFine formOf
   valid-3 =
-      rw (tag .1 .1 .0)
-      (failed-order (isPattern i) (oneOf trunkErrors e) (sameLead (leadBy 3 0 i e 0 0) (lead 3)) (sameBody (extending (b .extension)) b)
+      rw (tag .1 .1 .0, eqb-self i, eqb-self e)
+      (failed-order (isPattern i) (oneOf trunkErrors e) named noOperation noProblem (sameBody (extending (b .extension)) b)
       ((pickRun (eqb e 1008) parameter unextended) .valid (b .extension))
-      ∙ ap (λ (t : Bool). (isPattern i && (oneOf trunkErrors e && sameLead (leadBy 3 0 i e 0 0) (lead 3))) && t) (error-body p b e))
+      ∙ ap (λ (t : Bool). (named && (noProblem && (noOperation && (isPattern i && oneOf trunkErrors e)))) && t) (error-body p b e))
 
   valid-4 : Law 4
   unfolding trunkComponent frames trunkFrame rejected canonical over trunkFine leadFine formOf
   valid-4 =
-      let s = sameLead (leadBy 4 u i 0 0 p) (lead 4) in
       let t = sameBody (detailed (b .detail)) b in
-      rw (tag .1 .1 .1 .0)
-      (ap (λ (r : Bool). (s && t) && r) (reject-is u i p (b .detail)) ∙ rejected-order s t (calledBy (lead 4)) (problemFine p (b .detail))
-      ∙ ap (λ (r : Bool). (calledBy (lead 4) && s) && r) (rejected-body p b))
+      rw (tag .1 .1 .1 .0, eqb-self u, eqb-self i, eqb-self p)
+      (ap (λ (r : Bool). ((noError && (noOperation && true)) && t) && r) (reject-is u i p (b .detail))
+      ∙ rejected-order noError noOperation (calledBy (lead 4)) t (problemFine p (b .detail))
+      ∙ ap (λ (r : Bool). (noError && (noOperation && calledBy (lead 4))) && r) (rejected-body p b))
 
   valid-10 : Law 10
   unfolding trunkComponent frames trunkFrame facility canonical over marked trunkFine leadFine formOf
   valid-10 =
       rw (tag .1 .1 .1 .1, bodyEqual .self b)
-      (ap (λ (t : Bool). t && network .valid b) (and-true (sameLead (leadBy 10 0 0 0 0 0) (lead 10)))
-      ∙ ap (λ (t : Bool). sameLead (leadBy 10 0 0 0 0 0) (lead 10) && t) (network-body p b))
+      (network-order named (eqb 0 i) noError noOperation noProblem (network .valid b)
+      ∙ ap (λ (t : Bool). (named && (noProblem && (noError && (eqb 0 i && (noOperation && true))))) && t) (network-body p b))
 
   module _ (k : ℕ) (h1 : k ≡ 1 → ⊥) (h2 : k ≡ 2 → ⊥) (h3 : k ≡ 3 → ⊥) (h4 : k ≡ 4 → ⊥) (h10 : k ≡ 10 → ⊥) where
     none : Law k
@@ -115,7 +131,8 @@ module _ (u i e o p : ℕ) (b : Body) where
           ne-eqb k 2 h2,
           ne-eqb k 3 h3,
           ne-eqb k 4 h4,
-          ne-eqb 10 k (λ z. h10 (sym z)),
+          ne-eqb k 10 h10,
+          and-false,
         )
 
   any : (k : ℕ) → Law k

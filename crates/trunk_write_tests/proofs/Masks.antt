@@ -4,7 +4,7 @@ use Rattle.prelude.proofs.Ways.{by-cases}
 use Rattle.coding.{proofs.Tests.ands, proofs.Tests.and-assoc, proofs.Tests.and-true, proofs.Basic.picked, proofs.Basic.unpicked}
 use Rattle.types.specs.{declared.Association.Association, declared.Figure.Figure, declared.Entries.Entries, Charges.noAssociation, Charges.sameAssociation, Charges.money}
 use Rattle.types.{specs.Stored.figureIn, specs.Stored.moneyIn, specs.Stored.associationIn, proofs.Stored.spread, proofs.Stored.by-octets}
-use Rattle.write_tests.{specs.inner.Masks.bareMask, proofs.Masks.noneMoney, proofs.Masks.noneAssociated, proofs.Masks.unassociated, proofs.Masks.with-money, proofs.Masks.without-money}
+use Rattle.write_masks.{specs.inner.Masks.bareMask, proofs.Masks.noneMoney, proofs.Masks.noneAssociated, proofs.Masks.unassociated, proofs.Masks.with-money, proofs.Masks.without-money}
 use Rattle.write_tests.proofs.Tests.{association-0}
 use Rattle.trunk_write_tests.specs.{inner.Fine.names, inner.Fine.kindFine, inner.Fine.billedFine, inner.Fine.markedFine, inner.Fine.amountIf}
 use Rattle.trunk_write_tests.specs.{inner.Fine.otherFine, inner.Fine.listIf, inner.Fine.chargeFits, inner.Masks.billedMask, inner.Masks.billedBy, inner.Masks.maskedFits}

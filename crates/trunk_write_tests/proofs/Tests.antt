@@ -1,66 +1,24 @@
 -- The tests of a component's parts, in the order in which the code makes them.
 use Rattle.prelude.proofs.Prelude.{ℕ, _+_, _-_, _≤_, _<_, _≡_, refl, sym, ap, ap₂, _∙_, List, [], _∷_, _++_, Bool, true, false, not, _&&_, _||_, cond, arith, length, getD, take}
 use Rattle.prelude.proofs.Prelude.{drop, length-drop, take-take, take-all, drop-drop, drop-append-seam, replicate, ltb, leb, eqb, lt-ltb, eq-eqb, ne-eqb, eqb-true, eqb-false}
-use Rattle.prelude.proofs.Prelude.{leb-true, le-leb, lt-leb, ltb-true, not-true, not-false}
-use Rattle.coding.{specs.Reader.part, specs.Contents.every, specs.Codec.all, specs.Codec.oneOf, specs.Codec.sameList, proofs.Parts.part-length, proofs.Parts.part-split}
+use Rattle.prelude.proofs.{Prelude.{leb-true, le-leb, lt-leb, ltb-true, not-true, not-false}, Ways.by-cases}
+use Rattle.coding.{specs.Reader.part, specs.Contents.every, specs.Codec.all, specs.Codec.sameList, proofs.Parts.part-length, proofs.Parts.part-split}
 use Rattle.coding.{specs.Codec.sort, specs.Codec.canonical, specs.Codec.over, specs.Codec.nothing, specs.Codec.Run, specs.Codec.cons}
-use Rattle.prelude.proofs.Ways.{by-cases}
-use Rattle.coding.proofs.Tests.{ands, and-true, and-assoc, eqb-self}
+use Rattle.coding.proofs.Tests.{ands, and-true, and-assoc}
 use Rattle.types.specs.{declared.Association.Association, declared.Charge.Charge, Stored.associationIn}
 use Rattle.types.specs.{Charges.noAssociation, Charges.sameAssociation, Charges.partyNumber}
-use Rattle.trunk_types.specs.{declared.Lead.Lead, declared.Trunk.Trunk, Components.trunkComponent, Components.trunkOperations, Components.answerable, Components.trunkErrors}
-use Rattle.trunk_types.specs.{Stored.modesIn, Stored.extensionIn, Stored.bodyIn}
+use Rattle.trunk_types.specs.{declared.Lead.Lead, declared.Trunk.Trunk, Components.trunkComponent}
+use Rattle.trunk_types.specs.{Stored.modesIn, Stored.extensionIn, Stored.leadIn, Stored.bodyIn, Stored.trunkIn}
 use Rattle.trunk_types.specs.Extensions.{noExtension, sameExtension, inOne, inList, extensionAt, unextended, anyExtension}
 use Rattle.trunk_read_extensions.specs.inner.Judges.{insideOf}
-use Rattle.write_tests.proofs.Truth.{same-truth}
-use Rattle.write_tests.proofs.Tests.{counted-is, zeros-below, few-taken, first-part}
+use Rattle.write_tests.proofs.{Truth.same-truth, Tests.{counted-is, zeros-below, few-taken, first-part}}
 use Rattle.trunk_write_tests.specs.inner.Fine.{leadFine, formOf, trunkFine, numberIf, detailFine, entityFine, someModes, modesFine, userFine}
 use Rattle.trunk_write_tests.specs.inner.Fine.{chargeFits, mostExtension, extensionFine, innerFine, bodyFine, frontFits}
 use Rattle.trunk_write_tests.proofs.Components.{component-fine}
 
--- ---- the lead, by the frame
-
-asked-order : (o u e p : Bool) → o && ((u && e) && p) ≡ (u && (e && p)) && o
-asked-order o u e p = simp ands
-
-failed-order : (x u o p : Bool) → x && ((u && true) && (o && p)) ≡ (u && (o && p)) && x
-failed-order x u o p = simp ands
-
-rejected-order : (c e o : Bool) → c && (e && (o && true)) ≡ (e && o) && c
-rejected-order c e o = simp ands
-
-network-order : (u i e o p : Bool) → (u && (i && e)) && (o && p) ≡ u && (i && (e && (o && p)))
-network-order u i e o p = simp ands
-
-module _ (l : Lead) where
-  pub invoke-is : l .frame ≡ 1 → l .id < 0x10000 → leadFine l ≡ (eqb 0 (l .unnamed) && (eqb 0 (l .error) && eqb 0 (l .problem))) && oneOf trunkOperations (l .operation)
-  unfolding leadFine
-  invoke-is q h =
-      rw (q, lt-ltb (l .id) 0x10000 h, eqb-self (l .id), eqb-self (l .operation))
-      (asked-order (oneOf trunkOperations (l .operation)) (eqb 0 (l .unnamed)) (eqb 0 (l .error)) (eqb 0 (l .problem)))
-
-  pub result-is : l .frame ≡ 2 → l .id < 0x10000 → leadFine l ≡ (eqb 0 (l .unnamed) && (eqb 0 (l .error) && eqb 0 (l .problem))) && oneOf answerable (l .operation)
-  unfolding leadFine
-  result-is q h =
-      rw (q, lt-ltb (l .id) 0x10000 h, eqb-self (l .id), eqb-self (l .operation))
-      (asked-order (oneOf answerable (l .operation)) (eqb 0 (l .unnamed)) (eqb 0 (l .error)) (eqb 0 (l .problem)))
-
-  pub error-is : l .frame ≡ 3 → l .id < 0x10000 → leadFine l ≡ (eqb 0 (l .unnamed) && (eqb 0 (l .operation) && eqb 0 (l .problem))) && oneOf trunkErrors (l .error)
-  unfolding leadFine
-  error-is q h =
-      rw (q, lt-ltb (l .id) 0x10000 h, eqb-self (l .id), eqb-self (l .error))
-      (failed-order (oneOf trunkErrors (l .error)) (eqb 0 (l .unnamed)) (eqb 0 (l .operation)) (eqb 0 (l .problem)))
-
-  pub reject-is : l .frame ≡ 4 → l .id < 0x10000 → leadFine l ≡ (eqb 0 (l .error) && eqb 0 (l .operation)) && cond (eqb (l .unnamed) 1) (eqb 0 (l .id)) (eqb 0 (l .unnamed))
-  unfolding leadFine
-  reject-is q h =
-      rw (q, lt-ltb (l .id) 0x10000 h, and-true (eqb 0 (l .unnamed)), eqb-self (l .unnamed), eqb-self (l .id), eqb-self (l .problem))
-      (rejected-order (cond (eqb (l .unnamed) 1) (eqb 0 (l .id)) (eqb 0 (l .unnamed))) (eqb 0 (l .error)) (eqb 0 (l .operation)))
-
-  pub network-is : l .frame ≡ 10
-      → leadFine l ≡ eqb 0 (l .unnamed) && (eqb 0 (l .id) && (eqb 0 (l .error) && (eqb 0 (l .operation) && eqb 0 (l .problem))))
-  unfolding leadFine
-  network-is q = rw q (network-order (eqb 0 (l .unnamed)) (eqb 0 (l .id)) (eqb 0 (l .error)) (eqb 0 (l .operation)) (eqb 0 (l .problem)))
+-- a test for zero, as a type has it
+pub zero-eqb : (n : ℕ) → eqb n 0 ≡ eqb 0 n
+zero-eqb n = same-truth (eqb n 0) (eqb 0 n) (λ h. eq-eqb 0 n (sym (eqb-true n 0 h))) (λ h. eq-eqb n 0 (sym (eqb-true 0 n h)))
 
 -- ---- the modes, where they lie in the front
 
@@ -236,10 +194,15 @@ pub as-front : {r : Bool} (k p : ℕ) (s : List ℕ) (u : Association) → u ≡
 unfolding frontFits
 as-front k p s u q h = rw (← q) h
 
-pub as-body : {r : Bool} (k p : ℕ) (s x : List ℕ) (c : Charge) → r ≡ frontFits k p s && (chargeFits k c && extensionFine k (extensionIn x)) → r ≡ bodyFine k p (bodyIn s x c)
+body-is : (k p : ℕ) (s x : List ℕ) (c : Charge) → frontFits k p s && (chargeFits k c && extensionFine k (extensionIn x)) ≡ bodyFine k p (bodyIn s x c)
 unfolding frontFits bodyFine innerFine bodyIn
-as-body k p s x c h = h ∙ simp and-assoc
+body-is k p s x c = simp and-assoc
 
-pub as-trunk : {r : Bool} (t : Trunk) (l : Lead) → l ≡ t .lead → r ≡ leadFine l && bodyFine (formOf l) (l .problem) (t .body) → r ≡ trunkComponent .valid t
+by-form : {r : Bool} (t : Trunk) (l : Lead) {k : ℕ} → l ≡ t .lead → k ≡ formOf l → r ≡ leadFine l && bodyFine k (l .problem) (t .body) → r ≡ trunkComponent .valid t
 unfolding trunkFine
-as-trunk t l q h = rw (component-fine t, ← q) h
+by-form t l q f h = rw (component-fine t, ← q, ← f) h
+
+pub as-trunk : {r : Bool} (s x : List ℕ) (c : Charge) (l : Lead) {k : ℕ} → l ≡ leadIn s → k ≡ formOf l
+    → r ≡ leadFine l && (frontFits k (l .problem) s && (chargeFits k c && extensionFine k (extensionIn x))) → r ≡ trunkComponent .valid (trunkIn s x c)
+unfolding trunkIn
+as-trunk s x c l q f h = by-form (trunkIn s x c) l q f (h ∙ ap (λ (t : Bool). leadFine l && t) (body-is _ (l .problem) s x c))

@@ -18,9 +18,9 @@ ghost use Rattle.types.specs.Charges.{association};
 ghost use lib.Dec.{eqb};
 ghost use lib.ListN.{length, getD};
 ghost use Rattle.types.specs.Stored.{storedCharge, associationIn};
-ghost use Rattle.trunk_types.specs.Stored.{leadIn, modesIn, extensionIn, bodyIn, trunkIn};
+ghost use Rattle.trunk_types.specs.Stored.{leadIn, modesIn, extensionIn, trunkIn};
 ghost use Rattle.trunk_types.specs.Components.{trunkComponent};
-ghost use Rattle.trunk_write_tests.specs.inner.Fine.{leadFine, formOf, detailFine, entityFine, modesFine, numberIf, names, userFine, otherFine, kindFine, isBilling, listIf, chargeFits, mostExtension, extensionFine, frontFits, bodyFine};
+ghost use Rattle.trunk_write_tests.specs.inner.Fine.{leadFine, formOf, detailFine, entityFine, modesFine, numberIf, names, userFine, otherFine, kindFine, isBilling, listIf, chargeFits, mostExtension, extensionFine, frontFits};
 ghost use Rattle.trunk_write_tests.specs.inner.Masks.{billedBy, maskedFits};
 
 // As wide as a lead has it.
@@ -41,109 +41,49 @@ fn lead_of(front: &[u8; 48]) -> Lead
     }
 }
 
-fn invoke_fine(l: Lead) -> bool
-    requires { ⌜ l .frame ≡ 1 ⌝ }
-    ensures { λ r. ⌜ r ≡ leadFine l ⌝ }
-{
-    if l.unnamed != 0 {
-        return false;
-    }
-    if l.error != 0 {
-        return false;
-    }
-    if l.problem != 0 {
-        return false;
-    }
-    trunk_read_heads::known_operation(l.operation as u32)
-}
-
-fn result_fine(l: Lead) -> bool
-    requires { ⌜ l .frame ≡ 2 ⌝ }
-    ensures { λ r. ⌜ r ≡ leadFine l ⌝ }
-{
-    if l.unnamed != 0 {
-        return false;
-    }
-    if l.error != 0 {
-        return false;
-    }
-    if l.problem != 0 {
-        return false;
-    }
-    trunk_read_heads::is_answerable(l.operation as u32)
-}
-
-fn error_fine(l: Lead) -> bool
-    requires { ⌜ l .frame ≡ 3 ⌝ }
-    ensures { λ r. ⌜ r ≡ leadFine l ⌝ }
-{
-    if l.unnamed != 0 {
-        return false;
-    }
-    if l.operation != 0 {
-        return false;
-    }
-    if l.problem != 0 {
-        return false;
-    }
-    trunk_read_heads::known_error(l.error as u32)
-}
-
-fn reject_fine(l: Lead) -> bool
-    requires { ⌜ l .frame ≡ 4 ⌝ }
-    ensures { λ r. ⌜ r ≡ leadFine l ⌝ }
-{
-    if l.error != 0 {
-        return false;
-    }
-    if l.operation != 0 {
-        return false;
-    }
-    write_heads::is_called(l.unnamed, l.id)
-}
-
-// A network facility extension has no identifier.
-fn network_fine(l: Lead) -> bool
-    requires { ⌜ l .frame ≡ 10 ⌝ }
-    ensures { λ r. ⌜ r ≡ leadFine l ⌝ }
-{
-    if l.unnamed != 0 {
-        return false;
-    }
-    if l.id != 0 {
-        return false;
-    }
-    if l.error != 0 {
-        return false;
-    }
-    if l.operation != 0 {
-        return false;
-    }
-    if l.problem != 0 {
-        return false;
-    }
-    true
-}
-
+// What a frame does not have is zero.
 fn lead_fine(l: Lead) -> bool
     ensures { λ r. ⌜ r ≡ leadFine l ⌝ }
 {
-    if l.frame == frame::INVOKE {
-        return invoke_fine(l);
+    if l.frame == frame::REJECT {
+        if l.error != 0 {
+            return false;
+        }
+        if l.operation != 0 {
+            return false;
+        }
+        return write_heads::is_called(l.unnamed, l.id);
     }
-    if l.frame == frame::RESULT {
-        return result_fine(l);
+    // No other frame has a problem, or may be unnamed.
+    if l.unnamed != 0 {
+        return false;
+    }
+    if l.problem != 0 {
+        return false;
     }
     if l.frame == frame::ERROR {
-        return error_fine(l);
+        if l.operation != 0 {
+            return false;
+        }
+        return trunk_read_heads::known_error(l.error as u32);
     }
-    if l.frame == frame::REJECT {
-        return reject_fine(l);
+    if l.error != 0 {
+        return false;
     }
-    if l.frame == frame::EXTENSION {
-        return network_fine(l);
+    if l.frame == frame::INVOKE {
+        return trunk_read_heads::known_operation(l.operation as u32);
     }
-    false
+    if l.frame == frame::RESULT {
+        return trunk_read_heads::is_answerable(l.operation as u32);
+    }
+    // A network facility extension has no identifier and no operation.
+    if l.id != 0 {
+        return false;
+    }
+    if l.operation != 0 {
+        return false;
+    }
+    l.frame == frame::EXTENSION
 }
 
 // The form by which a body is tested.
@@ -173,37 +113,23 @@ fn form_of(l: Lead) -> u8
 fn detail_fine(form: u8, problem: u8, detail: u8) -> bool
     ensures { λ r. ⌜ r ≡ detailFine form problem detail ⌝ }
 {
-    if form == form::CHARGE_RESULT {
-        return detail <= 6;
+    match form {
+        form::CHARGE_RESULT => detail <= 6,
+        form::COMPLETE_RESULT => detail <= 2,
+        operation::DIVERSION => detail <= 3,
+        frame::EXTENSION => detail <= 1,
+        frame::REJECT => write_heads::problem_fine(problem, detail),
+        _ => detail == 0,
     }
-    if form == form::COMPLETE_RESULT {
-        return detail <= 2;
-    }
-    if form == operation::DIVERSION {
-        return detail <= 3;
-    }
-    if form == frame::EXTENSION {
-        return detail <= 1;
-    }
-    if form == frame::REJECT {
-        return write_heads::problem_fine(problem, detail);
-    }
-    if detail != 0 {
-        return false;
-    }
-    true
 }
 
 fn entity_fine(form: u8, entity: u8) -> bool
     ensures { λ r. ⌜ r ≡ entityFine form entity ⌝ }
 {
-    if form == frame::EXTENSION {
-        return entity <= 1;
+    match form {
+        frame::EXTENSION => entity <= 1,
+        _ => entity == 0,
     }
-    if entity != 0 {
-        return false;
-    }
-    true
 }
 
 // The modes where they lie in the front: 59 alone has some.
@@ -356,19 +282,14 @@ fn is_billing(form: u8, billing: u8) -> bool
 fn billed_fine(billed: u8, billing: u8, form: u8) -> bool
     ensures { λ r. ⌜ r ≡ billedBy form billed billing ⌝ }
 {
-    if billed == 1 {
-        return is_billing(form, billing);
+    match billed {
+        0 => billing == 0,
+        1 => is_billing(form, billing),
+        _ => false,
     }
-    if billed != 0 {
-        return false;
-    }
-    if billing != 0 {
-        return false;
-    }
-    true
 }
 
-// All but the association and the list, by one mask for each kind (`write_tests::clear_by`).
+// All but the association and the list, by one mask for each kind (`write_masks::clear_by`).
 fn fields_fine(figure: &[u8; 48], associated: bool, form: u8) -> bool
     ensures { λ r. ⌜ r ≡ maskedFits associated form (now (figure .entry)) ⌝ }
 {
@@ -379,7 +300,7 @@ fn fields_fine(figure: &[u8; 48], associated: bool, form: u8) -> bool
         return false;
     }
     if kind == charge_kind::MONEY {
-        if !write_tests::clear_by(
+        if !write_masks::clear_by(
             figure,
             associated,
             b"xxxxxxxxxxxxxxxxxxxxxxxxxxxxxxxxxxxxxxxxxxx.xx.x",
@@ -393,7 +314,7 @@ fn fields_fine(figure: &[u8; 48], associated: bool, form: u8) -> bool
         let m = types_parts::money_of(figure);
         return write_tests::money_fine(m, true);
     }
-    write_tests::clear_by(
+    write_masks::clear_by(
         figure,
         associated,
         b"................xxxxxxxxxxxxxxxxxxxxxxxxxxx....x",
@@ -512,26 +433,6 @@ fn front_fine(front: &[u8; 48], form: u8, problem: u8) -> bool
     user_fine(user, &digits, form)
 }
 
-fn body_fine(
-    front: &[u8; 48],
-    extension: &[u8; 244],
-    figure: &[u8; 48],
-    numbers: &[u32; 32],
-    rows: &[u8; 192],
-    form: u8,
-    problem: u8,
-) -> bool
-    ensures { λ r. ⌜ r ≡ bodyFine form problem (bodyIn (now (front .entry)) (now (extension .entry)) (storedCharge (now (figure .entry)) (now (numbers .entry)) (now (rows .entry)))) ⌝ }
-{
-    if !front_fine(front, form, problem) {
-        return false;
-    }
-    if !charge_fine(figure, numbers, rows, form) {
-        return false;
-    }
-    extension_fine(extension, form)
-}
-
 // Whether the component that lies in the five parts may be written.
 pub fn trunk_fine(
     front: &[u8; 48],
@@ -546,13 +447,12 @@ pub fn trunk_fine(
     if !lead_fine(l) {
         return false;
     }
-    body_fine(
-        front,
-        extension,
-        figure,
-        numbers,
-        rows,
-        form_of(l),
-        l.problem,
-    )
+    let form = form_of(l);
+    if !front_fine(front, form, l.problem) {
+        return false;
+    }
+    if !charge_fine(figure, numbers, rows, form) {
+        return false;
+    }
+    extension_fine(extension, form)
 }

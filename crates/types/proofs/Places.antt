@@ -2,10 +2,8 @@
 use Rattle.prelude.proofs.Prelude.{ℕ, zero, suc, _+_, _-_, _≤_, _≡_, refl, subst, List, [], _∷_, Bool, true, false, cond, arith, length, getD, ltb, leb, eqb}
 use Rattle.coding.specs.declared.Extent.{Extent}
 use Rattle.coding.specs.Reader.{Ans, Reader, Fault, Ruling, after, choice, tagged, neither, extent, numberedAt, endless, marker, turn, searched, findEnd, spanned, lengthAt, opened, closed}
-use Rattle.coding.specs.Reader.{constructed, part, mapped, narrowed, ruled, primitive, optional, entries, listOf}
-use Rattle.coding.specs.Reader.Ans.{got, halt}
-use Rattle.coding.specs.Reader.Ruling.{good, bad}
-use Rattle.coding.specs.Reader.Fault.{missing, unexpected, cut, form, shortest, contents, limit, named}
+use Rattle.coding.specs.{Reader.{constructed, part, mapped, narrowed, ruled, primitive, optional, entries, listOf}, Reader.Ans.{got, halt}}
+use Rattle.coding.specs.{Reader.Ruling.{good, bad}, Reader.Fault.{missing, unexpected, cut, form, shortest, contents, limit, named}}
 use Rattle.coding.specs.Codec.{Leaf, Run, oneOf, simple, prim, cons, nothing, pair, alt, over, maybe, some·more, any·more, leafOver, leads, barring, sort, pickRun}
 use Rattle.coding.specs.Normal.{asJudged, octetString, Several, opening, anyBy, severalBy, severalAt, anyElement, limited, normalForm}
 use Rattle.coding.specs.Contents.{natural, valueOf, negative, numberFrom, text, every, null}

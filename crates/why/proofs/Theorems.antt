@@ -5,8 +5,7 @@ use Rattle.phases.{proofs.Choice.by-number, specs.Phases.Ended, specs.Phases.D,
 use Rattle.outcomes.specs.Outcome.{was, its}
 use Rattle.account.specs.History.{Judged, judged, phase}
 use Rattle.events.proofs.Earliest.{Passes, found, none-found, first}
-use Rattle.why_rules.specs.declared.Reason.{Reason}
-use Rattle.why_rules.specs.Reasons.{passedOver, toldAbsent, unread, because, ifFound, explained, reasonOf}
+use Rattle.why_rules.specs.{declared.Reason.Reason, Reasons.{passedOver, toldAbsent, unread, because, ifFound, explained, reasonOf}}
 
 -- a reason holds with an event (0: with none)
 pub data Holds (h : List Judged) : ℕ → ℕ → Type 0 where

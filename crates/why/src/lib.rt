@@ -32,21 +32,11 @@ fn is_figure(octets: &[u8]) -> bool
     ensures { λ r. ⌜ r ≡ isFigure (readOf (now (octets .entry)) .value) ⌝ }
 {
     let a = read::read(octets);
-    if a.value.front.frame != frame::INVOKE {
-        return false;
-    }
-    if !events::within(
-        operation::D_CURRENCY,
-        a.value.front.operation,
-        operation::E_UNITS,
-    ) {
-        return false;
-    }
-    events::within(
-        charge_kind::FREE,
-        a.value.charge.figure.kind,
-        charge_kind::UNITS,
-    )
+    let front = a.value.front;
+    let kind = a.value.charge.figure.kind;
+    front.frame == frame::INVOKE
+        && (events::within(operation::D_CURRENCY, front.operation, operation::E_UNITS)
+            && events::within(charge_kind::FREE, kind, charge_kind::UNITS))
 }
 
 fn passed_over(o: Outcome, octets: &[u8]) -> bool

@@ -45,19 +45,15 @@ pub struct Seen {
 fn told_absent(o: Outcome) -> bool
     ensures { λ r. ⌜ r ≡ toldAbsent o ⌝ }
 {
-    if outcomes::is_its(o, service::D, outcomes::NOT_AVAILABLE) {
-        return true;
-    }
-    outcomes::is_its(o, service::E, outcomes::NOT_AVAILABLE)
+    outcomes::is_its(o, service::D, outcomes::NOT_AVAILABLE)
+        || outcomes::is_its(o, service::E, outcomes::NOT_AVAILABLE)
 }
 
 fn is_unread(o: Outcome) -> bool
     ensures { λ r. ⌜ r ≡ unread o ⌝ }
 {
-    if events::within(refusal::CUT, o.number, 9) {
-        return true;
-    }
-    events::within(refusal::MISSING, o.number, refusal::PAST_LIMIT)
+    events::within(refusal::CUT, o.number, 9)
+        || events::within(refusal::MISSING, o.number, refusal::PAST_LIMIT)
 }
 
 // ---- one event

@@ -1,9 +1,8 @@
 -- A charge and its front.
 use Rattle.prelude.proofs.Prelude.{ℕ, _≤_, arith, _≡_, refl, ap, sym, _∙_, Bool, true, false, _&&_, _||_, true≢false, cond, [], _∷_, ltb, eqb, ltb-true, ltb-false, eqb-true, eqb-false}
-use Rattle.prelude.proofs.Prelude.{eq-eqb}
+use Rattle.prelude.proofs.{Prelude.eq-eqb, Ways.by-cases}
 use Rattle.coding.{specs.Codec.oneOf, specs.Codec.sort, specs.Codec.canonical, specs.Codec.over, specs.Codec.prim, specs.Leaves.nullLeaf, proofs.Basic.picked, proofs.Basic.unpicked}
 use Rattle.coding.proofs.{Basic.and-left, Basic.and-right, Tests.and-true}
-use Rattle.prelude.proofs.Ways.{by-cases}
 use Rattle.types.{specs.declared.Charge.Charge, specs.Arguments.noCharge, specs.Arguments.sameCharge, specs.Arguments.sign, specs.Arguments.chargeOf, specs.Frames.operations}
 use Rattle.types.{proofs.ArgumentLaws.chargeEqual, specs.declared.Front.Front}
 use Rattle.read_heads.proofs.Codes.{has-below, operation-below}

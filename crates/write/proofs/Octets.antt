@@ -1,10 +1,9 @@
 -- The octets of a record are those of its front and then those of its charge.
 use Rattle.prelude.proofs.Prelude.{ℕ, zero, suc, _+_, arith, _≡_, ap, ap₂, sym, _∙_, Bool, true, false, cond, _⊎_, inl, inr, List, [], _∷_, _++_, append-assoc, append-nil, length}
-use Rattle.prelude.proofs.Prelude.{length-append, eqb}
+use Rattle.prelude.proofs.{Prelude.{length-append, eqb}, Ways.by-cases}
 use Rattle.coding.{specs.Codec.prim, specs.Codec.cons, specs.Codec.alt, specs.Codec.canonical, specs.Codec.over, specs.Codec.sort, specs.Codec.frames, specs.Codec.leads, specs.Codec.barring}
 use Rattle.coding.{specs.Codec.marked, specs.Codec.lengthOctets, specs.Leaves.number, specs.Leaves.identifier, specs.Leaves.listed, specs.inner.Written.Wrote, specs.inner.Written.Room}
 use Rattle.coding.{specs.inner.Written.lead, specs.inner.Written.fullNumber, proofs.Basic.picked, proofs.Basic.unpicked, proofs.Small.small-length, proofs.Small.null-write}
-use Rattle.prelude.proofs.Ways.{by-cases}
 use Rattle.coding.{proofs.Writing.number-write, proofs.Writing.wrote-as, proofs.Writing.Split, proofs.Writing.room-first, proofs.Writing.room-rest, proofs.Writing.room-as}
 use Rattle.coding.{proofs.Writing.wrote-parts}
 use Rattle.types.specs.{declared.Front.Front, declared.Record.Record, declared.Charge.Charge, Arguments.chargeOf, Frames.operations, Frames.errors, Frames.component, Frames.frame}

@@ -1,8 +1,7 @@
 -- What writing answers and leaves, by how many octets there are.
 use Rattle.prelude.proofs.Prelude.{ℕ, _+_, _≤_, _<_, arith, _≡_, refl, ap, sym, Bool, true, not, _∙_, List, _++_, length, length-append, ltb}
-use Rattle.prelude.proofs.Prelude.{ltb-true, ltb-false}
+use Rattle.prelude.proofs.{Prelude.{ltb-true, ltb-false}, Ways.by-cases}
 use Rattle.coding.{specs.inner.Written.Wrote, specs.inner.Written.Room, specs.inner.Written.lead, proofs.Basic.and-left, proofs.Writing.lead-length, proofs.Writing.lead-length-short}
-use Rattle.prelude.proofs.Ways.{by-cases}
 use Rattle.coding.{proofs.Writing.lead-length-long, proofs.Writing.Split, proofs.Writing.room-first, proofs.Writing.room-rest, proofs.Writing.wrote-parts, proofs.Writing.split-length}
 use Rattle.types.specs.{declared.Record.Record, Frames.component}
 use Rattle.write_heads.{specs.inner.Fronts.frontFine, specs.inner.Fronts.frontOctets, proofs.Sizes.front-least}

@@ -4,7 +4,8 @@ use Rattle.prelude.proofs.{Prelude.{eqb, leb·zero, leb-true, le-leb, ne-eqb}, 
 use Rattle.coding.specs.{Codec.{prim, cons, pair, alt, maybe, over, canonical}, Leaves.{number, nullLeaf}, inner.Written.{Wrote, Room, lead}}
 use Rattle.coding.proofs.{Basic.and-left, Writing.{cons-write, number-write, lead-length-short}, Tests.{and-true, and-false, eqb-self}, Small.null-write}
 use Rattle.types.specs.{declared.Units.Units, Entries.unit}
-use Rattle.write_rate.proofs.{Prices.zero-first, Three.Three, Three.three-length, Three.room-1, Three.room-2, Three.room-3}
+use Rattle.write_tests.proofs.Truth.{zero-first}
+use Rattle.write_rate.proofs.{Three.Three, Three.three-length, Three.room-1, Three.room-2, Three.room-3}
 use Rattle.write_charges.specs.inner.Octets.{numberOctets, typeOctets}
 
 -- ---- which may be written

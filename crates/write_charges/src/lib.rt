@@ -204,7 +204,7 @@ pub fn charge_fine(
     requires { ⌜ (length (now numbers) ≡ 32) × (length (now rows) ≡ 192) ⌝ }
     ensures { λ r. ⌜ r ≡ (chargeOf operation) .valid (withList f (now (numbers .entry)) (now (rows .entry))) ⌝ }
 {
-    if !write_tests::parts_fine(figure, operation) {
+    if !write_masks::parts_fine(figure, operation) {
         return false;
     }
     entries_fine(f, numbers, rows)

@@ -1,6 +1,6 @@
 -- The octets of a charge's parts, how many they are, and that each has room where all have.
 use Rattle.prelude.proofs.Prelude.{ℕ, suc, _+_, _≤_, _<_, _≡_, refl, sym, ap, ap₂, _∙_, List, [], _∷_, _++_, Bool, true, false, true≢false, _&&_, _||_, cond}
-use Rattle.prelude.proofs.Prelude.{arith, length, take, length-append, length-take, length-take-le, ltb, leb, leb·zero, eqb, eq-eqb, ne-eqb, eqb-true}
+use Rattle.prelude.proofs.Prelude.{arith, length, take, length-append, length-take, length-take-le, ltb, leb, leb·zero, leb-true, eqb, eq-eqb, ne-eqb, eqb-true}
 use Rattle.prelude.proofs.{Prelude.{eqb-false, le-ltb, ltb-true, ltb-false}, Ways.by-cases}
 use Rattle.coding.specs.{Codec.{canonical, over, shape, prim, pair, sort, nothing, leafOver, cons, lengthOctets, padded}, Leaves.{number, string, identifier}}
 use Rattle.coding.{specs.Leaves.{only, width}, specs.inner.Written.{Wrote, Room, lead, fullNumber}, proofs.Basic.{and-left, and-right, and-both, unpicked}}
@@ -10,8 +10,8 @@ use Rattle.types.specs.{declared.Money.Money, declared.Currency.Currency, decla
 use Rattle.types.specs.{Charges.currency, Charges.money, Charges.isDigit, Charges.isPlan, Charges.digitsLeaf, Charges.digitsOf}
 use Rattle.types.specs.{Charges.identified, Charges.planned, Charges.partyNumber, Charges.plainParty, Charges.party, Charges.unassociated, Charges.association}
 use Rattle.write_figures.specs.inner.Octets.{element, planTag}
-use Rattle.write_tests.{specs.inner.Fine.{digitsFine, isPlanned}, proofs.Truth.truth}
-use Rattle.write_tests.proofs.Tests.{scaled-is, money-is, planned-is, plain-is, number-planned, number-plain, association-number}
+use Rattle.write_tests.{specs.inner.Fine.{digitsFine, isPlanned, planFine}, proofs.Truth.truth}
+use Rattle.write_tests.proofs.Tests.{scaled-is, money-is, number-is, number-private, number-either, association-number}
 
 -- ---- by a test, by the kind of an association, by the time of a charge
 
@@ -200,13 +200,14 @@ told e h = sym e ∙ h
 module _ (a : Association) (v : (partyNumber true) .valid a ≡ true) where
   number-holds : (a .count ≤ 20) × (a .count ≤ length (a .digits)) × (a .plan ≤ 6)
   number-holds =
-      by-cases (isPlanned true (a .kind))
-      (λ e. holding (eqb (a .kind) (a .kind) && (eqb 0 (a .id) && (leb (a .plan) 6 && isPlan (a .plan)))) (λ q. let g = simp truth at q in omega (arith, g))
-      (sym (planned-is 0xa1 (a .kind) a) ∙ sym (number-planned true a e) ∙ v))
-      (λ e. holding (eqb 2 (a .kind) && (eqb 0 (a .id) && eqb 0 (a .plan))) (λ q. let g = simp truth at q in omega (arith, g)) (sym (plain-is a) ∙ sym (number-plain true a e) ∙ v))
-    where
-      holding : (b : Bool) → (b ≡ true → a .plan ≤ 6) → b && digitsFine (a .digits) (a .count) ≡ true → (a .count ≤ 20) × (a .count ≤ length (a .digits)) × (a .plan ≤ 6)
-      holding b p w = omega (arith, p (and-left b _ w), digits-room (a .digits) (a .count) (and-right b _ w))
+      let p = planFine (a .kind) (a .plan) in
+      let r = and-right (eqb 0 (a .id)) _ (sym (number-is a) ∙ v) in
+      let d = digits-room (a .digits) (a .count) (and-right p _ r) in (
+        d .0,
+        d .1,
+        by-test (isPlanned true (a .kind)) (λ e q. leb-true (a .plan) 6 (and-left (leb (a .plan) 6) _ q))
+            (λ e q. omega (arith, eqb-true 0 (a .plan) (and-right (eqb 2 (a .kind)) _ q))) (and-left p _ r),
+      )
 
   pub number-count : a .count ≤ 20
   number-count = number-holds .0
@@ -298,17 +299,8 @@ number-wider : (trunk : Bool) (a : Association) → (partyNumber trunk) .valid a
     → ((partyNumber true) .valid a ≡ true) × ((partyNumber trunk) .write a ≡ (partyNumber true) .write a)
 unfolding partyNumber sort
 number-wider true a v = (v, refl)
-number-wider false a v = by-cases (eqb (a .kind) 3) three plain
-  where
-    three : eqb (a .kind) 3 ≡ true → ((partyNumber true) .valid a ≡ true) × ((partyNumber false) .write a ≡ (partyNumber true) .write a)
-    three e = (rw e (rw e at v), rw e)
-
-    plain : eqb (a .kind) 3 ≡ false → ((partyNumber true) .valid a ≡ true) × ((partyNumber false) .write a ≡ (partyNumber true) .write a)
-    plain e =
-        let w : plainParty .valid a ≡ true = rw e at v in
-        let g = simp truth at (and-left (eqb 2 (a .kind) && (eqb 0 (a .id) && eqb 0 (a .plan))) _ (sym (plain-is a) ∙ w)) in
-        let four = ne-eqb (a .kind) 4 (λ z. omega (arith, g)) in
-        (rw (e, four) w, rw (e, four))
+number-wider false a v =
+    by-number (a .kind) 4 (λ e. absurd (true≢false (sym v ∙ number-private a e))) (λ h. (sym (number-either a h) ∙ v, rw (ne-eqb (a .kind) 4 h)))
 
 -- ---- associations by a number
 

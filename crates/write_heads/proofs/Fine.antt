@@ -27,7 +27,3 @@ pub invoke-yes : (f : Front) (r : Bool) → f .frame ≡ 1 → (f .operation ≡
     → f .unnamed ≡ 0 → f .error ≡ 0 → f .problem ≡ 0 → f .detail ≡ 0 → true ≡ frontFine f
 unfolding frontFine
 invoke-yes f r q o e h u x p d = rw (q, ne-eqb _ _ o, ← e, not-false r h, u, x, p, d) (simp eqb-self)
-
--- whether a charge follows
-pub one-two : (k : ℕ) → k ≡ 1 → eqb k 2 ≡ false
-one-two k e = rw e

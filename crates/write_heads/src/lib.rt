@@ -19,31 +19,22 @@ ghost use Rattle.write_heads.specs.inner.Fronts.{frontFine, frontOctets,
 fn is_operation(n: u8) -> bool
     ensures { λ r. ⌜ r ≡ oneOf operations n ⌝ }
 {
-    if n < operation::CHARGING_REQUEST {
-        return false;
+    match n {
+        operation::CHARGING_REQUEST..=operation::E_UNITS => true,
+        _ => false,
     }
-    if operation::E_UNITS < n {
-        return false;
-    }
-    true
 }
 
 pub fn problem_fine(problem: u8, detail: u8) -> bool
     ensures { λ r. ⌜ r ≡ problemFine problem detail ⌝ }
 {
-    if problem == 0x80 {
-        return detail <= 2;
+    match problem {
+        0x80 => detail <= 2,
+        0x81 => detail <= 7,
+        0x82 => detail <= 2,
+        0x83 => detail <= 4,
+        _ => false,
     }
-    if problem == 0x81 {
-        return detail <= 7;
-    }
-    if problem == 0x82 {
-        return detail <= 2;
-    }
-    if problem != 0x83 {
-        return false;
-    }
-    detail <= 4
 }
 
 // Operation 30 of an invoke asks for a service.
@@ -151,50 +142,36 @@ fn reject_fine(f: types::Front) -> bool
 pub fn is_called(unnamed: u8, id: u16) -> bool
     ensures { λ r. ⌜ r ≡ cond (eqb unnamed 1) (eqb 0 id) (eqb 0 unnamed) ⌝ }
 {
-    if unnamed == 1 {
-        if id != 0 {
-            return false;
-        }
-        return true;
+    match unnamed {
+        0 => true,
+        1 => 0 == id,
+        _ => false,
     }
-    if unnamed != 0 {
-        return false;
-    }
-    true
 }
 
 pub fn front_fine(f: types::Front) -> bool
     ensures { λ r. ⌜ r ≡ frontFine f ⌝ }
 {
-    if f.frame == frame::INVOKE {
-        return invoke_fine(f);
+    let frame = f.frame;
+    match frame {
+        frame::INVOKE => invoke_fine(f),
+        frame::RESULT => result_fine(f),
+        frame::ERROR => error_fine(f),
+        frame::REJECT => reject_fine(f),
+        _ => false,
     }
-    if f.frame == frame::RESULT {
-        return result_fine(f);
-    }
-    if f.frame == frame::ERROR {
-        return error_fine(f);
-    }
-    if f.frame == frame::REJECT {
-        return reject_fine(f);
-    }
-    false
 }
 
 // Whether a charge follows.
 pub fn is_charged(f: types::Front) -> bool
     ensures { λ r. ⌜ r ≡ charged f ⌝ }
 {
-    if f.frame == frame::INVOKE {
-        if f.operation == operation::CHARGING_REQUEST {
-            return false;
-        }
-        return true;
+    let frame = f.frame;
+    match frame {
+        frame::INVOKE => f.operation != operation::CHARGING_REQUEST,
+        frame::RESULT => true,
+        _ => false,
     }
-    if f.frame == frame::RESULT {
-        return true;
-    }
-    false
 }
 
 // ---- octets

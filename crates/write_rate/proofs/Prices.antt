@@ -2,18 +2,11 @@
 use Rattle.prelude.proofs.Prelude.{ℕ, _≤_, _≡_, refl, sym, ap, _∙_, List, Bool, true, false, not, _&&_, arith, replicate, leb, eqb, leb·zero, eqb-true}
 use Rattle.prelude.proofs.{Prelude.{eqb-false, eq-eqb, leb-true, le-leb, lt-leb, not-true, not-false}, Ways.by-cases}
 use Rattle.coding.specs.{Codec.{cons, prim, pair, sort, maybe, over, canonical, pickRun, sameList, validMaybe}, Leaves.{number, nullLeaf, isSome}}
-use Rattle.coding.proofs.{Padded.{eqbEqual, listEqual}, Tests.{and-true, ands, eqb-self}, Basic.{and-left, and-right, and-both}}
+use Rattle.coding.proofs.{Tests.{and-true, ands, eqb-self}, Basic.{and-left, and-right, and-both}}
 use Rattle.types.specs.{declared.Rate.Rate, Charges.flag, Charges.noMoney, Charges.scaled, Charges.money, Rates.scaledOr0, Rates.moneyOf, Rates.timeOf, Rates.stepOf, Rates.duration}
 use Rattle.types.specs.{Rates.isRate, Rates.flatRate, Rates.volume, Rates.coded, Rates.plainRate, Rates.price, Rates.itemised, Rates.rate, Arguments.sameMoney}
-use Rattle.write_tests.proofs.Truth.{same-truth, kinds, other-kind}
+use Rattle.write_tests.proofs.Truth.{same-truth, list-self, kinds, other-kind}
 use Rattle.write_rate.specs.inner.Prices.{lastKind, detailFine, unstepped, stepFine, timesFine, amountFine, priceFine}
-
-list-self : (xs : List ℕ) → sameList eqb xs xs ≡ true
-list-self xs = listEqual eqb eqbEqual .self xs
-
--- a test against zero, either way round
-pub zero-first : (n : ℕ) → eqb 0 n ≡ eqb n 0
-zero-first n = same-truth (eqb 0 n) (eqb n 0) (λ h. eq-eqb n 0 (sym (eqb-true 0 n h))) (λ h. eq-eqb 0 n (sym (eqb-true n 0 h)))
 
 -- what a test that was made says of what it tests
 pub was-true : {b x : Bool} → b ≡ x → not b ≡ false → x ≡ true

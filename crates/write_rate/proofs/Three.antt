@@ -1,6 +1,7 @@
 -- Octets in three parts, and octets under another name: room for each part after those before it, and what was stored in all.
-use Rattle.prelude.proofs.Prelude.{ℕ, _+_, _≡_, sym, ap, _∙_, subst, List, [], _++_, arith, length, length-append}
-use Rattle.coding.{specs.inner.Written.{Wrote, Room}, proofs.Writing.{wrote-as, wrote-both, wrote-next, wrote-none, split, room-first, room-rest, wrote-parts}}
+use Rattle.prelude.proofs.Prelude.{ℕ, _+_, _≡_, ap, _∙_, List, _++_, length, length-append}
+use Rattle.coding.{specs.inner.Written.{Wrote, Room}, proofs.Writing.{wrote-both, room-as, split, room-first, room-rest, wrote-parts}}
+use Rattle.write_figures.proofs.Sizes.{wrote-is, wrote-nothing}
 
 pub record Three (all xs ys zs : List ℕ) : Type 0 where
   pub parts : all ≡ xs ++ (ys ++ zs)
@@ -22,13 +23,4 @@ module _ {all xs ys zs : List ℕ} (t : Three all xs ys zs) where
     pub wrote-3 : {m n o : List ℕ} {b d e : ℕ} → Wrote l m a xs b → Wrote m n b ys d → Wrote n o d zs e → Wrote l o a all e
     wrote-3 p q w = wrote-parts (record { parts = t .parts }) p (wrote-both q w)
 
-pub room-by : {l all xs : List ℕ} {a : ℕ} → all ≡ xs → Room l a all → Room l a xs
-room-by {l} {a = a} e h = subst (λ ys. Room l a ys) e h
-
-pub wrote-by : {l m all xs : List ℕ} {a b : ℕ} → all ≡ xs → Wrote l m a xs b → Wrote l m a all b
-wrote-by e w = wrote-as (sym e) w
-
-pub wrote-nothing : {l all : List ℕ} {a : ℕ} → all ≡ [] → Wrote l l a all a
-wrote-nothing {l} {a = a} e = wrote-by e (wrote-next (omega arith) (wrote-none l a))
-
-pub ruleset named = (room-by, wrote-by, wrote-nothing)
+pub ruleset named = (room-as, wrote-is, wrote-nothing)

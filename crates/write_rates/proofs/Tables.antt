@@ -7,6 +7,7 @@ use Rattle.coding.{specs.Rows.rows, specs.Rows.table, proofs.Basic.and-left, pr
 use Rattle.coding.{proofs.Writing.wrote-none, proofs.Writing.Split, proofs.Writing.split, proofs.Writing.room-first, proofs.Writing.room-rest, proofs.Rows.table-length}
 use Rattle.coding.{proofs.Rows.table-more, proofs.Rows.rows-append, proofs.Tests.and-false}
 use Rattle.write_tests.specs.inner.Fine.{laid, zeroPast, unusedZero}
+use Rattle.write_tests.proofs.Tests.{past-same}
 use Rattle.types.specs.Arguments.{sameEntries}
 
 -- ---- the entries from i on
@@ -121,18 +122,6 @@ module _ {A : Type 0} {f : Run A} {g : ℕ → A} {n : ℕ} {l : List ℕ} {a : 
       wrote-as (sym (t .parts .parts ∙ ap (λ (xs : List A). t .done ++ writeAll (f .write) xs) (rest-none n g i (t .left .most) h) ∙ append-nil (t .done))) (t .wrote)
 
 -- ---- arrays
-
-same-append : (xs ys zs : List ℕ) → sameList eqb (xs ++ ys) (xs ++ zs) ≡ sameList eqb ys zs
-same-append [] ys zs = refl
-same-append (x ∷ xs) ys zs = rw (eq-eqb x x refl) (same-append xs ys zs)
-
--- an array whose first m places are as they are and whose others are zero
-past-same : (n m : ℕ) (a : List ℕ) → length a ≡ n → m ≤ n → sameList eqb (pad n 0 (take m a)) a ≡ zeroPast m a
-unfolding pad
-past-same n m a e h =
-    let l : n - length (take m a) ≡ length a - m = omega (arith, e, length-take-le m a (omega arith)) in
-    ap₂ (λ (k : ℕ) (t : List ℕ). sameList eqb (take m a ++ replicate k 0) t) l (sym (take-append-drop m a))
-    ∙ same-append (take m a) (replicate (length a - m) 0) (drop m a)
 
 -- k places of an array from a place on
 unfoldable pub picks : ℕ → ℕ → List ℕ → List ℕ

@@ -1,4 +1,3 @@
 pub mod Truth
 pub mod Tests
 pub mod Valid
-pub mod Masks

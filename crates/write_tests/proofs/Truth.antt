@@ -9,9 +9,12 @@ same-truth true b f g = sym (f refl)
 same-truth false true f g = g refl
 same-truth false false f g = refl
 
--- a test in the order in which it is made
-pub as-test : {a b x : Bool} → b ≡ a → x ≡ a → x ≡ b
-as-test e p = p ∙ sym e
+-- a test against zero, either way round
+pub zero-first : (n : ℕ) → eqb 0 n ≡ eqb n 0
+zero-first n = same-truth (eqb 0 n) (eqb n 0) (λ h. eq-eqb n 0 (sym (eqb-true 0 n h))) (λ h. eq-eqb 0 n (sym (eqb-true n 0 h)))
+
+pub list-self : (xs : List ℕ) → sameList eqb xs xs ≡ true
+list-self xs = listEqual eqb eqbEqual .self xs
 
 -- what a function answers to a test that the code goes on from, and the tests after it
 pub test-no : (a b r : Bool) → r ≡ a → not r ≡ true → false ≡ a && b
@@ -73,6 +76,9 @@ public-order i l k s p d = simp ands
 pub plain-order : (i l k p s d : Bool) → ((i && l) && ((k && p) && s)) && d ≡ (k && (i && p)) && ((l && s) && d)
 plain-order i l k p s d = simp ands
 
+pub number-order : (k i p d : Bool) → (k && (i && p)) && d ≡ i && ((k && p) && d)
+number-order k i p d = simp ands
+
 -- ---- what a true test says
 
 pub eqb-iff : (a b : ℕ) → (eqb a b ≡ true) ↔ (a ≡ b)
@@ -82,7 +88,7 @@ pub leb-iff : (a b : ℕ) → (leb a b ≡ true) ↔ (a ≤ b)
 leb-iff a b = (leb-true a b, le-leb a b)
 
 pub list-iff : (xs ys : List ℕ) → (sameList eqb xs ys ≡ true) ↔ (xs ≡ ys)
-list-iff xs ys = (listEqual eqb eqbEqual .equal xs ys, λ e. rw (← e) (listEqual eqb eqbEqual .self xs))
+list-iff xs ys = (listEqual eqb eqbEqual .equal xs ys, λ e. rw (← e) (list-self xs))
 
 pub ruleset truth = (and-iff, eqb-iff, leb-iff, list-iff)
 

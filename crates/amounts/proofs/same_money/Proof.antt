@@ -1,6 +1,5 @@
-use Rattle.prelude.proofs.Prelude.{needs}
+use Rattle.prelude.proofs.{Prelude.needs, Ways.ways}
 use Rattle.amounts.specs.Amounts.{equalMoney}
-use Rattle.prelude.proofs.Ways.{ways}
 use Rattle.amounts.proofs.same_money.Statement.{statement}
 use Rattle.amounts.proofs.same_money.Tie as tie
 

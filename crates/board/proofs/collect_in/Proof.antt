@@ -22,12 +22,10 @@ use Rattle.board_rules.specs.{declared.Board.Board, declared.Collected.Collecte
 use Rattle.board_rules.specs.{Board.keyOf, Board.lowest, inner.ByValue.freeOf}
 use Rattle.board_rules.proofs.ByValue.{off-thin}
 use Rattle.step.proofs.Machine.{vA}
-use Rattle.board.proofs.Lent.{boardTy}
-use Rattle.board.proofs.LentFree.{lent}
+use Rattle.board.proofs.{Lent.boardTy, LentFree.lent}
 use Rattle.board.proofs.Cells.{ks, us, spelt-so, is-keys, is-list, us-length, old, is-old, key₀, is-key, keys-length, ks-length, is-last}
-use Rattle.board.proofs.Machine.{board-name, freed-name, vK, tellsF, FreedFine, freed-apart}
+use Rattle.board.proofs.{Machine.{board-name, freed-name, vK, tellsF, FreedFine, freed-apart}, Calls.gives}
 use Rattle.prelude.proofs.Walk.{by-walk}
-use Rattle.board.proofs.Calls.{gives}
 use denote.Struct.Laws as LL
 use Rattle.account.proofs.Account as AC
 use Rattle.board_rules.proofs.Board as T

@@ -30,14 +30,12 @@ use Rattle.phases.specs.{declared.Event.Event, declared.Outcome.Outcome, Phases
 use Rattle.board_rules.specs.{declared.Board.Board, declared.Seat.Seat, declared.Held.Held, Board.withSlot, Board.boarded, Board.eventOn, inner.ByValue.seatOf}
 use Rattle.board_rules.specs.{inner.ByValue.takenUp}
 use Rattle.board_rules.proofs.ByValue.{lent-thin, refused-thin, taken-thin}
-use Rattle.step.proofs.Machine.{vA, vE, vO, tellsE}
-use Rattle.step.proofs.Lent.{Typed}
+use Rattle.step.proofs.{Machine.{vA, vE, vO, tellsE}, Lent.Typed}
 use Rattle.board.proofs.Lent.{boardTy, lent}
 use Rattle.board.proofs.Cells.{ks, us, spelt-so, is-keys, is-list, us-length, old, is-old, keys-length, ks-length, is-last, is-lent}
 use Rattle.board.proofs.Machine.{board-name, held-name, seat-name, vP, tellsH, HeldFine, held-apart, outcome-seen, part-in, part-out, is-no, no-val}
-use Rattle.board.proofs.Machine.{fits-number}
+use Rattle.board.proofs.{Machine.fits-number, Calls.gives}
 use Rattle.prelude.proofs.Walk.{by-walk}
-use Rattle.board.proofs.Calls.{gives}
 use denote.Struct.Laws as LL
 use Rattle.account.proofs.Account as AC
 use Rattle.phases.proofs.Event as E

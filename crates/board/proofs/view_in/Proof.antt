@@ -19,12 +19,9 @@ use denote.{Exit.yes, Triple.Statement.Contract, Triple.Statement.Triple, Triple
 use denote.Triple.Walked.{says, Stays, stay-none-ref, stay-none, walkOf, AllGo, goes-none, goes-none-ref, ends-at}
 use Rattle.board_rules.specs.{declared.Board.Board, declared.Viewed.Viewed, Board.viewOn, Board.keyOf, Board.lowest, inner.ByValue.viewedOf}
 use Rattle.board_rules.proofs.ByValue.{view-thin}
-use Rattle.board.proofs.Lent.{boardTy}
-use Rattle.board.proofs.LentView.{reads}
-use Rattle.board.proofs.Cells.{ks, us, spelt-so, is-keys, is-list, us-length, old, is-old, keys-length}
-use Rattle.board.proofs.Machine.{board-name, vB, tellsB, vV, tellsV}
+use Rattle.board.proofs.{Lent.boardTy, LentView.reads, Cells.{ks, us, spelt-so, is-keys, is-list, us-length, old, is-old, keys-length}}
+use Rattle.board.proofs.{Machine.{board-name, vB, tellsB, vV, tellsV}, Calls.gives}
 use Rattle.prelude.proofs.Walk.{by-walk}
-use Rattle.board.proofs.Calls.{gives}
 use denote.Struct.Laws as LL
 use Rattle.account.proofs.Account as AC
 use Rattle.board_rules.proofs.Board as T

@@ -1,8 +1,7 @@
 use Rattle.prelude.proofs.Prelude.{arith, refl, ap, sym, _∙_, eq-eqb, ne-eqb}
 use Rattle.board_rules.specs.inner.ByValue.{freed, freeOf}
 use Rattle.account.specs.{declared.Closing.Closing, Step.closingOf}
-use Rattle.board_rules.proofs.ByValue.{freed-now}
-use Rattle.board_rules.proofs.free.Statement.{statement}
+use Rattle.board_rules.proofs.{ByValue.freed-now, free.Statement.statement}
 use Rattle.board_rules.proofs.free.Tie as tie
 
 pub free-spec : {M : Type 1} → statement M

@@ -1,7 +1,6 @@
 use Rattle.prelude.proofs.Prelude.{needs, _+_, _-_, _≤_, _≡_, sym, _∙_, arith, drop, length}
 use Rattle.board_rules.specs.Board.{lowest}
-use Rattle.board_rules.proofs.Slots.{search-begins, search-goes, search-finds, search-ends}
-use Rattle.board_rules.proofs.slot_of.Statement.{statement}
+use Rattle.board_rules.proofs.{Slots.{search-begins, search-goes, search-finds, search-ends}, slot_of.Statement.statement}
 use Rattle.board_rules.proofs.slot_of.Tie as tie
 
 -- what is left is searched from here as the whole is from the start

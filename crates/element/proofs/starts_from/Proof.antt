@@ -1,7 +1,6 @@
 use Rattle.prelude.proofs.Prelude.{ℕ, _-_, arith, _≡_, refl, _∙_, List, [], _∷_, _++_, length, length-append}
 use Rattle.coding.{specs.Codec.pad, proofs.Arrays.padded-more}
-use Rattle.element.proofs.Tiling.{Laid, Tile-at, laid-start, laid-more, laid-done, laid-fault, tile-read}
-use Rattle.element.proofs.starts_from.Statement.{statement}
+use Rattle.element.proofs.{Tiling.{Laid, Tile-at, laid-start, laid-more, laid-done, laid-fault, tile-read}, starts_from.Statement.statement}
 use Rattle.element.proofs.starts_from.Tie as tie
 
 abbrev Inv-loop : tie.InvT-loop

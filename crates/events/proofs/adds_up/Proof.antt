@@ -6,4 +6,4 @@ use Rattle.events.proofs.adds_up.Tie as tie
 
 pub adds-up-spec : {M : Type 1} → statement M
 unfolding addsUp
-adds-up-spec = tie.close (tie.spec (λ c. search tests) (omega arith) (λ c. search tests))
+adds-up-spec = tie.close (tie.spec (omega arith) (λ c. search tests) (λ c. search tests))

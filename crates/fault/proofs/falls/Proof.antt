@@ -7,17 +7,17 @@ returns c = rw (sym (c .before .counted-money .ensures) ∙ not-true _ (c .if1 .
 
 returns-2 : tie.Need-returns-2
 returns-2 c =
-    let found = c .before .before in
-    let e = found .before .before .before in
-    rw (sym (e .before .counted-money .ensures) ∙ not-false _ (e .if1 .left), ← found .last-of .ensures, ne-eqb _ 1 (c .if2 .taken)) refl
-
-returns-3 : tie.Need-returns-3
-returns-3 c =
     let amount = c .before in
     let f = amount .before in
     let found = f .before .before in
     let e = found .before .before .before in
-    rw (sym (e .before .counted-money .ensures) ∙ not-false _ (e .if1 .left), ← found .last-of .ensures, eq-eqb _ 1 (f .if2 .left), amount .thousandths .ensures .0) refl
+    rw (sym (e .before .counted-money .ensures) ∙ not-false _ (e .if1 .left), ← found .last-of .ensures, eq-eqb _ 1 (f .if2 .taken), amount .thousandths .ensures .0) refl
+
+returns-3 : tie.Need-returns-3
+returns-3 c =
+    let found = c .before .before in
+    let e = found .before .before .before in
+    rw (sym (e .before .counted-money .ensures) ∙ not-false _ (e .if1 .left), ← found .last-of .ensures, ne-eqb _ 1 (c .if2 .left)) refl
 
 pub falls-spec : {M : Type 1} → statement M
-falls-spec = tie.close (tie.spec (omega arith) returns (λ c κs. search needs) returns-2 (omega arith) returns-3)
+falls-spec = tie.close (tie.spec (omega arith) returns (λ c κs. search needs) (omega arith) returns-2 returns-3)

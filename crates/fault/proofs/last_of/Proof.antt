@@ -1,5 +1,4 @@
-use Rattle.prelude.proofs.Prelude.{arith, needs, refl, sym, _∙_, eq-eqb}
-use Rattle.prelude.proofs.Ways.{ways}
+use Rattle.prelude.proofs.{Prelude.{arith, needs, refl, sym, _∙_, eq-eqb}, Ways.ways}
 use Rattle.fault.proofs.last_of.Statement.{statement}
 use Rattle.fault.proofs.last_of.Tie as tie
 

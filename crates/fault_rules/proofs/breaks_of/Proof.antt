@@ -1,5 +1,4 @@
-use Rattle.prelude.proofs.Prelude.{arith, refl, sym, _∙_}
-use Rattle.prelude.proofs.Ways.{ways}
+use Rattle.prelude.proofs.{Prelude.{arith, refl, sym, _∙_}, Ways.ways}
 use Rattle.fault_rules.proofs.breaks_of.Statement.{statement}
 use Rattle.fault_rules.proofs.breaks_of.Tie as tie
 

@@ -4,4 +4,4 @@ use Rattle.fault_rules.proofs.invokes_d.Statement.{statement}
 use Rattle.fault_rules.proofs.invokes_d.Tie as tie
 
 pub invokes-d-spec : {M : Type 1} → statement M
-invokes-d-spec = tie.close (tie.spec (λ c. search tests) (λ c. search tests) (omega arith) (λ c. search tests))
+invokes-d-spec = tie.close (tie.spec (omega arith) (λ c. search tests) (λ c. search tests) (λ c. search tests))

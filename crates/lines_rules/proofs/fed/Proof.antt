@@ -1,8 +1,7 @@
 -- A step of the machine, by what the line awaits and what comes.
 use Rattle.prelude.proofs.Prelude.{arith, _≤_, _<_, _∙_}
 use Rattle.lines_rules.specs.Lines.{digitOf}
-use Rattle.lines_rules.proofs.Steps.{fed-bad, fed-space, fed-gap, fed-none, fed-first, fed-second, fed-full}
-use Rattle.lines_rules.proofs.fed.Statement.{statement}
+use Rattle.lines_rules.proofs.{Steps.{fed-bad, fed-space, fed-gap, fed-none, fed-first, fed-second, fed-full}, fed.Statement.statement}
 use Rattle.lines_rules.proofs.fed.Tie as tie
 
 returns-4 : tie.Need-returns-4

@@ -2,10 +2,8 @@ use Rattle.prelude.proofs.Prelude.{sym, ap, _∙_, _≡_, _<_, _≤_, true, not
 use lib.Arith.{lt-of-le-ne}
 use Rattle.closing.specs.Range.{inRange}
 use Rattle.month_rows.proofs.Search.{at-most}
-use Rattle.month.specs.declared.Month.{Month}
-use Rattle.month.specs.Month.{withPlace, added}
-use Rattle.month.proofs.Adding.{add-10, add-46, add-47, add-money, add-free, add-units}
-use Rattle.month.proofs.add.Statement.{statement}
+use Rattle.month.specs.{declared.Month.Month, Month.{withPlace, added}}
+use Rattle.month.proofs.{Adding.{add-10, add-46, add-47, add-money, add-free, add-units}, add.Statement.statement}
 use Rattle.month.proofs.add.Tie as tie
 
 abbrev start : tie.After-in-range → tie.Start

@@ -2,10 +2,8 @@ use Rattle.prelude.proofs.Prelude.{arith, ℕ, _+_, List, sym, ap, ap₂, _∙_
 use Rattle.coding.proofs.Basic.{picked, unpicked}
 use Rattle.types.specs.declared.{Currency.Currency}
 use Rattle.month_rows.specs.{declared.Row.Row, Rows.rowOf, Rows.raise}
-use Rattle.month.specs.declared.{Month.Month}
-use Rattle.month.specs.Month.{used, isNew}
-use Rattle.month.proofs.Adding.{up-to-most}
-use Rattle.month.proofs.with_money.Statement.{statement}
+use Rattle.month.specs.{declared.Month.Month, Month.{used, isNew}}
+use Rattle.month.proofs.{Adding.up-to-most, with_money.Statement.statement}
 use Rattle.month.proofs.with_money.Tie as tie
 
 abbrev with : Month → ℕ → List Row → Month

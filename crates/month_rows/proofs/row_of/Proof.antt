@@ -1,7 +1,6 @@
 use Rattle.prelude.proofs.Prelude.{needs, _+_, _-_, _≤_, _≡_, sym, _∙_, arith, drop, length}
 use Rattle.month_rows.specs.Rows.{rowOf}
-use Rattle.month_rows.proofs.Search.{search-begins, search-goes, search-finds, search-ends}
-use Rattle.month_rows.proofs.row_of.Statement.{statement}
+use Rattle.month_rows.proofs.{Search.{search-begins, search-goes, search-finds, search-ends}, row_of.Statement.statement}
 use Rattle.month_rows.proofs.row_of.Tie as tie
 
 -- what is left is searched from here as the whole is from the start

@@ -1,8 +1,7 @@
 use Rattle.prelude.proofs.Prelude.{_+_, _-_, _≤_, _≡_, _∙_, ap, ap₂, arith, sub-zero, ℕ, List}
 use Rattle.types.specs.declared.Units.{Units}
 use Rattle.month_rows.specs.Sums.{addUnit, addAbsent, sumUnits, countAbsent}
-use Rattle.month_rows.proofs.Entries.{sum-goes, sum-ends, count-goes, count-ends}
-use Rattle.month_rows.proofs.sum_units.Statement.{statement}
+use Rattle.month_rows.proofs.{Entries.{sum-goes, sum-ends, count-goes, count-ends}, sum_units.Statement.statement}
 use Rattle.month_rows.proofs.sum_units.Tie as tie
 
 -- what is left gives from here what the whole gives from the start

@@ -1,7 +1,6 @@
 use Rattle.prelude.proofs.Prelude.{needs, ℕ, _≡_, sym, _∙_, ap, ap₂, arith, length, getD, set}
 use Rattle.month_rows.specs.Rows.{oneMore, rowOf}
-use Rattle.month_rows.proofs.Search.{noRow, stored-new, stored-old, at-most}
-use Rattle.month_rows.proofs.with_row.Statement.{statement}
+use Rattle.month_rows.proofs.{Search.{noRow, stored-new, stored-old, at-most}, with_row.Statement.statement}
 use Rattle.month_rows.proofs.with_row.Tie as tie
 
 returns : tie.Need-returns

@@ -1,6 +1,7 @@
 use Rattle.prelude.proofs.Prelude.{_∙_, refl, sym, arith, eq-eqb, ne-eqb, List, reverse}
 use Rattle.phases.specs.Phases.{Given}
-use Rattle.plain.proofs.{Cited.eventsOf, Figures.closing-kept, closing_in.Statement.statement}
+use Rattle.events.specs.Events.{eventsOf}
+use Rattle.plain.proofs.{Figures.closing-kept, closing_in.Statement.statement}
 use Rattle.plain.proofs.closing_in.Tie as tie
 
 module _ (p : tie.After-phase-in) where
@@ -13,7 +14,7 @@ module _ (p : tie.After-phase-in) where
 returns : tie.Need-returns
 returns c =
     let p = c .before .before in
-    rw (c .no-charge .ensures) (sym (rw (ne-eqb _ 4 (c .before .if1 .taken))) ∙ closing-kept (events p) (p .phase-in .ensures) refl refl)
+    c .no-closing .ensures ∙ sym (rw (ne-eqb _ 4 (c .before .if1 .taken))) ∙ closing-kept (events p) (p .phase-in .ensures) refl refl
 
 returns-2 : tie.Need-returns-2
 returns-2 c =
@@ -34,9 +35,9 @@ returns-4 c =
     let d = c .before .before .before in
     let e = d .before .before .before in
     let p = e .before .before in
-    rw (c .no-charge2 .ensures)
-    (sym (rw (eq-eqb _ 4 (e .before .if1 .left), eq-eqb _ 0 (d .before .if2 .left), eq-eqb _ 0 (c .before .if3 .left)))
-    ∙ closing-kept (events p) (p .phase-in .ensures) (e .last-kept .ensures) (d .last-kept2 .ensures))
+    c .no-closing2 .ensures
+    ∙ sym (rw (eq-eqb _ 4 (e .before .if1 .left), eq-eqb _ 0 (d .before .if2 .left), eq-eqb _ 0 (c .before .if3 .left)))
+    ∙ closing-kept (events p) (p .phase-in .ensures) (e .last-kept .ensures) (d .last-kept2 .ensures)
 
 pub closing-in-spec : {M : Type 1} → statement M
 closing-in-spec =

@@ -1,13 +1,13 @@
-use Rattle.prelude.proofs.Prelude.{_≤_, _/_, length, reverse, _≡_, sym, _∙_, true, false, arith, eqb, eq-eqb, ne-eqb}
+use Rattle.prelude.proofs.Prelude.{_≤_, _/_, length, _≡_, true, false, eqb, eq-eqb, ne-eqb}
 use Rattle.outcomes.specs.Status.{placeOf}
 use Rattle.account.specs.History.{last, judged}
-use Rattle.events.specs.{Events.eventsOf, inner.Prefix.before}
-use Rattle.plain.proofs.{Figures.whole, Figures.last-step, Figures.nothing-left, last_kept.Statement.statement}
+use Rattle.events.specs.inner.Prefix.{before}
+use Rattle.plain.proofs.{Cited.{sym, _∙_, arith, history}, Figures.whole, Figures.last-step, Figures.nothing-left, last_kept.Statement.statement}
 use Rattle.plain.proofs.last_kept.Tie as tie
 
 abbrev Inv-loop : tie.InvT-loop
 Inv-loop rows octets place i₀ i =
-    (i ≤ length rows / 6) × (last (λ j. eqb (placeOf (j .outcome)) place) (judged (before rows octets i)) ≡ last (λ j. eqb (placeOf (j .outcome)) place) (judged (reverse (eventsOf rows octets))))
+    (i ≤ length rows / 6) × (last (λ j. eqb (placeOf (j .outcome)) place) (judged (before rows octets i)) ≡ last (λ j. eqb (placeOf (j .outcome)) place) (history rows octets))
 
 abbrev μ-loop : tie.MeasureT-loop
 μ-loop rows octets place i₀ i = i

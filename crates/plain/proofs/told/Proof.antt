@@ -1,13 +1,14 @@
-use Rattle.prelude.proofs.Prelude.{_≤_, _/_, length, reverse, _≡_, sym, _∙_, true, false, arith}
+use Rattle.prelude.proofs.Prelude.{_≤_, _/_, length, _≡_, true, false}
+use Rattle.types.specs.Charges.{flag}
 use Rattle.outcomes.specs.Outcome.{its}
 use Rattle.account.specs.History.{any, judged}
-use Rattle.events.specs.{Events.eventsOf, inner.Prefix.before}
-use Rattle.plain.proofs.{Figures.whole, Figures.any-step, Figures.nothing-left, told.Statement.statement}
+use Rattle.events.specs.inner.Prefix.{before}
+use Rattle.plain.proofs.{Cited.{sym, _∙_, ap, arith, history}, Figures.whole, Figures.any-step, Figures.nothing-left, told.Statement.statement}
 use Rattle.plain.proofs.told.Tie as tie
 
 abbrev Inv-loop : tie.InvT-loop
 Inv-loop rows octets service number i₀ i =
-    (i ≤ length rows / 6) × (any (λ j. its service number (j .outcome)) (judged (before rows octets i)) ≡ any (λ j. its service number (j .outcome)) (judged (reverse (eventsOf rows octets))))
+    (i ≤ length rows / 6) × (any (λ j. its service number (j .outcome)) (judged (before rows octets i)) ≡ any (λ j. its service number (j .outcome)) (history rows octets))
 
 abbrev μ-loop : tie.MeasureT-loop
 μ-loop rows octets service number i₀ i = i
@@ -21,9 +22,9 @@ returns c =
     let o = p .before in
     let l = o .before .before in
     let x = l .before .before .before .args in
-    sym (any-step (x .rows .now) (x .octets .now) (its (x .service) (x .number)) (l .loop .i) (o .before .loop-test .taken) (o .outcome-at .ensures) true
+    ap flag (sym (any-step (x .rows .now) (x .octets .now) (its (x .service) (x .number)) (l .loop .i) (o .before .loop-test .taken) (o .outcome-at .ensures) true
     (sym (p .is-its .ensures) ∙ c .if1 .taken))
-    ∙ l .loop .inv .1
+    ∙ l .loop .inv .1)
 
 loop-again : tie.Need-loop-again Inv-loop μ-loop
 loop-again c =
@@ -41,8 +42,8 @@ returns-2 : tie.Need-returns-2 Inv-loop μ-loop
 returns-2 c =
     let l = c .before in
     let x = l .before .before .before .args in
-    sym (nothing-left (x .rows .now) (x .octets .now) (any (λ j. its (x .service) (x .number) (j .outcome))) (l .loop .i) (c .loop-test .left))
-    ∙ l .loop .inv .1
+    ap flag (sym (nothing-left (x .rows .now) (x .octets .now) (any (λ j. its (x .service) (x .number) (j .outcome))) (l .loop .i) (c .loop-test .left))
+    ∙ l .loop .inv .1)
 
 pub told-spec : {M : Type 1} → statement M
 told-spec =

@@ -1,5 +1,4 @@
-use Rattle.prelude.proofs.Prelude.{sym, _∙_, arith, not-false}
-use Rattle.prelude.proofs.Ways.{ways}
+use Rattle.prelude.proofs.{Prelude.{sym, _∙_, arith, not-false}, Ways.ways}
 use Rattle.closing.proofs.Small.{small}
 use Rattle.price.specs.Price.{priceOf}
 use Rattle.price.proofs.price.Statement.{statement}

@@ -1,8 +1,7 @@
 use Rattle.prelude.proofs.Prelude.{arith}
 use Rattle.coding.specs.Reader.{part}
 use Rattle.profile_read.proofs.Reading.{by-line, beside}
-use Rattle.profile_pass.proofs.next_by.Statement.{statement}
-use Rattle.profile_pass.proofs.Passing.{next-none, next-some, line-here, no-line-here, inside}
+use Rattle.profile_pass.proofs.{next_by.Statement.statement, Passing.{next-none, next-some, line-here, no-line-here, inside}}
 use Rattle.profile_pass.proofs.next_by.Tie as tie
 
 returns : tie.Need-returns

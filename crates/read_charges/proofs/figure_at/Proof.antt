@@ -1,8 +1,8 @@
 -- Each return by the answers that led to it.
 use Rattle.prelude.proofs.Prelude.{needs, arith, _≡_, refl, sym, _∙_}
-use Rattle.coding.{specs.inner.Shown.shown, proofs.Reading.reading, proofs.Reading.step, proofs.Reading.shut}
-use Rattle.types.specs.{Arguments.noCharge, Stored.storedCharge}
-use Rattle.read_figures.{specs.inner.Beside.Unassociated, proofs.Answers.storing, proofs.Answers.goes}
+use Rattle.coding.{specs.inner.Shown.shown, proofs.Reading.{reading, step}}
+use Rattle.types.specs.{Arguments.{noCharge, associated}, Stored.storedCharge}
+use Rattle.read_figures.{specs.inner.Beside.Unassociated, proofs.Answers.{storing, goes, closes-as}}
 use Rattle.read_charges.specs.inner.Readers.{figureOf}
 use Rattle.read_lengths.{specs.inner.Bounds.Bounded, proofs.Answers.passed}
 use Rattle.read_charges.proofs.{Stores.none-stored, Stores.association-stored, Steps.ended, Steps.parties, Steps.parties-none, Steps.figure-read, figure_at.Statement.statement}
@@ -45,22 +45,8 @@ figure-at-spec =
     none-stored _ _ _ (c .reached .ensures) (m .1) (parties-none (storedCharge _ _ _) _ _ _ _ (c .before .if4 .taken)) ∙ m .0)
     (λ c κs. let k = c .before .before .before in let m = settled (k .before) in (m .2, m .1)) (λ c. omega arith)
     (λ c.
-    let a = c .before .before .before in
+    let a = c .before in
     let k = a .before .before .before in
     let m = settled (k .before .before) in
-    search (storing, reading) ∙ m .0)
-    (λ c. omega arith)
-    (λ c.
-    let l = c .before .before .before in
-    let a = l .before .before .before in
-    let k = a .before .before .before in
-    let m = settled (k .before .before) in
-    search (storing, reading) depth 8 fits 4000 ∙ m .0)
-    (λ c. omega arith)
-    (λ c.
-    let l = c .before .before .before in
-    let a = l .before .before .before in
-    let k = a .before .before .before in
-    let m = settled (k .before .before) in
-    association-stored _ _ _ (c .reached2 .ensures) _ (a .association-at .ensures .1)
-    (goes _ _ _ _ _ (a .association-at .ensures .0) (l .before .if5 .left) (shut _ _ _ _ _ (c .before .if6 .left))) ∙ m .0))
+    let parts = closes-as _ _ _ _ _ _ (c .closed .ensures) (a .association-at .ensures .0) (λ v. associated v (storedCharge _ _ _)) noCharge in
+    association-stored _ _ _ _ (a .association-at .ensures .1) parts ∙ m .0))

@@ -7,4 +7,5 @@ pub identifier-long-spec : {M : Type 1} → statement M
 unfolding prim identifier primitive
 identifier-long-spec =
     tie.close
-    (tie.spec (omega arith) (λ c. (search reading, omega arith)) (omega arith) (λ c. (search reading, omega arith)) (λ c. (search reading, omega arith)))
+    (tie.spec (omega arith) (λ c κs. tt) (λ c. rw (c .no-number .ensures) (search reading, omega arith)) (omega arith) (λ c κs. tt)
+    (λ c. rw (c .no-number2 .ensures) (search reading, omega arith)) (λ c κs. tt) (λ c. rw (c .number .ensures) (search reading, omega arith)))

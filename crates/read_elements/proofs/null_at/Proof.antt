@@ -6,6 +6,10 @@ pub null-at-spec : {M : Type 1} → statement M
 null-at-spec =
     tie.close
     (tie.spec (omega arith) (λ c. omega (arith, c .before .short-length .ensures .1 .1 (omega arith) .inside))
-    (λ c. bare-null _ _ _ _ _ (c .before .short-length .ensures .1 .1 (omega arith)) (c .if1 .taken)) (omega arith) (λ c. omega arith) (λ c. omega arith)
+    (λ c κs. tt)
+    (λ c.
+    let t = c .before in
+    rw (c .reached .ensures) (bare-null _ _ _ _ _ (t .before .short-length .ensures .1 .1 (omega arith)) (t .if1 .taken)))
+    (omega arith) (λ c. omega arith) (λ c. omega arith)
     (λ c κs. simp (length-take) (omega (arith, c .before .before .before .before .pre)))
     (λ c. let xs = c .before .before .before .before .before .args .s .now in rw (take-all (length xs - 0) xs (omega arith)) at (c .null-long .ensures)))

@@ -8,16 +8,16 @@ pub null-long-spec : {M : Type 1} → statement M
 unfolding prim nullLeaf primitive
 null-long-spec =
     tie.close
-    (tie.spec (omega arith) (λ c. search reading)
+    (tie.spec (omega arith) (λ c κs. tt) (λ c. rw (c .halted .ensures) (search reading)) (λ c κs. tt)
     (λ c.
-    let c3 = c .before .before .before in let c6 = c3 .before .before .before in
-    let a = c6 .args in
-    let o = c3 .before .open-long in
-    let e = null-some (a .s .now) (o .result .value .start) (o .result .value .stop) (omega arith) (omega arith) in
-    step _ _ _ _ (o .ensures .0) (c .before .before .if1 .left) (fails _ _ _ _ e (λ h. omega arith)))
+    let f = c .before .before .before in
+    let o = f .before .before in
+    let v = o .open-long .result .value in
+    let e = null-some (o .before .before .args .s .now) (v .start) (v .stop) (omega arith) (omega arith) in
+    rw (c .halted2 .ensures) (step _ _ _ _ (o .open-long .ensures .0) (f .if1 .left) (fails _ _ _ _ e (λ h. omega arith))))
+    (λ c κs. tt)
     (λ c.
-    let c3 = c .before .before .before in let c6 = c3 .before .before .before in
-    let a = c6 .args in
-    let v = c3 .before .open-long .result .value in
-    let e = null-none (a .s .now) (v .start) (v .stop) (omega arith) in
-    search reading))
+    let o = c .before .before .before .before .before in
+    let v = o .open-long .result .value in
+    let e = null-none (o .before .before .args .s .now) (v .start) (v .stop) (omega arith) in
+    rw (c .reached .ensures) (search reading)))

@@ -8,8 +8,9 @@ use lib.Dec.{ltb, leb, eqb}
 use Rattle.coding.specs.Reader.{Ans, Reader, Fault, after, closed, choice}
 use Rattle.coding.specs.Reader.Ans.{got, halt}
 use Rattle.coding.specs.Reader.Fault.{missing, unexpected, cut, form, shortest, contents, limit, named}
-use Rattle.coding.specs.Codec.{Run, pickRun, prim}
+use Rattle.coding.specs.Codec.{Run, pickRun, prim, oneOf}
 use Rattle.coding.specs.Leaves.{number}
+use Rattle.read_elements.specs.declared.NumberRead.{NumberRead}
 use Rattle.types.specs.declared.Front.{Front}
 use Rattle.types.specs.declared.Record.{Record}
 use Rattle.types.specs.Frames.{frontBy, noFront, uncharged, operations, errors, argument, carrying}
@@ -44,6 +45,12 @@ knownIn k = cond (eqb k 1) operations (cond (eqb k 2) (30 ∷ []) errors)
 
 abbrev pub unknownIn : ℕ → ℕ
 unknownIn k = cond (eqb k 3) 8 7
+
+-- a number that is read, looked up in a list: another is refused at its place
+unfoldable pub lookedUp : ℕ → List ℕ → ℕ → NumberRead → ℕ × ℕ × ℕ × ℕ
+lookedUp unknown known at r =
+    cond (eqb (r .fault) 0) (cond (oneOf known (r .value)) (r .fault, r .place, r .value, r .next) (100 + unknown, at, 0, 0))
+    (r .fault, r .place, 0, 0)
 
 -- ---- a frame's contents, from a place up to another, in octets that end with the component
 

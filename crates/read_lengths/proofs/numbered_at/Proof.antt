@@ -12,9 +12,10 @@ numbered-at-spec =
     (λ c.
     let w = c .before .before in
     (rw (← w .wide .ensures .0) (simp (lt-leb _ _ (w .before .before .if1 .left), lt-ltb _ _ (c .before .if2 .taken)) (c .within .ensures .0)), c .within .ensures .1))
-    (omega arith) (λ c. search needs) (omega arith) (λ c. search needs) (omega arith)
+    (omega arith) (omega arith) (omega arith) (λ c. search needs) (λ c. search needs)
     (λ c.
     let f = c .before .before in
-    let w = f .before .before in
+    let w = f .before in
+    let none = c .before .match .rest in
     rw (c .halted2 .ensures, ← w .wide .ensures .0)
-    (simp (lt-leb _ _ (w .before .before .if1 .left), le-ltb _ _ (f .before .if2 .left), ne-eqb _ _ (f .if3 .left), ne-eqb _ _ (c .before .if4 .left)), omega arith)))
+    (simp (lt-leb _ _ (w .before .before .if1 .left), le-ltb _ _ (f .if2 .left), ne-eqb _ _ (none .0 .1), ne-eqb _ _ (none .1)), omega arith)))

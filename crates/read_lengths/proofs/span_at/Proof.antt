@@ -6,5 +6,8 @@ pub span-at-spec : {M : Type 1} → statement M
 span-at-spec =
     tie.close
     (tie.spec (omega arith) (λ c. omega (arith, c .before .find-end .ensures .1)) (omega arith)
-    (λ c. rw (c .halted .ensures) (search span-fault, omega arith)) (omega arith)
-    (λ c. let m = found-at _ _ _ (c .before .find-end .ensures .0) (omega (arith, c .if1 .left)) in (search span-got, omega (arith, m .1, m .2))))
+    (λ c. rw (c .halted .ensures) (search span-fault, omega arith)) (omega arith) (omega arith)
+    (λ c.
+    let e = c .before in
+    let m = found-at _ _ _ (e .before .find-end .ensures .0) (omega (arith, e .if1 .left)) in
+    rw (c .found .ensures) (search span-got, omega (arith, m .1, m .2))))

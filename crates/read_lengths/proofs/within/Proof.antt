@@ -7,6 +7,7 @@ pub within-spec : {M : Type 1} → statement M
 unfolding extent shown
 within-spec =
     tie.close
-    (tie.spec (omega arith) (omega arith) (omega arith) (omega arith)
-    (λ c. let a = c .before .args in (simp (le-leb (a .start + a .n) (a .end) (omega arith)), omega arith))
-    (λ c. let a = c .before .before .args in rw (c .halted .ensures) (simp (lt-leb (a .start + a .n) (a .end) (omega arith)), omega arith)))
+    (tie.spec (omega arith) (omega arith)
+    (λ c. let a = c .before .before .args in rw (c .halted .ensures) (simp (lt-leb (a .start + a .n) (a .end) (omega arith)), omega arith))
+    (omega arith) (omega arith) (omega arith)
+    (λ c. let a = c .before .before .args in rw (c .found .ensures) (simp (le-leb (a .start + a .n) (a .end) (omega arith)), omega arith)))

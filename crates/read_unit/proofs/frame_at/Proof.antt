@@ -6,4 +6,5 @@ use Rattle.read_unit.proofs.frame_at.Tie as tie
 
 pub frame-at-spec : {M : Type 1} → statement M
 unfolding framedBy
-frame-at-spec = tie.close (tie.spec (search needs) (search needs) (λ c. (search when, omega arith)) (λ c. (search when, omega arith)))
+frame-at-spec = tie.close (tie.spec (search needs) (search needs) (λ c. (search when, omega arith)) (search needs)
+    (λ c. rw (c .found .ensures) (search when, omega arith)))

@@ -6,4 +6,5 @@ use Rattle.read_unit.proofs.type_at.Tie as tie
 
 pub type-at-spec : {M : Type 1} → statement M
 unfolding typeBy
-type-at-spec = tie.close (tie.spec (search needs) (search needs) (λ c. (search when, omega arith)) (λ c. (search when, omega arith)))
+type-at-spec = tie.close (tie.spec (search needs) (search needs) (λ c. (search when, omega arith)) (search needs)
+    (λ c. rw (c .number .ensures) (search when, omega arith)))

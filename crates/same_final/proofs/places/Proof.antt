@@ -1,5 +1,4 @@
-use Rattle.prelude.proofs.Prelude.{arith}
-use Rattle.prelude.proofs.Ways.{ways}
+use Rattle.prelude.proofs.{Prelude.arith, Ways.ways}
 use Rattle.same_final.proofs.places.Statement.{statement}
 use Rattle.same_final.proofs.places.Tie as tie
 

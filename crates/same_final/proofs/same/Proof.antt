@@ -1,6 +1,5 @@
-use Rattle.prelude.proofs.Prelude.{arith}
+use Rattle.prelude.proofs.{Prelude.arith, Ways.ways}
 use Rattle.same_final.specs.Same.{sameOf}
-use Rattle.prelude.proofs.Ways.{ways}
 use Rattle.same_final.proofs.same.Statement.{statement}
 use Rattle.same_final.proofs.same.Tie as tie
 

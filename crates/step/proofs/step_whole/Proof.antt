@@ -7,9 +7,9 @@ use base.{Logic.{SProp, ent, sep, id⊢, assoc∗}, Fml.{GName, Lft, Share, ftru
 use prog.{Memory.Memory, Routine.Routine, Wp.Heap, Wp.Calls, Wp.Loops, Wp.WpFn}
 use ghost.Atoms.{Atoms, sem}
 use contract.{Monad.Fun, Monad.fact, Running.givenOf, Running.tables}
-use types.Kit.{Given, Item, ‵, raw, some, later, _⊛_, ⋆, _$_, _∵_, !, qed, by, move, keep, drop, use1, use2, use3, split, join, fsplit, fjoin, fpick, fpack}
-use types.{Kit.{pick, rewrite, suffices, frame, await, done}, Run.{look, init, forget, stop, from, load, addr, of-opd, and-then, no-more, assigns, land}}
-use types.{Run.{returns, enter, alloc1, alloc0, params1, pass1, pass0, free1, free0}, Tokens.{lft-new, lft-end}, Part.agg, SemTy.Body}
+use types.Kit.{Given, Item, ‵, raw, some, later, _⊛_, ⋆, _$_, _∵_, !, qed, by, move, drop, use1, use2, use3, split, join, fsplit, fjoin, fpick, fpack}
+use types.{Kit.{pick, rewrite, suffices, frame, await, done}, Run.{look, init, stop, from, load, addr, of-opd, and-then, no-more, assigns, land}}
+use types.{Run.{returns, enter, alloc1, alloc0, params1, pass1, pass0}, Tokens.{lft-new, lft-end}, Part.agg, SemTy.Body}
 use sound.WpLaws.{FmC}
 use denote.{RattleType.owns, Laws.{Is, shows}, Memory.{mem, partAt, partOf, cellAt}, Builtin.u8, Ref.{RefT, now, MutRef}, Lend.{lends-ref, ref-back}}
 use denote.{Signature.{plain, shrSliceOf}, Steps.{only, owned, peeks, heard, nothing}, Exit.yes, Struct.Steps.spelt, Slice.{ShrSlice, sliceVal, slice-vals}}
@@ -17,7 +17,7 @@ use denote.{Slice.{shr-slice-tells, shr-slice-lawful}, Triple.Statement.{Contrac
 use denote.Triple.{Table.cited, Clauses.{Lasts, lasts, atExit}, Walked.{says, Stays, stay-dropped, walkOf, goes-dropped, onExit, ends-at}}
 use Rattle.phases.specs.{Phases.Given as Gave, Phases.event, declared.Event.Event, declared.Outcome.Outcome}
 use Rattle.account.specs.{History.judged, History.accountBy, History.steppedBy, History.stepped, Step.steppedOf, declared.Account.Account}
-use Rattle.step.proofs.Machine.{vA, vE, vO, tellsA, tellsE, tellsO}
+use Rattle.step.proofs.{Machine.{vA, vE, vO, tellsA, tellsE, tellsO}, Leave.{leaves, full, end}}
 use denote.Struct.Laws as LL
 use Rattle.account.proofs.Account as T
 use Rattle.account.proofs.Account.Laws as T′
@@ -152,10 +152,7 @@ module _ {M : Type 1} (𝓤 : URA M) (H : Heap 𝓤) (A : Atoms 𝓤) (W : Given
         assigns ! (of-opd ! (load ! (from ! (stop !)) (look ! 0 refl))) (from ! (stop !)) (init ! 2 refl (typed-account 𝓤 H A W (ws .0) is-last)) $
         assigns ! (agg ! (and-then ! (load ! (from ! (stop !)) (look ! 6 refl)) (and-then ! (load ! (from ! (stop !)) (look ! 2 refl)) (no-more !)))) (from ! (stop !))
         (init ! 15 refl (LL.lawful D.the-type D′.the-laws 𝓤 H A W .typed (stepped r (ws .0)) _ (is-both r (ws .0) (rw (ap only (tellsO r _ is)) at is) is-last) .0)) $
-        returns ! (look ! 15 refl) $ forget ! 0 refl $ forget ! 2 refl $ forget ! 4 refl $ forget ! 6 refl $ forget ! 9 refl $ forget ! 11 refl $ forget ! 13 refl $ forget ! 15 refl $
-        move ! (15 ∷ 16 ∷ []) $ free1 ! $ move ! (13 ∷ 14 ∷ []) $ free1 ! $ move ! (11 ∷ 12 ∷ []) $ free1 ! $ move ! (9 ∷ 10 ∷ []) $ free1 ! $ move ! (0 ∷ 8 ∷ []) $ free1 ! $
-        move ! (5 ∷ 6 ∷ []) $ free1 ! $ move ! (3 ∷ 4 ∷ []) $ free1 ! $ move ! (1 ∷ 2 ∷ []) $ free1 ! $ free0 ! $
-        keep ! (0 ∷ []) $ by ! (exits r (ws .0) e (rw (ap only (tellsO r _ is)) at is) is-last)))))))))))))))))
+        returns ! (look ! 15 refl) $ move ! (1 ∷ 2 ∷ 3 ∷ 4 ∷ 5 ∷ 6 ∷ 7 ∷ 0 ∷ []) $ leaves ! 1 (full (full (full (full (full (full (full (full end)))))))) $ by ! (exits r (ws .0) e (rw (ap only (tellsO r _ is)) at is) is-last)))))))))))))))))
 
 pub step-whole-spec : {M : Type 1} → own.Statement.statement M
 unfolding own.Code.routine

@@ -1,21 +1,21 @@
 -- At each place the components of the elements that are left are still to be laid.
-use Rattle.prelude.proofs.Prelude.{_<_, _-_, _+_, refl, ap, arith, length, getD}
+use Rattle.prelude.proofs.Prelude.{_<_, _-_, _+_, refl, ap, arith, length, getD, not-true, not-false}
 use Rattle.trace_framing.{specs.Framing.Elements, proofs.Laws.end-past, proofs.Laws.end-near, proofs.Laws.elements-on}
 use Rattle.trace_messages.{specs.Trace.componentsLeft, specs.Trace.componentsAfter, specs.Trace.componentEvents, proofs.Walk.events-more, proofs.Walk.from-over}
 use Rattle.trace.specs.inner.Putting.{Progress}
-use Rattle.trace.proofs.{Laying.{rooms-head, rooms-as, progress-starts, progress-as, progress-more, progress-ends}, put_elements.Statement.statement}
+use Rattle.trace.proofs.{Laying.{puts-none, rooms-head, rooms-as, progress-starts, progress-as, progress-more, progress-ends}, put_elements.Statement.statement}
 use Rattle.trace.proofs.put_elements.Tie as tie
 
 abbrev Inv-loop : tie.InvT-loop
-Inv-loop rows₀ out₀ s start end q₀ under₀ at₀ rows out q under at =
+Inv-loop rows₀ out₀ s start given end q₀ under₀ at₀ rows out q under at =
     Elements s at × Progress rows₀ rows out₀ out q₀ q (componentEvents (componentsLeft s at under)) (componentEvents (componentsAfter s start))
 
 abbrev μ-loop : tie.MeasureT-loop
-μ-loop rows₀ out₀ s start end q₀ under₀ at₀ rows out q under at = length s - at
+μ-loop rows₀ out₀ s start given end q₀ under₀ at₀ rows out q under at = length s - at
 
 -- the function's start, the loop's place, and where an element's end is known
 abbrev start : tie.At-loop Inv-loop μ-loop → tie.Start Inv-loop μ-loop
-start l = l .before .before .before .before
+start l = l .before .before .before .before .before
 
 abbrev loop : tie.After-element-end Inv-loop μ-loop → tie.At-loop Inv-loop μ-loop
 loop e = e .before .before
@@ -33,7 +33,7 @@ put-at-requires c κs =
     let l = loop e in
     let s = start l .args .s .now in
     let is = e .element-end .ensures in
-    let octet : getD s (l .loop .at + 1) 0 < 256 = omega (arith, l .before .shared-slice-known .given (l .loop .at + 1)) in (
+    let octet : getD s (l .loop .at + 1) 0 < 256 = omega (arith, l .before .before .shared-slice-known .given (l .loop .at + 1)) in (
       omega (arith, is, end-past s (l .loop .at)),
       onward e .place,
       is,
@@ -55,15 +55,16 @@ loop-again c =
     let more = events-more (l .inv .0) (e .before .loop-test .taken) (e .element-end .ensures) (l .under) (c .under-after .ensures) in
     (onward e, progress-more _ (progress-as more (l .inv .1)) (p .put-at .ensures))
 
-returns : tie.Need-returns Inv-loop μ-loop
-returns c =
+returns-2 : tie.Need-returns-2 Inv-loop μ-loop
+returns-2 c =
     let l = c .before in
     let over = from-over (start l .args .s .now) (l .loop .at) (l .loop .under) (l .loop .inv .0 .place) (c .loop-test .left) in
-    progress-ends (progress-as (ap componentEvents over) (l .loop .inv .1))
+    rw (not-false (start l .args .given) (l .before .if1 .left)) (progress-ends (progress-as (ap componentEvents over) (l .loop .inv .1)))
 
 pub put-elements-spec : {M : Type 1} → statement M
 put-elements-spec =
     tie.close
-    (tie.spec Inv-loop μ-loop (λ c. let s = c .before .before .before in (s .pre .0, progress-starts (s .pre .1))) (λ c κs. c .loop-test .taken) put-at-requires
+    (tie.spec Inv-loop μ-loop (λ c. rw (not-true (c .before .before .before .before .args .given) (c .if1 .taken)) (puts-none _ _ _))
+    (λ c. let s = c .before .before .before .before in (s .pre .0, progress-starts (rw (not-false (s .args .given) (c .if1 .left)) at (s .pre .1)))) (λ c κs. c .loop-test .taken) put-at-requires
     (λ c. let p = c .before .before .before .before .before in ended p .before .loop-test .taken) (omega arith) loop-less loop-again
-    (λ c. c .before .loop .inv .1 .laid .in-rows .kept) (λ c. c .before .loop .inv .1 .laid .in-out .kept) returns)
+    (λ c. c .before .loop .inv .1 .laid .in-rows .kept) (λ c. c .before .loop .inv .1 .laid .in-out .kept) returns-2)

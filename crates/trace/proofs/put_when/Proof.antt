@@ -2,19 +2,16 @@ use Rattle.trace.proofs.{Cited.{arith, not-true, not-false}, Laying.{pu
 use Rattle.trace.proofs.put_when.Tie as tie
 
 put-bare-requires : tie.Need-put-bare-requires
-put-bare-requires c κs =
-    let s = c .before .before .before .before in
-    rw (c .before .empty .ensures .0) (bare-room _ (rw (not-false (s .args .given) (c .before .before .if1 .left)) at (s .pre)))
+put-bare-requires c κs = let s = c .before .before .before in bare-room _ (rw (not-false (s .args .given) (c .before .if1 .left)) at (s .pre))
 
 returns-2 : tie.Need-returns-2
 returns-2 c =
     let p = c .before .before in
-    let e = p .before .before in
-    let x = e .before .before .before .args in
-    λ out. rw (not-false (x .given) (e .before .if1 .left)) (rw (e .empty .ensures .0) at (p .put-bare .ensures out))
+    let i = p .before .before in
+    λ out. rw (not-false (i .before .before .args .given) (i .if1 .left)) (p .put-bare .ensures out)
 
 pub put-when-spec : {M : Type 1} → statement M
 put-when-spec =
     tie.close
     (tie.spec (λ c. let x = c .before .before .args in λ out. rw (not-true (x .given) (c .if1 .taken)) (puts-none _ out _))
-    (omega arith) put-bare-requires (omega arith) returns-2)
+    put-bare-requires (omega arith) returns-2)

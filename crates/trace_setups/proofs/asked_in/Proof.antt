@@ -5,8 +5,7 @@ use Rattle.element.specs.{Element.elementOf, Cut.startsOf, Cut.partsOf}
 use Rattle.element_pass.proofs.Going.{Goes, Here, goes-first, goes-on, goes-none}
 use Rattle.trace_messages.{specs.Trace.componentsIn, specs.Trace.firstRequest, proofs.Walk.in-other, proofs.Walk.in-parts}
 use Rattle.trace_setups.specs.inner.Asked.{askedOf}
-use Rattle.trace_setups.proofs.Requests.{asked-here, asked-next}
-use Rattle.trace_setups.proofs.asked_in.Statement.{statement}
+use Rattle.trace_setups.proofs.{Requests.{asked-here, asked-next}, asked_in.Statement.statement}
 use Rattle.trace_setups.proofs.asked_in.Tie as tie
 
 abbrev Inv-loop : tie.InvT-loop

@@ -1,7 +1,8 @@
 -- Each return by the answers that led to it.
 use Rattle.prelude.proofs.Prelude.{arith, needs, true, _≡_, refl, _∙_, replicate}
-use Rattle.coding.{specs.Reader.after, specs.Reader.Ans.got, specs.inner.Shown.shown, proofs.Reading.reading, proofs.Reading.gives}
+use Rattle.coding.{specs.Reader.after, specs.Reader.Ans.got, specs.inner.Shown.shown, proofs.Reading.reading}
 use Rattle.types.specs.{Charges.association, Arguments.plain, Arguments.noCharge, Arguments.associated, Arguments.withAssociation, Stored.figureIn}
+use Rattle.read_figures.proofs.Answers.{hands}
 use Rattle.read_charges.proofs.Stores.{association-stored}
 use Rattle.trunk_types.specs.Bodies.{figures}
 use Rattle.trunk_read_fields.proofs.{Cited.{storing, goes}, Steps.final-read, final_at.Statement.statement}
@@ -22,9 +23,7 @@ final-at-spec =
     (tie.spec (λ c κs. search needs) (omega arith) (λ c. rw final-read (search (storing, reading)))
     (λ c κs.
     let f = c .before .before .before in
-    (f .before .before .before .pre .0, f .figure-at .ensures .1)) (omega arith)
-    (λ c. let a = c .before .before .before in search (storing, reading) ∙ followed (a .before .before)) (omega arith)
+    (f .before .before .before .pre .0, f .figure-at .ensures .1))
     (λ c.
-    let a = c .before .before .before in
-    association-stored _ (replicate 32 0) (replicate 192 0) (c .reached .ensures) _ (a .association-at .ensures .1)
-    (goes _ _ _ _ _ (a .association-at .ensures .0) (c .before .if2 .left) (gives _ _ _)) ∙ followed (a .before .before)))
+    let a = hands _ (λ v. associated v (plain (figureIn _))) _ _ _ (c .association-at .ensures .0) in
+    association-stored _ (replicate 32 0) (replicate 192 0) _ (c .association-at .ensures .1) a ∙ followed (c .before .before)))

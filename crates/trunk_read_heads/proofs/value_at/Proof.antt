@@ -1,16 +1,33 @@
--- Each return by the answers that led to it.
-use Rattle.prelude.proofs.Prelude.{arith}
-use Rattle.coding.{specs.Reader.primitive, specs.Codec.barring, specs.Codec.prim, specs.Leaves.listed, proofs.Reading.reading, proofs.Reading.picks, proofs.Reading.halts}
-use Rattle.types.specs.Frames.{value}
-use Rattle.trunk_read_heads.proofs.value_at.Statement.{statement}
+-- As the number is looked up.
+use Rattle.prelude.proofs.Prelude.{ℕ, arith, sym, _∙_, eq-eqb, ne-eqb}
+use Rattle.read_heads.{specs.inner.Heads.{unknownIn, lookedUp}, proofs.Codes.has-below}
+use Rattle.trunk_read_heads.specs.inner.Known.{knownIn}
+use Rattle.trunk_read_heads.proofs.{Codes.known-low, value_at.Statement.statement}
 use Rattle.trunk_read_heads.proofs.value_at.Tie as tie
 
+abbrev frame : tie.After-number-at → ℕ
+frame n = n .before .before .args .frame
+
 pub value-at-spec : {M : Type 1} → statement M
-unfolding value barring prim listed primitive
+unfolding lookedUp
 value-at-spec =
     tie.close
     (tie.spec (omega arith) (omega arith)
-    (λ c. (rw (c .unknown .ensures) (picks _ _ _ _ _ _ _ (c .before .before .is-tag .ensures) (c .before .if1 .taken) (halts _ _ _)), (omega arith, λ k. absurd (omega (arith, k, c .unknown .ensures)))))
-    (omega arith) (λ c. (search reading, (omega arith, λ k. absurd (c .if2 .taken k)))) (omega arith)
-    (λ c. (search reading, (omega arith, λ k. absurd (c .if3 .taken k))))
-    (λ c. (search reading, (omega arith, λ k. c .before .before .value-in .ensures .1 .1 (c .if3 .left)))))
+    (λ c.
+    let n = c .before .before .before in
+    let looked = n .number-at .ensures (unknownIn (frame n)) (knownIn (frame n)) (known-low (frame n) .0) in
+    rw (c .no-value .ensures) (rw (ne-eqb _ _ (c .before .if1 .taken)) at looked, (omega arith, λ z. absurd (c .before .if1 .taken z)))) (omega arith)
+    (λ c.
+    let k = c .before in
+    let n = k .before .before .before in
+    let looked = n .number-at .ensures (unknownIn (frame n)) (knownIn (frame n)) (known-low (frame n) .0) in
+    let known = sym (k .is-known .ensures) ∙ c .if2 .taken in
+    (rw (eq-eqb _ _ (k .before .if1 .left), known) at looked, (has-below 1017 _ _ (known-low (frame n) .1) known, λ _. known))) (omega arith) (omega arith)
+    (λ c.
+    let e = c .before .before in
+    let k = e .before in
+    let n = k .before .before .before in
+    let looked = n .number-at .ensures (unknownIn (frame n)) (knownIn (frame n)) (known-low (frame n) .0) in
+    let strange = sym (k .is-known .ensures) ∙ e .if2 .left in
+    rw (c .no-value2 .ensures, c .before .unknown .ensures)
+    (rw (eq-eqb _ _ (k .before .if1 .left), strange) at looked, (omega arith, λ z. absurd (omega (arith, z))))))

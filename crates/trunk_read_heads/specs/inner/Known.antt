@@ -1,4 +1,4 @@
--- The values known in a trunk's frame (1 invoke, 2 return result, 3 return error), and the refusal of the others.
+-- The values known in a trunk's frame (1 invoke, 2 return result, 3 return error).
 use Prim.Native.Nat.{ℕ}
 use mathlib.Core.Bool.{cond}
 use mathlib.Core.List.{List}
@@ -7,6 +7,3 @@ use Rattle.trunk_types.specs.Components.{trunkOperations, answerable, trunkErro
 
 abbrev pub knownIn : ℕ → List ℕ
 knownIn k = cond (eqb k 1) trunkOperations (cond (eqb k 2) answerable trunkErrors)
-
-abbrev pub unknownIn : ℕ → ℕ
-unknownIn k = cond (eqb k 3) 8 7

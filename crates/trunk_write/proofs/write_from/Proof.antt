@@ -1,6 +1,6 @@
 use Rattle.prelude.proofs.Prelude.{sym, _∙_, arith, needs, not-false}
 use Rattle.trunk_types.specs.Stored.{trunkIn}
-use Rattle.trunk_write_frames.{specs.inner.Octets.given, proofs.Frames.known-frame}
+use Rattle.trunk_write_frames.{specs.inner.Octets.{Parts, whole}, proofs.Frames.known-frame}
 use Rattle.trunk_write.specs.Outcome.{spareZero, Offered}
 use Rattle.trunk_write.proofs.{Outcomes.Sized, Outcomes.Whole, Outcomes.not-spare, Outcomes.not-fine, Outcomes.too-long, Outcomes.no-room, Outcomes.lead-room, Outcomes.contents-room}
 use Rattle.trunk_write.proofs.{Outcomes.written, Outcomes.written-few, write_from.Statement.statement}
@@ -8,11 +8,17 @@ use Rattle.trunk_write.proofs.write_from.Tie as tie
 
 -- ---- what is known on the way
 
-abbrev held : tie.Start → Offered
-held s = let a = s .args in record {
-  trunk = given (a .front .now) (a .extension .now) (a .figure .now) (a .numbers .now) (a .rows .now);
-  spare = spareZero (a .front .now);
+abbrev parts : tie.Start → Parts
+parts s = let a = s .args in record {
+  front = a .front .now;
+  extension = a .extension .now;
+  figure = a .figure .now;
+  numbers = a .numbers .now;
+  rows = a .rows .now;
 }
+
+abbrev held : tie.Start → Offered
+held s = record { trunk = whole (parts s); spare = spareZero (parts s .front) }
 
 -- the four octets are zero
 abbrev tested : tie.After-contents-size → tie.After-trunk-fine
@@ -32,8 +38,8 @@ sized c =
 abbrev measured : tie.After-element-size → tie.After-contents-size
 measured c = c .before .before
 
-whole : (c : tie.After-element-size) → let m = measured c in Whole (held (start m)) (m .contents-size .result) (c .element-size .result)
-whole c = record { sized = sized (measured c); most = c .before .if3 .left; is = c .element-size .ensures .0 }
+fitted : (c : tie.After-element-size) → let m = measured c in Whole (held (start m)) (m .contents-size .result) (c .element-size .result)
+fitted c = record { sized = sized (measured c); most = c .before .if3 .left; is = c .element-size .ensures .0 }
 
 -- its lead is written
 abbrev led : tie.After-put-contents-arg → tie.After-put-lead
@@ -54,20 +60,17 @@ returns-2 c =
     not-fine (held (z .before .before)) _ (sym (z .spare-zero .ensures) ∙ not-false _ (f .before .if1 .left)) (f .trunk-fine .ensures) (c .before .if2 .taken) (c .refuse2 .ensures)
 
 add-put-lead : tie.Need-add-put-lead
-add-put-lead c =
-    let m = measured (c .before .before .before) in
-    let a = start m .args in
-    omega (arith, known-frame (a .front .now) (a .extension .now) (a .figure .now) (a .numbers .now) (a .rows .now) (sized m .fine))
+add-put-lead c = let m = measured (c .before .before .before) in omega (arith, known-frame (parts (start m)) (sized m .fine))
 
 put-lead-requires : tie.Need-put-lead-requires
 unfolding trunkIn
-put-lead-requires c κs = let w = c .before .before in (omega arith, lead-room (whole (w .before)) (w .if4 .left))
+put-lead-requires c κs = let w = c .before .before in (omega arith, lead-room (fitted (w .before)) (w .if4 .left))
 
 put-contents-requires : tie.Need-put-contents-requires
 unfolding trunkIn
 put-contents-requires c κs =
     let w = roomy (led c) in
-    let e = whole (w .before) in
+    let e = fitted (w .before) in
     (e .sized .fine, (omega (arith, e .most, e .sized .contents), contents-room e (w .if4 .left) (led c .put-lead .ensures)))
 
 cast-count : tie.Need-cast-count
@@ -75,14 +78,14 @@ unfolding trunkIn
 cast-count c =
     let b = c .before .before in
     let l = led (b .before) in
-    omega (arith, written-few (whole (roomy l .before)) (roomy l .if4 .left) (l .put-lead .ensures) (b .put-contents .ensures))
+    omega (arith, written-few (fitted (roomy l .before)) (roomy l .if4 .left) (l .put-lead .ensures) (b .put-contents .ensures))
 
 returns-5 : tie.Need-returns-5
 unfolding trunkIn
 returns-5 c =
     let b = c .before .before in
     let l = led (b .before) in
-    written (whole (roomy l .before)) (roomy l .if4 .left) (l .put-lead .ensures) (b .put-contents .ensures)
+    written (fitted (roomy l .before)) (roomy l .if4 .left) (l .put-lead .ensures) (b .put-contents .ensures)
 
 pub write-from-spec : {M : Type 1} → statement M
 write-from-spec =
@@ -90,5 +93,5 @@ write-from-spec =
     (tie.spec (λ c κs. search needs) (λ c κs. search needs) returns (λ c κs. search needs) (λ c κs. search needs) returns-2
     (λ c κs. sym (c .before .trunk-fine .ensures) ∙ not-false _ (c .if2 .left)) (λ c κs. search needs)
     (λ c. too-long (sized (c .before .before)) _ (c .before .if3 .taken) (c .refuse3 .ensures)) (λ c κs. omega arith) (λ c κs. search needs)
-    (λ c. no-room (whole (c .before .before)) _ (c .before .if4 .taken) (c .refuse4 .ensures)) (λ c. search needs) add-put-lead put-lead-requires put-contents-requires cast-count
+    (λ c. no-room (fitted (c .before .before)) _ (c .before .if4 .taken) (c .refuse4 .ensures)) (λ c. search needs) add-put-lead put-lead-requires put-contents-requires cast-count
     (λ c. search needs) returns-5)

@@ -1,7 +1,6 @@
 use Rattle.prelude.proofs.Prelude.{ap, sym, _∙_, true, arith, length, needs}
 use Rattle.coding.proofs.Small.{null-length}
-use Rattle.types.specs.declared.Charge.{Charge}
-use Rattle.types.specs.Stored.{withList}
+use Rattle.types.specs.{declared.Charge.Charge, Stored.withList}
 use Rattle.write_rates.proofs.Listed.{rates-valid, rates-length}
 use Rattle.trunk_write_charges.proofs.Charges.{final-figured, final-association, final-length, interim-figured, interim-octets, none-octets, tariff-fine, tariff-octets}
 use Rattle.trunk_write_charges.proofs.charge_size.Statement.{statement}

@@ -1,6 +1,6 @@
 use Rattle.prelude.proofs.Prelude.{_+_, _≤_, arith}
 use Rattle.coding.proofs.Writing.{width-range}
-use Rattle.trunk_write_frames.proofs.{Extensions.parameter-counted, Extensions.parameter-length, Sizes.error-length, error_size.Statement.statement}
+use Rattle.trunk_write_frames.proofs.{Sizes.error-length, error_size.Statement.statement}
 use Rattle.trunk_write_frames.proofs.error_size.Tie as tie
 
 small : (d : tie.After-width-of) → d .before .id-width .result + d .width-of .result ≤ 12
@@ -11,11 +11,10 @@ error-size-spec =
     tie.close
     (tie.spec (λ c κs. omega arith) (λ c. omega arith) (λ c κs. omega arith) (λ c κs. omega arith) (λ c. omega arith) (λ c κs. omega arith)
     (λ c. omega (arith, small c))
-    (λ c κs. parameter-counted _ (c .before .before .before .before .pre))
+    (λ c κs. c .before .before .before .before .pre)
     (λ c. omega (arith, small (c .before), c .extension-size .ensures .1))
     (λ c.
-    let d = c .before in let i = d .before .before in let e = i .before in
-    let x = parameter-length _ (c .extension-size .ensures .0) (e .before .pre) in (
-      error-length _ (i .id-of .ensures) _ (e .error-of .ensures) (d .before .id-width .ensures .0) (d .width-of .ensures) x,
+    let d = c .before in let i = d .before .before in let e = i .before in (
+      error-length _ (i .id-of .ensures) _ (e .error-of .ensures) (d .before .id-width .ensures .0) (d .width-of .ensures) (c .extension-size .ensures .0 0x30),
       omega (arith, small d, c .extension-size .ensures .1),
     )))

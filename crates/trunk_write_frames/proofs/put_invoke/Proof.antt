@@ -1,5 +1,5 @@
-use Rattle.write_figures.proofs.Sizes.{room-2, room-3, wrote-three}
-use Rattle.trunk_write_frames.proofs.Cited.{arith, room-as, room-head}
+use Rattle.write_figures.proofs.Sizes.{room-3, wrote-three}
+use Rattle.trunk_write_frames.proofs.{Cited.arith, Dispatch.{room-1, room-mid}}
 use Rattle.trunk_write_frames.proofs.{Frames.{invoke-body, invoke-operation, invoke-split, invoke-within}, put_invoke.Statement.statement}
 use Rattle.trunk_write_frames.proofs.put_invoke.Tie as tie
 
@@ -9,7 +9,7 @@ start i = i .before .before .before
 put-small-requires : tie.Need-put-small-requires
 put-small-requires c κs =
     let w = c .before .before .before .before in let i = w .before in let p = start i .pre in
-    (invoke-operation _ (p .valid), room-head _ (room-2 (invoke-split _ (p .valid) (i .id-of .ensures)) (p .room) (w .put-id .ensures)))
+    (invoke-operation _ (p .valid), room-mid _ (invoke-split _ (p .valid) (i .id-of .ensures)) (p .room) (w .put-id .ensures))
 
 put-body-requires : tie.Need-put-body-requires
 put-body-requires c κs =
@@ -29,5 +29,5 @@ pub put-invoke-spec : {M : Type 1} → statement M
 put-invoke-spec =
     tie.close
     (tie.spec (λ c κs. omega arith)
-    (λ c κs. let p = start c .pre in room-head _ (room-as (p .room) (invoke-split _ (p .valid) (c .id-of .ensures))))
+    (λ c κs. let p = start c .pre in room-1 _ (invoke-split _ (p .valid) (c .id-of .ensures)) (p .room))
     (λ c. omega arith) put-small-requires (λ c. omega arith) put-body-requires (λ c. omega arith) returns)

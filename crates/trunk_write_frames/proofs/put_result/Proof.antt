@@ -1,4 +1,4 @@
-use Rattle.trunk_write_frames.proofs.Cited.{arith, room-as, room-head, wrote-both, room-tail, room-2, wrote-two}
+use Rattle.trunk_write_frames.proofs.{Cited.{arith, room-head, wrote-both, room-tail, room-2, wrote-two}, Dispatch.{room-1, room-mid}}
 use Rattle.trunk_write_frames.proofs.{Frames.{result-body, result-operation, result-split, result-within}, put_result.Statement.statement}
 use Rattle.trunk_write_frames.proofs.put_result.Tie as tie
 
@@ -14,7 +14,7 @@ put-lead-requires c κs =
     let f = b .before .result-form .ensures in
     let n = b .body-size .ensures .0 in (
       omega (arith, result-within _ (p .valid) f n, p .few),
-      room-head _ (room-2 (result-split _ (p .valid) f n (i .before .id-of .ensures)) (p .room) (i .put-id .ensures)),
+      room-mid _ (result-split _ (p .valid) f n (i .before .id-of .ensures)) (p .room) (i .put-id .ensures),
     )
 
 put-small-requires : tie.Need-put-small-requires
@@ -51,6 +51,6 @@ put-result-spec =
     (λ c κs. result-body _ (c .before .before .before .pre .valid) (c .result-form .ensures)) (λ c κs. omega arith)
     (λ c κs.
     let b = c .before .before in let p = start b .pre in
-    room-head _ (room-as (p .room) (result-split _ (p .valid) (b .before .result-form .ensures) (b .body-size .ensures .0) (c .id-of .ensures))))
+    room-1 _ (result-split _ (p .valid) (b .before .result-form .ensures) (b .body-size .ensures .0) (c .id-of .ensures)) (p .room))
     (λ c. let i = c .before .before .before in omega (arith, sized i .body-size .ensures .1))
     put-lead-requires (λ c. omega arith) put-small-requires put-body-requires (λ c. omega arith) returns)

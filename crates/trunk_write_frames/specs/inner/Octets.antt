@@ -2,9 +2,11 @@
 use Prim.Native.Nat.{ℕ, _+_, _*_, _≤_}
 use mathlib.Core.Path.{_≡_}
 use mathlib.Core.Bool.{true, cond}
-use mathlib.Core.List.{List, _∷_, _++_}
+use mathlib.Core.List.{List, [], _∷_, _++_}
 use lib.ListN.{length, getD}
 use lib.Dec.{eqb}
+use denote.Ref.{RefT, now}
+use denote.Triple.Both.{Both}
 use Rattle.coding.specs.Codec.{Run, prim, pickRun, lengthOctets, writeAll}
 use Rattle.coding.specs.Rows.{table}
 use Rattle.coding.specs.Leaves.{number, identifier}
@@ -15,7 +17,7 @@ use Rattle.types.specs.Stored.{two, associationIn, storedCharge}
 use Rattle.trunk_types.specs.declared.Extension.{Extension}
 use Rattle.trunk_types.specs.declared.Body.{Body}
 use Rattle.trunk_types.specs.declared.Trunk.{Trunk}
-use Rattle.trunk_types.specs.Extensions.{keptOctets, parameter}
+use Rattle.trunk_types.specs.Extensions.{keptOctets}
 use Rattle.trunk_types.specs.Bodies.{dummy, extended, address}
 use Rattle.trunk_types.specs.Components.{trunkFrame}
 use Rattle.trunk_types.specs.Stored.{modesIn, extensionIn, bodyIn, trunkIn}
@@ -27,22 +29,53 @@ pub record Fits {A : Type 0} (f : Run A) (x : A) (most : ℕ) (buf : List ℕ) (
   pub few : length (f .write x) ≤ most
   pub room : Room buf at (f .write x)
 
--- ---- the five parts
-
-abbrev pub given : List ℕ → List ℕ → List ℕ → List ℕ → List ℕ → Trunk
-given front extension figure numbers rows = trunkIn front extension (storedCharge figure numbers rows)
-
-abbrev pub bodyGiven : List ℕ → List ℕ → List ℕ → List ℕ → List ℕ → Body
-bodyGiven front extension figure numbers rows = bodyIn front extension (storedCharge figure numbers rows)
+-- ---- the parts in which a component is lent
 
 -- without the extension
-abbrev pub innerGiven : List ℕ → List ℕ → List ℕ → List ℕ → Body
-innerGiven front figure numbers rows = innerIn front (storedCharge figure numbers rows)
+pub record Four : Type 0 where
+  pub front : List ℕ
+  pub figure : List ℕ
+  pub numbers : List ℕ
+  pub rows : List ℕ
+
+pub record Parts : Type 0 where
+  pub front : List ℕ
+  pub extension : List ℕ
+  pub figure : List ℕ
+  pub numbers : List ℕ
+  pub rows : List ℕ
+
+-- what is in them
+abbrev pub inner : Four → Body
+inner p = innerIn (p .front) (storedCharge (p .figure) (p .numbers) (p .rows))
+
+abbrev pub body : Parts → Body
+body p = bodyIn (p .front) (p .extension) (storedCharge (p .figure) (p .numbers) (p .rows))
+
+abbrev pub whole : Parts → Trunk
+whole p = trunkIn (p .front) (p .extension) (storedCharge (p .figure) (p .numbers) (p .rows))
+
+-- the arrays as a function has them, and as they were at its call
+abbrev pub heldFour : (front figure numbers rows : RefT (List ℕ)) → Four
+heldFour front figure numbers rows = record { front = now front; figure = now figure; numbers = now numbers; rows = now rows }
+
+abbrev pub lentFour : (front figure numbers rows : Both (RefT (List ℕ)) (RefT (List ℕ))) → Four
+lentFour front figure numbers rows = heldFour (front .entry) (figure .entry) (numbers .entry) (rows .entry)
+
+abbrev pub held : (front extension figure numbers rows : RefT (List ℕ)) → Parts
+held front extension figure numbers rows = record { front = now front; extension = now extension; figure = now figure; numbers = now numbers; rows = now rows }
+
+abbrev pub lent : (front extension figure numbers rows : Both (RefT (List ℕ)) (RefT (List ℕ))) → Parts
+lent front extension figure numbers rows = held (front .entry) (extension .entry) (figure .entry) (numbers .entry) (rows .entry)
 
 -- ---- the extension: its octets as they were received, under a tag
 
 abbrev pub extensionOctets : ℕ → Extension → List ℕ
 extensionOctets tag x = tag ∷ lengthOctets (length (keptOctets x)) ++ keptOctets x
+
+-- nothing where there is none; a list's tag is A2
+unfoldable pub taggedBy : ℕ → Extension → List ℕ
+taggedBy one x = cond (eqb (x .kind) 0) [] (extensionOctets (cond (eqb (x .kind) 2) 0xa2 one) x)
 
 -- one that is there has as many octets as it says
 pub record Counted (x : Extension) : Type 0 where
@@ -85,7 +118,7 @@ abbrev pub idOctets : List ℕ → List ℕ
 idOctets front = (prim 0x02 identifier) .write (two front 2)
 
 unfoldable pub errorOctets : List ℕ → List ℕ → List ℕ
-errorOctets front extension = idOctets front ++ (fullNumber 0x02 (two front 4) ++ parameter .write (extensionIn extension))
+errorOctets front extension = idOctets front ++ (fullNumber 0x02 (two front 4) ++ taggedBy 0x30 (extensionIn extension))
 
 -- ---- a reject: the identifier or NULL, and the problem
 

@@ -1,6 +1,5 @@
 use Rattle.prelude.proofs.Prelude.{arith, needs}
-use Rattle.trunk_write_tests.proofs.Blank.{not-extended}
-use Rattle.trunk_write_tests.proofs.extension_fine.Statement.{statement}
+use Rattle.trunk_write_tests.proofs.{Blank.not-extended, extension_fine.Statement.statement}
 use Rattle.trunk_write_tests.proofs.extension_fine.Tie as tie
 
 pub extension-fine-spec : {M : Type 1} → statement M

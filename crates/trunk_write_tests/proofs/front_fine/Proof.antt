@@ -2,9 +2,7 @@ use Rattle.prelude.proofs.Prelude.{arith, needs}
 use Rattle.coding.specs.Reader.{part}
 use Rattle.write_tests.proofs.Truth.{answered}
 use Rattle.trunk_write_tests.specs.inner.Fine.{frontFits}
-use Rattle.trunk_write_tests.proofs.Tests.{as-front}
-use Rattle.trunk_write_tests.proofs.Blank.{no-people}
-use Rattle.trunk_write_tests.proofs.front_fine.Statement.{statement}
+use Rattle.trunk_write_tests.proofs.{Tests.as-front, Blank.no-people, front_fine.Statement.statement}
 use Rattle.trunk_write_tests.proofs.front_fine.Tie as tie
 
 pub front-fine-spec : {M : Type 1} → statement M

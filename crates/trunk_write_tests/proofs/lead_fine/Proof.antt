@@ -8,4 +8,6 @@ pub lead-fine-spec : {M : Type 1} → statement M
 unfolding leadFine
 lead-fine-spec =
     tie.close
-    (tie.spec (omega arith) (λ c. search) (omega arith) (λ c. search) (omega arith) (λ c. search) (omega arith) (λ c. search) (omega arith) (λ c. search) (λ c. search tests))
+    (tie.spec (λ c. search tests) (λ c. search tests) (omega arith) (λ c. search tests) (λ c. search tests) (λ c. search tests) (λ c. search tests)
+    (omega arith) (omega arith) (λ c. search tests) (λ c. search tests) (omega arith) (omega arith) (λ c. search tests) (omega arith) (omega arith)
+    (λ c. search tests) (λ c. search tests) (λ c. search tests) (λ c. search tests))

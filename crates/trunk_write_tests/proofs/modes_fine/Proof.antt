@@ -1,8 +1,7 @@
 use Rattle.prelude.proofs.Prelude.{arith}
 use Rattle.coding.proofs.Tests.{tests}
 use Rattle.write_tests.proofs.Truth.{answered}
-use Rattle.trunk_write_tests.proofs.Tests.{modes-none, some-modes}
-use Rattle.trunk_write_tests.proofs.modes_fine.Statement.{statement}
+use Rattle.trunk_write_tests.proofs.{Tests.{modes-none, some-modes}, modes_fine.Statement.statement}
 use Rattle.trunk_write_tests.proofs.modes_fine.Tie as tie
 
 pub modes-fine-spec : {M : Type 1} → statement M

@@ -1,6 +1,5 @@
 use Rattle.prelude.proofs.Prelude.{arith}
-use Rattle.trunk_write_tests.proofs.Tests.{none-by, some-by}
-use Rattle.trunk_write_tests.proofs.number_if.Statement.{statement}
+use Rattle.trunk_write_tests.proofs.{Tests.{none-by, some-by}, number_if.Statement.statement}
 use Rattle.trunk_write_tests.proofs.number_if.Tie as tie
 
 pub number-if-spec : {M : Type 1} → statement M

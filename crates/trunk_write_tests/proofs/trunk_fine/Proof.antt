@@ -1,20 +1,19 @@
-use Rattle.prelude.proofs.Prelude.{arith}
-use Rattle.trunk_types.specs.Stored.{trunkIn}
-use Rattle.write_tests.proofs.Truth.{test-no, test-yes}
-use Rattle.trunk_write_tests.proofs.Tests.{as-trunk}
-use Rattle.trunk_write_tests.proofs.trunk_fine.Statement.{statement}
+use Rattle.prelude.proofs.Prelude.{refl, arith}
+use Rattle.write_tests.proofs.Truth.{answered}
+use Rattle.trunk_write_tests.proofs.{Tests.as-trunk, trunk_fine.Statement.statement}
 use Rattle.trunk_write_tests.proofs.trunk_fine.Tie as tie
 
-returns : tie.Need-returns
-unfolding trunkIn
-returns c = as-trunk _ _ (c .before .before .lead-of .ensures) (test-no _ _ _ (c .before .lead-fine .ensures) (c .if1 .taken))
+abbrev lead : tie.After-form-of → tie.After-lead-of
+lead f = f .before .before .before
 
-returns-2 : tie.Need-returns-2
-unfolding trunkIn
-returns-2 c =
-    let l = c .before .before in
-    as-trunk _ _ (l .before .before .lead-of .ensures)
-    (test-yes _ _ _ _ (l .before .lead-fine .ensures) (l .if1 .left) (rw (← c .before .form-of .ensures) (c .body-fine .ensures)))
+abbrev formed : tie.Else2 → tie.After-form-of
+formed e = e .before .before
 
 pub trunk-fine-spec : {M : Type 1} → statement M
-trunk-fine-spec = tie.close (tie.spec (λ c κs. omega arith) (λ c κs. omega arith) returns (λ c κs. omega arith) (λ c κs. omega arith) returns-2)
+trunk-fine-spec =
+    tie.close
+    (tie.spec (λ c κs. omega arith) (λ c κs. omega arith) (λ c. as-trunk _ _ _ _ (c .before .before .lead-of .ensures) refl (search answered))
+    (λ c κs. omega arith) (λ c κs. omega arith)
+    (λ c. let f = c .before .before in as-trunk _ _ _ _ (lead f .lead-of .ensures) (f .form-of .ensures) (search answered)) (λ c κs. omega arith)
+    (λ c. let f = formed (c .before .before) in as-trunk _ _ _ _ (lead f .lead-of .ensures) (f .form-of .ensures) (search answered)) (λ c κs. omega arith)
+    (λ c. let f = formed (c .before .before .before) in as-trunk _ _ _ _ (lead f .lead-of .ensures) (f .form-of .ensures) (search answered)))

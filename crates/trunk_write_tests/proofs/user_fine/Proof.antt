@@ -1,8 +1,7 @@
 use Rattle.prelude.proofs.Prelude.{arith}
 use Rattle.coding.proofs.Tests.{tests}
-use Rattle.trunk_write_tests.proofs.Tests.{told-so, told-not}
+use Rattle.trunk_write_tests.proofs.{Tests.{told-so, told-not}, user_fine.Statement.statement}
 use Rattle.trunk_write_tests.specs.inner.Fine.{userFine}
-use Rattle.trunk_write_tests.proofs.user_fine.Statement.{statement}
 use Rattle.trunk_write_tests.proofs.user_fine.Tie as tie
 
 pub user-fine-spec : {M : Type 1} → statement M

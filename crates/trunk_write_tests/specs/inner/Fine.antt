@@ -22,7 +22,7 @@ use Rattle.trunk_types.specs.declared.Trunk.{Trunk}
 use Rattle.trunk_types.specs.Extensions.{anyExtension}
 use Rattle.trunk_types.specs.Bodies.{noModes, sameModes}
 use Rattle.trunk_types.specs.Stored.{modesIn}
-use Rattle.trunk_types.specs.Components.{leadBy, sameLead, trunkOperations, answerable, trunkErrors}
+use Rattle.trunk_types.specs.Components.{trunkOperations, answerable, trunkErrors}
 
 -- ---- the lead, by the frame
 
@@ -34,13 +34,15 @@ isPattern i = ltb i 0x10000
 abbrev pub calledBy : Lead → Bool
 calledBy l = cond (eqb (l .unnamed) 1) (eqb 0 (l .id)) (eqb 0 (l .unnamed) && isPattern (l .id))
 
+-- what a frame does not have is zero
 unfoldable pub leadFine : Lead → Bool
 leadFine l =
-    cond (eqb (l .frame) 1) (isPattern (l .id) && (oneOf trunkOperations (l .operation) && sameLead (leadBy 1 0 (l .id) 0 (l .operation) 0) l))
-    (cond (eqb (l .frame) 2) (isPattern (l .id) && (oneOf answerable (l .operation) && sameLead (leadBy 2 0 (l .id) 0 (l .operation) 0) l))
-    (cond (eqb (l .frame) 3) (isPattern (l .id) && (oneOf trunkErrors (l .error) && sameLead (leadBy 3 0 (l .id) (l .error) 0 0) l))
-    (cond (eqb (l .frame) 4) (calledBy l && sameLead (leadBy 4 (l .unnamed) (l .id) 0 0 (l .problem)) l)
-    (sameLead (leadBy 10 0 0 0 0 0) l))))
+    cond (eqb (l .frame) 4) (eqb 0 (l .error) && (eqb 0 (l .operation) && calledBy l))
+    (eqb 0 (l .unnamed) && (eqb 0 (l .problem)
+    && cond (eqb (l .frame) 3) (eqb 0 (l .operation) && (isPattern (l .id) && oneOf trunkErrors (l .error)))
+    (eqb 0 (l .error)
+    && cond (eqb (l .frame) 1) (isPattern (l .id) && oneOf trunkOperations (l .operation))
+    (cond (eqb (l .frame) 2) (isPattern (l .id) && oneOf answerable (l .operation)) (eqb 0 (l .id) && (eqb 0 (l .operation) && eqb (l .frame) 10))))))
 
 -- ---- the form: 1 and 2 the results of 59 and 64, 3 an error, 8 the error 1008, 4 a reject, 10 a network facility extension; of an argument the operation
 

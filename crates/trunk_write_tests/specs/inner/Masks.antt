@@ -1,4 +1,4 @@
--- The octets of a trunk's figure that its kind uses. All others must be zero, as write_tests/specs/inner/Masks.antt has it.
+-- The octets of a trunk's figure that its kind uses. All others must be zero, as write_masks/specs/inner/Masks.antt has it.
 use Prim.Native.Nat.{ℕ}
 use mathlib.Core.Bool.{Bool, true, _&&_, cond}
 use mathlib.Core.List.{List, _++_}
@@ -6,7 +6,7 @@ use lib.ListN.{getD}
 use lib.Dec.{eqb}
 use Rattle.types.specs.Charges.{money}
 use Rattle.types.specs.Stored.{moneyIn}
-use Rattle.write_tests.specs.inner.Masks.{isUsed, isZero, withMoney, withoutMoney, bareMask, clearBut}
+use Rattle.write_masks.specs.inner.Masks.{isUsed, isZero, withMoney, withoutMoney, bareMask, clearBut}
 use Rattle.trunk_write_tests.specs.inner.Fine.{kindFine, isBilling}
 
 -- money has no total and no arrangement

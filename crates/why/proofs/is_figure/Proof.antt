@@ -1,18 +1,13 @@
-use Rattle.prelude.proofs.Prelude.{sym, _∙_, eq-eqb, ne-eqb, not-true, not-false, arith}
+use Rattle.prelude.proofs.Prelude.{refl, eq-eqb, ne-eqb, arith}
 use Rattle.why.proofs.is_figure.Statement.{statement}
 use Rattle.why.proofs.is_figure.Tie as tie
 
-returns-2 : tie.Need-returns-2
-returns-2 c =
-    let other = c .before .before in
-    rw (sym (other .before .before .read .ensures)) (simp (eq-eqb _ _ (other .if1 .left), sym (c .before .within .ensures) ∙ not-true _ (c .if2 .taken)))
-
-returns-3 : tie.Need-returns-3
-returns-3 c =
-    let among = c .before .before in
-    let invoked = among .before in
-    rw (sym (invoked .before .before .read .ensures)) (simp (eq-eqb _ _ (invoked .if1 .left), sym (among .within .ensures) ∙ not-false _ (c .before .if2 .left)) (c .within2 .ensures))
-
 pub is-figure-spec : {M : Type 1} → statement M
 is-figure-spec =
-    tie.close (tie.spec (omega arith) (λ c. rw (sym (c .before .before .read .ensures)) (simp (ne-eqb _ _ (c .if1 .taken)))) (omega arith) returns-2 (omega arith) returns-3)
+    tie.close
+    (tie.spec (omega arith) (omega arith) (omega arith)
+    (λ c. let w = c .before .before in let i = w .before in let r = i .before .before .before in
+    rw (← r .read .ensures, eq-eqb _ _ (i .if1 .taken), ← w .within .ensures, c .before .if2 .taken) (c .within2 .ensures))
+    (λ c. let w = c .before in let i = w .before in let r = i .before .before .before in
+    rw (← r .read .ensures, eq-eqb _ _ (i .if1 .taken), ← w .within .ensures, c .if2 .left) refl)
+    (λ c. let r = c .before .before .before in rw (← r .read .ensures, ne-eqb _ _ (c .if1 .left)) refl))

@@ -1,6 +1,5 @@
 use Rattle.prelude.proofs.Prelude.{_<_, arith, needs}
-use Rattle.types.specs.declared.Record.{Record}
-use Rattle.types.specs.Stored.{withList}
+use Rattle.types.specs.{declared.Record.Record, Stored.withList}
 use Rattle.write_rate.proofs.Prices.{was-true}
 use Rattle.write.specs.inner.Halves.{recordOf}
 use Rattle.write.proofs.{Fits.its-front, Fits.frame-few, Outcomes.Known, Outcomes.Sized, Outcomes.Whole, Outcomes.not-fine, Outcomes.long-charge, Outcomes.long-body, Outcomes.no-room}

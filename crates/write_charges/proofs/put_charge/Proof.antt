@@ -1,7 +1,8 @@
 use Rattle.prelude.proofs.Prelude.{ap, _∙_, arith, needs, length}
 use Rattle.types.specs.{declared.Charge.Charge, Arguments.chargeOf, Stored.withList}
 use Rattle.write_figures.proofs.Plain.{unlisted-plain, unlisted-write}
-use Rattle.write_rate.proofs.Three.{named, room-by}
+use Rattle.coding.proofs.Writing.{room-as}
+use Rattle.write_rate.proofs.Three.{named}
 use Rattle.write_rates.proofs.Listed.{list-wider}
 use Rattle.write_charges.proofs.{Charged.{figure-fine, units-fine, rates-fine, units-octets, rates-octets}, put_charge.Statement.statement}
 use Rattle.write_charges.proofs.put_charge.Tie as tie
@@ -15,7 +16,7 @@ put-units-charge-requires c κs =
     let s = c3 .before in
     let v = s .pre .1 .1 in
     let e = units-octets (s .args .operation) (s .pre .0) (held s) (v .0) (omega arith) in
-    ((figure-fine _ (s .pre .0) (held s) (v .0), units-fine _ (s .pre .0) (held s) (v .0) (omega arith)), (omega (arith, v .1 .0, ap length e), room-by e (v .1 .1)))
+    ((figure-fine _ (s .pre .0) (held s) (v .0), units-fine _ (s .pre .0) (held s) (v .0) (omega arith)), (omega (arith, v .1 .0, ap length e), room-as (v .1 .1) e))
 
 put-rates-charge-requires : tie.Need-put-rates-charge-requires
 put-rates-charge-requires c κs =
@@ -23,7 +24,7 @@ put-rates-charge-requires c κs =
     let s = c3 .before .before .before in
     let v = s .pre .1 .1 in
     let e = rates-octets (s .args .operation) (s .pre .0) (held s) (v .0) (omega arith) in
-    (s .pre .1 .0, (list-wider _ _ (rates-fine _ (s .pre .0) (held s) (v .0) (omega arith)), (omega (arith, v .1 .0, ap length e), room-by e (v .1 .1))))
+    (s .pre .1 .0, (list-wider _ _ (rates-fine _ (s .pre .0) (held s) (v .0) (omega arith)), (omega (arith, v .1 .0, ap length e), room-as (v .1 .1) e)))
 
 put-figure-requires : tie.Need-put-figure-requires
 put-figure-requires c κs =

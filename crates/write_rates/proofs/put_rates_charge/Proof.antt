@@ -1,6 +1,5 @@
 use Rattle.prelude.proofs.Prelude.{arith, needs, true}
-use Rattle.write_rates.proofs.Listed.{rates-valid, rates-length, put-rates-1, put-rates-2, put-rates-3}
-use Rattle.write_rates.proofs.put_rates_charge.Statement.{statement}
+use Rattle.write_rates.proofs.{Listed.{rates-valid, rates-length, put-rates-1, put-rates-2, put-rates-3}, put_rates_charge.Statement.statement}
 use Rattle.write_rates.proofs.put_rates_charge.Tie as tie
 
 pub put-rates-charge-spec : {M : Type 1} → statement M

@@ -1,8 +1,0 @@
-use Rattle.coding.proofs.Tests.{tests}
-use Rattle.write_tests.specs.inner.Fine.{bareKind}
-use Rattle.write_tests.proofs.bare_kind.Statement.{statement}
-use Rattle.write_tests.proofs.bare_kind.Tie as tie
-
-pub bare-kind-spec : {M : Type 1} → statement M
-unfolding bareKind
-bare-kind-spec = tie.close (tie.spec (λ c. search tests) (λ c. search tests) (λ c. search tests) (λ c. search tests))

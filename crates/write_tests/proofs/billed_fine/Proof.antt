@@ -1,6 +1,0 @@
-use Rattle.coding.proofs.Tests.{tests}
-use Rattle.write_tests.proofs.billed_fine.Statement.{statement}
-use Rattle.write_tests.proofs.billed_fine.Tie as tie
-
-pub billed-fine-spec : {M : Type 1} → statement M
-billed-fine-spec = tie.close (tie.spec (λ c. search tests) (λ c. search tests) (λ c. search tests) (λ c. search tests))
