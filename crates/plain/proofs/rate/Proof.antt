@@ -1,7 +1,10 @@
-use Rattle.plain.specs.Answers.{plainCurrentRate}
-use Rattle.plain.proofs.{Cited.{refl, arith}, Figures.rate-kept, rate.Statement.statement}
+use Rattle.plain.specs.Answers.{plainCharge, plainCurrentRate}
+use Rattle.plain.proofs.{Cited.{ap, _∙_, arith, history}, Figures.rate-kept, rate.Statement.statement}
 use Rattle.plain.proofs.rate.Tie as tie
 
 pub rate-spec : {M : Type 1} → statement M
 unfolding plainCurrentRate
-rate-spec = tie.close (tie.spec (omega arith) (λ c. rw (c .kept .ensures, rate-kept) refl))
+rate-spec =
+    tie.close
+    (tie.spec (omega arith) (λ c. let a = c .before .before .before .args in
+    c .kept .ensures ∙ ap (plainCharge (a .rows .now) (a .octets .now)) (rate-kept (history (a .rows .now) (a .octets .now)))))
