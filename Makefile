@@ -2,7 +2,7 @@
 .PHONY: check test edits docs install release
 
 check: ; sh .ci/run
-test: ; sh tools/archive && for test in tests/*.sh; do sh "$$test" || exit 1; done
+test: ; sh tools/tests
 # make edits CRATE=reply [LABEL=answers_accepted]
 edits: ; sh tools/edits $(CRATE) $(LABEL)
 # tables that scripts print: docs/*.sh
