@@ -77,16 +77,7 @@ pub fn fresh() -> Account
     ensures { λ r. ⌜ r ≡ fresh ⌝ }
 {
     let none = no_charge();
-    let empty = Services::empty();
-    let status = Status {
-        phase: phases::IDLE,
-        asked: empty,
-        s: 0,
-        d: 0,
-        e: 0,
-        absent: empty,
-        conflict: empty,
-    };
+    let status = phases::bare(phases::IDLE);
     Account {
         status,
         rate: none,
@@ -112,6 +103,12 @@ pub fn running_of(a: Account) -> Charge
     a.running
 }
 
+pub fn closing_figure(service: u32, value: Charge) -> Closing
+    ensures { λ r. ⌜ r ≡ record { service = service; value = value } ⌝ }
+{
+    Closing { service, value }
+}
+
 pub fn closing_of(a: Account) -> Closing
     ensures one { λ r. ⌜ r ≡ closingOf a ⌝ }
     ensures rules { λ r. ⌜ ((h : List Given) → a ≡ accountBy (judged h) → r ≡ closing (judged h)) ⌝ }
@@ -120,36 +117,23 @@ pub fn closing_of(a: Account) -> Closing
     let e = a.efinal;
     let none = no_charge();
     if a.status.phase != phases::ENDED {
-        return Closing {
-            service: closing_service::NONE,
-            value: none,
-        };
+        return closing_figure(closing_service::NONE, none);
     }
     if e.figure.kind != charge_kind::NONE {
-        return Closing {
-            service: closing_service::E,
-            value: e,
-        };
+        return closing_figure(closing_service::E, e);
     }
     if d.figure.kind != charge_kind::NONE {
-        return Closing {
-            service: closing_service::D,
-            value: d,
-        };
+        return closing_figure(closing_service::D, d);
     }
-    Closing {
-        service: closing_service::NONE,
-        value: none,
-    }
+    closing_figure(closing_service::NONE, none)
 }
 
 pub fn marks_of(a: Account) -> Marks
     ensures one { λ r. ⌜ r ≡ marksOf a ⌝ }
     ensures rules { λ r. ⌜ ((h : List Given) → a ≡ accountBy (judged h) → r ≡ marks (judged h)) ⌝ }
 {
-    let t = a.status;
-    let absent = t.absent;
-    let conflict = t.conflict;
+    let absent = a.status.absent;
+    let conflict = a.status.conflict;
     Marks { absent, conflict }
 }
 
@@ -180,35 +164,17 @@ pub fn phase_of(a: Account) -> u8
 pub fn setup_event(asked: Services, ids: Three) -> Event
     ensures { λ r. ⌜ r ≡ setupEvent asked ids ⌝ }
 {
-    Event {
-        kind: phases::SETUP,
-        asked,
-        s: ids.s,
-        d: ids.d,
-        e: ids.e,
-    }
+    phases::event_of(phases::SETUP, asked, ids.s, ids.d, ids.e)
 }
 
 pub fn plain_event(kind: u8) -> Event
     ensures { λ r. ⌜ r ≡ plainEvent kind ⌝ }
 {
-    Event {
-        kind,
-        asked: Services::EMPTY,
-        s: 0,
-        d: 0,
-        e: 0,
-    }
+    phases::bare_event(kind)
 }
 
 pub fn component_event() -> Event
     ensures { λ r. ⌜ r ≡ plainEvent Component ⌝ }
 {
-    Event {
-        kind: phases::COMPONENT,
-        asked: Services::EMPTY,
-        s: 0,
-        d: 0,
-        e: 0,
-    }
+    phases::bare_event(phases::COMPONENT)
 }

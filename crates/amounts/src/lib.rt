@@ -28,10 +28,7 @@ fn letter(c: Currency, i: usize) -> u8
     ensures { λ r. ⌜ r ≡ getD (counted c) i 0x20 ⌝ }
 {
     let n = c.count as usize;
-    if i < n {
-        return c.octets[i];
-    }
-    0x20
+    if i < n { c.octets[i] } else { 0x20 }
 }
 
 // Whether two currencies are equal, whatever spaces trail.
@@ -52,12 +49,6 @@ pub fn same_currency(a: Currency, b: Currency) -> bool
 pub fn same_money(a: Money, b: Money) -> bool
     ensures { λ r. ⌜ r ≡ equalMoney a b ⌝ }
 {
-    let x = thousandths(a.number, a.multiplier);
-    let y = thousandths(b.number, b.multiplier);
-    if x != y {
-        return false;
-    }
-    let c = a.currency;
-    let d = b.currency;
-    same_currency(c, d)
+    thousandths(a.number, a.multiplier) == thousandths(b.number, b.multiplier)
+        && same_currency(a.currency, b.currency)
 }

@@ -3,6 +3,7 @@
 // What calls itself here does so for each element, up to an end that Bounded holds to 257 octets, and a call goes on past two octets
 // or more. It answers one number, so that a call takes little of the stack.
 use coding::refusal;
+use read_elements::Empty;
 ghost use Prim.Native.Nat.{_+_, _-_, _*_, _/_, _%_, _≤_, _<_};
 ghost use mathlib.Core.Path.{_≡_};
 ghost use mathlib.Core.Bool.{true, cond};
@@ -150,49 +151,22 @@ pub fn put_sized(
     put_forms(s, at, end, buf, to)
 }
 
-// An element passed over: the fault's number, or 0; its place; the place after it.
-pub struct Passed {
-    pub fault: u8,
-    pub place: usize,
-    pub next: usize,
-}
-
-fn halted(fault: u8, place: usize) -> Passed
-    ensures { λ r. ⌜ r ≡ record { fault = fault; place = place; next = 0 } ⌝ }
-{
-    Passed {
-        fault,
-        place,
-        next: 0,
-    }
-}
-
-fn reached(next: usize) -> Passed
-    ensures { λ r. ⌜ r ≡ record { fault = 0; place = 0; next = next } ⌝ }
-{
-    Passed {
-        fault: 0,
-        place: 0,
-        next,
-    }
-}
-
 // The fault that a number reports.
-fn faulted(m: usize) -> Passed
+fn faulted(m: usize) -> Empty
     requires { ⌜ 1000 ≤ m ⌝ }
     ensures { λ r. ⌜ r ≡ record { fault = (m - 1000) % 256; place = (m - 1000) / 256; next = 0 } ⌝ }
 {
     let k = m - FAULTS;
-    halted((k % 256) as u8, k / 256)
+    read_elements::halted((k % 256) as u8, k / 256)
 }
 
 // One element of any tag, looked into to the bottom.
-pub fn any_at(s: &[u8], at: usize, end: usize) -> Passed
+pub fn any_at(s: &[u8], at: usize, end: usize) -> Empty
     requires { ⌜ Bounded (now s) end ⌝ }
     ensures { λ r. ⌜ (r .fault, r .place, tt, r .next) ≡ shown tt (told (anyElement .read (now (s .entry)) at end)) ⌝ }
 {
     if end <= at {
-        return halted(refusal::MISSING, end);
+        return read_elements::halted(refusal::MISSING, end);
     }
     let o = span_at(s, at, end);
     if o < SPANS {
@@ -203,7 +177,7 @@ pub fn any_at(s: &[u8], at: usize, end: usize) -> Passed
         if FAULTS <= inner {
             return faulted(inner);
         }
-        return reached(o / SPANS);
+        return read_elements::reached(o / SPANS);
     }
-    reached(o / SPANS)
+    read_elements::reached(o / SPANS)
 }

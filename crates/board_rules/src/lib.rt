@@ -14,7 +14,7 @@ ghost use mathlib.Core.Path.{_≡_};
 ghost use Rattle.account.specs.History.{freshStatus};
 ghost use Rattle.phases.specs.inner.ByNumber.{movingOf};
 ghost use Rattle.board_rules.specs.Board.{lowest, uncollected};
-ghost use Rattle.board_rules.specs.inner.ByValue.{seatOf, takenUp, freeOf, viewedOf};
+ghost use Rattle.board_rules.specs.inner.ByValue.{seated, seatOf, takenUp, freed, freeOf, viewedOf};
 
 // As wide as the answers have them.
 const NOT_HELD: u32 = refusal::NOT_HELD as u32;
@@ -98,9 +98,13 @@ pub fn slot_at(keys: [u32; 64], reference: u16) -> usize
 fn begin(e: Event) -> Moving
     ensures { λ r. ⌜ r ≡ movingOf freshStatus e ⌝ }
 {
-    let a = account::fresh();
-    let t = a.status;
-    phases::phase_step(t, e)
+    phases::phase_step(phases::bare(phases::IDLE), e)
+}
+
+fn seated(at: usize, number: u8) -> Seat
+    ensures { λ r. ⌜ r ≡ seated at number ⌝ }
+{
+    Seat { at, number }
 }
 
 // 35, 36 and 37 come before 01's checks.
@@ -110,34 +114,19 @@ pub fn seat_of(keys: [u32; 64], reference: u16, e: Event) -> Seat
     let slot = slot_at(keys, reference);
     if e.kind != phases::SETUP {
         if slot == 64 {
-            return Seat {
-                at: 0,
-                number: refusal::NOT_HELD,
-            };
+            return seated(0, refusal::NOT_HELD);
         }
-        return Seat {
-            at: slot,
-            number: OWN_SLOT,
-        };
+        return seated(slot, OWN_SLOT);
     }
     if slot != 64 {
-        return Seat {
-            at: 0,
-            number: refusal::IN_USE,
-        };
+        return seated(0, refusal::IN_USE);
     }
     let free = slot_of(keys, 0);
     if free == 64 {
-        return Seat {
-            at: 0,
-            number: refusal::FULL,
-        };
+        return seated(0, refusal::FULL);
     }
     let m = begin(e);
-    Seat {
-        at: free,
-        number: m.outcome.number,
-    }
+    seated(free, m.outcome.number)
 }
 
 // ---- what a slot holds then
@@ -149,14 +138,8 @@ pub fn taken_up(reference: u16, e: Event) -> Held
     let m = begin(e);
     let outcome = m.outcome;
     let status = m.status;
-    let none = account::no_charge();
-    let account = Account {
-        status,
-        rate: none,
-        running: none,
-        dfinal: none,
-        efinal: none,
-    };
+    let mut account = account::fresh();
+    account.status = status;
     let key = key_of(reference);
     Held {
         outcome,
@@ -168,12 +151,18 @@ pub fn taken_up(reference: u16, e: Event) -> Held
 fn uncollected(number: u32) -> Collected
     ensures { λ r. ⌜ r ≡ uncollected number ⌝ }
 {
-    let none = account::no_charge();
-    let closing = Closing {
-        service: closing_service::NONE,
-        value: none,
-    };
+    let closing = account::closing_figure(closing_service::NONE, account::no_charge());
     Collected { number, closing }
+}
+
+fn answered(answer: Collected, key: u32, account: Account) -> Freed
+    ensures { λ r. ⌜ r ≡ freed answer key account ⌝ }
+{
+    Freed {
+        answer,
+        key,
+        account,
+    }
 }
 
 // A collection of the call in a slot; 64 is no slot.
@@ -181,29 +170,14 @@ pub fn free(a: Account, key: u32, slot: usize) -> Freed
     ensures { λ r. ⌜ r ≡ freeOf a key slot ⌝ }
 {
     if slot == 64 {
-        let answer = uncollected(NOT_HELD);
-        return Freed {
-            answer,
-            key,
-            account: a,
-        };
+        return answered(uncollected(NOT_HELD), key, a);
     }
     if a.status.phase != phases::ENDED {
-        let answer = uncollected(WRONG_PHASE);
-        return Freed {
-            answer,
-            key,
-            account: a,
-        };
+        return answered(uncollected(WRONG_PHASE), key, a);
     }
     let closing = account::closing_of(a);
     let answer = Collected { number: 0, closing };
-    let account = account::fresh();
-    Freed {
-        answer,
-        key: 0,
-        account,
-    }
+    answered(answer, 0, account::fresh())
 }
 
 // A reading of the call in a slot; 64 is no slot.

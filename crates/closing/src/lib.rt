@@ -17,10 +17,7 @@ const BAD_RECORD: u32 = refusal::BAD_RECORD as u32;
 fn is_closing(service: u32) -> bool
     ensures { λ r. ⌜ r ≡ closingService service ⌝ }
 {
-    if service == closing_service::D {
-        return true;
-    }
-    service == closing_service::E
+    service == closing_service::D || service == closing_service::E
 }
 
 // The operation that hands over a figure of D, or else of E.
@@ -65,11 +62,6 @@ pub fn in_range(service: u32, c: Charge) -> bool
     ensures { λ r. ⌜ r ≡ inRange service c ⌝ }
 {
     let kind = c.figure.kind;
-    if !is_closing(service) {
-        return false;
-    }
-    if kind == charge_kind::NONE {
-        return false;
-    }
-    argument_fine(c, operation_of(service, kind))
+    is_closing(service)
+        && (kind != charge_kind::NONE && argument_fine(c, operation_of(service, kind)))
 }

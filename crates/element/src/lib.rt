@@ -36,10 +36,7 @@ fn refused() -> Starts
 fn is_profile(octet: u8) -> bool
     ensures { λ r. ⌜ r ≡ isProfile octet ⌝ }
 {
-    if octet == 0x91 {
-        return true;
-    }
-    octet == 0x9f
+    octet == 0x91 || octet == 0x9f
 }
 
 // Whether the first three octets are right and something comes after them.
@@ -47,16 +44,9 @@ fn is_led(octets: &[u8]) -> bool
     ensures { λ r. ⌜ r ≡ led (now (octets .entry)) ⌝ }
     ensures short { λ r. ⌜ (r ≡ true → (4 ≤ length (now (octets .entry))) × (length (now (octets .entry)) ≤ 257)) ⌝ }
 {
-    if octets.len() < 4 {
-        return false;
-    }
-    if octets[0] != 0x1c {
-        return false;
-    }
-    if octets::wide(octets[1]) != octets.len() - 2 {
-        return false;
-    }
-    is_profile(octets[2])
+    4 <= octets.len()
+        && (octets[0] == 0x1c
+            && (octets::wide(octets[1]) == octets.len() - 2 && is_profile(octets[2])))
 }
 
 // The starts of the components, which begin after the third octet.
@@ -115,10 +105,7 @@ fn uncut() -> Cut
 fn settled(at: usize, place: usize, next: usize, after: usize) -> usize
     ensures { λ r. ⌜ r ≡ cond (eqb at place) next after ⌝ }
 {
-    if at == place {
-        return next;
-    }
-    after
+    if at == place { next } else { after }
 }
 
 // The same pass, which also looks for a place. With one caller it becomes part of it, and what that caller does not look at, such as the starts, is not stored.

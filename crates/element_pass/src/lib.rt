@@ -30,6 +30,16 @@ pub struct Found {
     pub number: u32,
 }
 
+fn found_as(after: usize, ended: usize, number: u32) -> Found
+    ensures { λ r. ⌜ r ≡ record { after = after; ended = ended; number = number } ⌝ }
+{
+    Found {
+        after,
+        ended,
+        number,
+    }
+}
+
 // The whole tiling is checked first.
 fn find(octets: &[u8], place: usize) -> Found
     ensures { λ r. ⌜ r ≡ foundAt (now (octets .entry)) place ⌝ }
@@ -37,32 +47,15 @@ fn find(octets: &[u8], place: usize) -> Found
 {
     let cut = element::cut_at(octets, place);
     if cut.tiles.number != 0 {
-        return Found {
-            after: 0,
-            ended: 0,
-            number: BAD_ELEMENT,
-        };
+        return found_as(0, 0, BAD_ELEMENT);
     }
     if place == octets.len() {
-        return Found {
-            after: 0,
-            ended: 1,
-            number: 0,
-        };
+        return found_as(0, 1, 0);
     }
-    let after = cut.after;
-    if after == 0 {
-        return Found {
-            after: 0,
-            ended: 0,
-            number: BAD_PLACE,
-        };
+    if cut.after == 0 {
+        return found_as(0, 0, BAD_PLACE);
     }
-    Found {
-        after,
-        ended: 0,
-        number: 0,
-    }
+    found_as(cut.after, 0, 0)
 }
 
 // What `find` gives at a place where a component begins, or at the end, once the tiling has been checked: only the tile there is looked at.
@@ -72,18 +65,10 @@ pub fn onward(octets: &[u8], place: usize) -> Found
 {
     let end = octets.len();
     if place == end {
-        return Found {
-            after: 0,
-            ended: 1,
-            number: 0,
-        };
+        return found_as(0, 1, 0);
     }
     let tile = read_lengths::open_at(octets, place, end, octets[place]);
-    Found {
-        after: tile.next,
-        ended: 0,
-        number: 0,
-    }
+    found_as(tile.next, 0, 0)
 }
 
 // What `find` gives at the first place. Going through an element by this and `onward` walks it twice, and by `find` once for each place.
@@ -94,11 +79,7 @@ pub fn first(octets: &[u8]) -> Found
     if tiles.number == 0 {
         return onward(octets, element::FIRST_PLACE);
     }
-    Found {
-        after: 0,
-        ended: 0,
-        number: BAD_ELEMENT,
-    }
+    found_as(0, 0, BAD_ELEMENT)
 }
 
 // Nothing read: a number, or the end. All four parts are zero beside it.
@@ -127,24 +108,21 @@ pub fn next_into(
     let f = find(octets, place);
     let after = f.after;
     let ended = f.ended;
-    if after == 0 {
-        *front = [0; 8];
-        *figure = [0; 48];
-        *numbers = [0; 32];
-        *rows = [0; 192];
-        return without(0, ended, f.number);
+    let mut number = f.number;
+    if after != 0 {
+        if octets[2] == 0x91 {
+            let answer = read::read_into(&octets[place..after], front, figure, numbers, rows);
+            return Next {
+                after,
+                ended,
+                answer,
+            };
+        }
+        number = OTHER_PROFILE;
     }
-    if octets[2] != 0x91 {
-        *front = [0; 8];
-        *figure = [0; 48];
-        *numbers = [0; 32];
-        *rows = [0; 192];
-        return without(after, ended, OTHER_PROFILE);
-    }
-    let answer = read::read_into(&octets[place..after], front, figure, numbers, rows);
-    Next {
-        after,
-        ended,
-        answer,
-    }
+    *front = [0; 8];
+    *figure = [0; 48];
+    *numbers = [0; 32];
+    *rows = [0; 192];
+    without(after, ended, number)
 }

@@ -39,13 +39,7 @@ fn is_held(octets: &[u8]) -> bool
     ensures { λ r. ⌜ r ≡ elementHolds (now (octets .entry)) ⌝ }
     ensures few { λ r. ⌜ (r ≡ true → length (now (octets .entry)) ≤ 254) ⌝ }
 {
-    if octets.len() == 0 {
-        return false;
-    }
-    if 254 < octets.len() {
-        return false;
-    }
-    is_tiled(octets)
+    octets.len() != 0 && (octets.len() <= 254 && is_tiled(octets))
 }
 
 // The three octets before the components, which have n octets.
@@ -92,10 +86,7 @@ pub fn element_into(octets: &[u8], buf: &mut [u8]) -> write::Written
 fn is_profile(octet: u8) -> bool
     ensures { λ r. ⌜ r ≡ isProfile octet ⌝ }
 {
-    if octet == 0x91 {
-        return true;
-    }
-    octet == 0x9f
+    octet == 0x91 || octet == 0x9f
 }
 
 // That of the family which the profile octet names: 91 or 9F.

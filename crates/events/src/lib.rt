@@ -100,19 +100,13 @@ pub fn count_at(rows: &[u16], i: usize) -> usize
 fn bit(mark: u8, value: u16) -> u16
     ensures { λ r. ⌜ r ≡ cond (eqb mark 0) 0 value ⌝ }
 {
-    if mark == 0 {
-        return 0;
-    }
-    value
+    if mark == 0 { 0 } else { value }
 }
 
 fn bits_of(t: requests::Services) -> u16
     ensures { λ r. ⌜ r ≡ bitsOf t ⌝ }
 {
-    let s = bit(t.s, 1);
-    let d = bit(t.d, 2);
-    let e = bit(t.e, 4);
-    s + d + e
+    bit(t.s, 1) + bit(t.d, 2) + bit(t.e, 4)
 }
 
 // A row written from a place on. The place after it.
@@ -120,10 +114,8 @@ pub fn put_row(rows: &mut [u16], at: usize, e: phases::Event, count: u16) -> usi
     requires { ⌜ Room (now rows) at (laidRow e count) ⌝ }
     ensures { λ r. ⌜ Wrote (now (rows .entry)) (now (rows .exit)) at (laidRow e count) r ⌝ }
 {
-    let asked = e.asked;
-    let bits = bits_of(asked);
     rows[at] = e.kind as u16;
-    rows[at + in_row::ASKED] = bits;
+    rows[at + in_row::ASKED] = bits_of(e.asked);
     rows[at + in_row::S] = e.s;
     rows[at + in_row::D] = e.d;
     rows[at + in_row::E] = e.e;

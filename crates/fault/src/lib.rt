@@ -13,10 +13,11 @@ use types::Charge;
 use types::Currency;
 use types::Money;
 use types::NO_MONEY;
-ghost use Prim.Native.Nat.{_≤_, _/_};
+ghost use Prim.Native.Nat.{_+_, _≤_, _/_};
 ghost use mathlib.Core.Path.{_≡_};
 ghost use mathlib.Core.Bool.{true};
 ghost use lib.ListN.{length};
+ghost use Rattle.types.specs.Thousandths.{thousandths};
 ghost use Rattle.account.specs.History.{judged};
 ghost use Rattle.events.specs.Events.{addsUp, eventsOf};
 ghost use Rattle.events.specs.inner.Prefix.{before};
@@ -63,35 +64,36 @@ struct Progress {
 
 // ---- the last counted amount before an event
 
+fn last_by(m: Money) -> Last
+    ensures { λ r. ⌜ r ≡ record { found = 1; amount = thousandths m } ⌝ }
+{
+    Last {
+        found: 1,
+        amount: amounts::thousandths(m.number, m.multiplier),
+    }
+}
+
 fn last_next(l: Last, c: Currency, e: Event, o: Outcome, octets: &[u8]) -> Last
     ensures { λ r. ⌜ r ≡ lastNext l c (judging e (now (octets .entry)) o) ⌝ }
 {
     let a = read::read(octets);
-    let front = a.value.front;
     let money = a.value.charge.figure.money;
-    let currency = money.currency;
-    let d = fault_rules::invokes_d(e.kind, front);
+    let d = fault_rules::invokes_d(e.kind, a.value.front);
     if !fault_rules::counted_money(d, a.value.charge.figure.kind, o) {
         return l;
     }
-    if !amounts::same_currency(currency, c) {
+    if !amounts::same_currency(money.currency, c) {
         return l;
     }
-    Last {
-        found: 1,
-        amount: amounts::thousandths(money.number, money.multiplier),
-    }
+    last_by(money)
 }
 
 fn turn(t: State, c: Currency, e: Event, octets: &[u8]) -> State
     ensures { λ r. ⌜ r ≡ turnOf t c e (now (octets .entry)) ⌝ }
 {
-    let before = t.account;
-    let w = step::step_whole(before, e, octets);
-    let outcome = w.outcome;
+    let w = step::step_whole(t.account, e, octets);
     let account = w.account;
-    let l = t.last;
-    let last = last_next(l, c, e, outcome, octets);
+    let last = last_next(t.last, c, e, w.outcome, octets);
     State { account, last }
 }
 
@@ -110,8 +112,7 @@ fn last_in(rows: &[u16], octets: &[u8], k: usize, c: Currency) -> Last
     while i < k {
         let end = at + events::count_at(rows, i);
         let e = events::row_at(rows, i);
-        let next = turn(state, c, e, &octets[at..end]);
-        state = next;
+        state = turn(state, c, e, &octets[at..end]);
         at = end;
         i += 1;
     }
@@ -126,24 +127,14 @@ fn last_of(rows: &[u16], octets: &[u8], k: usize, l: Latest, x: Latest, c: Curre
     if l.found != 1 {
         return NO_LAST;
     }
-    let money = l.money;
-    let currency = money.currency;
-    if amounts::same_currency(currency, c) {
-        return Last {
-            found: 1,
-            amount: amounts::thousandths(money.number, money.multiplier),
-        };
+    if amounts::same_currency(l.money.currency, c) {
+        return last_by(l.money);
     }
     if x.found != 1 {
         return NO_LAST;
     }
-    let second = x.money;
-    let named = second.currency;
-    if amounts::same_currency(named, c) {
-        return Last {
-            found: 1,
-            amount: amounts::thousandths(second.number, second.multiplier),
-        };
+    if amounts::same_currency(x.money.currency, c) {
+        return last_by(x.money);
     }
     last_in(rows, octets, k, c)
 }
@@ -168,8 +159,7 @@ fn falls(
         return false;
     }
     let money = c.figure.money;
-    let currency = money.currency;
-    let found = last_of(rows, octets, k, l, x, currency);
+    let found = last_of(rows, octets, k, l, x, money.currency);
     found.found == 1 && amounts::thousandths(money.number, money.multiplier) < found.amount
 }
 
@@ -192,45 +182,32 @@ fn other_next(x: Latest, l: Latest, d: bool, kind: u8, m: Money, o: Outcome) -> 
     if l.found != 1 {
         return x;
     }
-    let money = l.money;
-    let former = money.currency;
-    let currency = m.currency;
-    if amounts::same_currency(former, currency) {
+    if amounts::same_currency(l.money.currency, m.currency) {
         return x;
     }
     l
 }
 
-// The event after the first k, with its number n and its part of the octets.
-fn next(
-    t: Progress,
-    rows: &[u16],
-    octets: &[u8],
-    k: usize,
-    n: u64,
-    e: Event,
-    part: &[u8],
-) -> Progress
+// The event after the first k, with its part of the octets.
+fn next(t: Progress, rows: &[u16], octets: &[u8], k: usize, e: Event, part: &[u8]) -> Progress
     requires { ⌜ (addsUp (now rows) (length (now octets)) ≡ true) × (k ≤ length (now rows) / 6) ⌝ }
-    ensures { λ r. ⌜ r ≡ nextOf t (judged (before (now (rows .entry)) (now (octets .entry)) k)) e (now (part .entry)) n ⌝ }
+    ensures { λ r. ⌜ r ≡ nextOf t (judged (before (now (rows .entry)) (now (octets .entry)) k)) e (now (part .entry)) (k + 1) ⌝ }
 {
-    let before = t.account;
-    let phase = before.status.phase;
-    let w = step::step_whole(before, e, part);
+    let phase = t.account.status.phase;
+    let w = step::step_whole(t.account, e, part);
     let outcome = w.outcome;
     let account = w.account;
     let a = read::read(part);
-    let front = a.value.front;
     let charge = a.value.charge;
     let kind = charge.figure.kind;
     let money = charge.figure.money;
-    let d = fault_rules::invokes_d(e.kind, front);
+    let d = fault_rules::invokes_d(e.kind, a.value.front);
+    // The latest amounts by names of their own: as parts of t they would keep all of it on the stack.
     let l = t.latest;
     let x = t.other;
     let below = falls(rows, octets, k, l, x, d, charge, outcome);
-    let s = t.seen;
-    let rule = fault_rules::breaks_of(d, phase, charge, outcome, s.free, below);
-    let seen = fault_rules::seen_next(s, d, kind, outcome, rule, n);
+    let rule = fault_rules::breaks_of(d, phase, charge, outcome, t.seen.free, below);
+    let seen = fault_rules::seen_next(t.seen, d, kind, outcome, rule, k as u64 + 1);
     let latest = latest_next(l, d, kind, money, outcome);
     let other = other_next(x, l, d, kind, money, outcome);
     Progress {
@@ -266,14 +243,11 @@ fn judged_all(rows: &[u16], octets: &[u8]) -> FaultAnswer
     while i < n {
         let end = at + events::count_at(rows, i);
         let e = events::row_at(rows, i);
-        let k = i;
-        i += 1;
-        let after = next(state, rows, octets, k, i as u64, e, &octets[at..end]);
-        state = after;
+        state = next(state, rows, octets, i, e, &octets[at..end]);
         at = end;
+        i += 1;
     }
-    let last = state.seen;
-    fault_rules::concluded(last)
+    fault_rules::concluded(state.seen)
 }
 
 // Whether the exchange kept the rules, from an event list in slices.
@@ -281,11 +255,7 @@ pub fn fault(rows: &[u16], octets: &[u8]) -> FaultAnswer
     ensures { λ r. ⌜ r ≡ faultAt (now (rows .entry)) (now (octets .entry)) ⌝ }
 {
     if !events::adds_up(rows, octets.len()) {
-        return FaultAnswer {
-            number: LENGTHS,
-            rule: rule::KEPT,
-            event: 0,
-        };
+        return fault_rules::fault_answer(LENGTHS, rule::KEPT, 0);
     }
     judged_all(rows, octets)
 }

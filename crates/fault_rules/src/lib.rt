@@ -10,7 +10,7 @@ use types::operation;
 ghost use mathlib.Core.Path.{_≡_};
 ghost use lib.Dec.{eqb};
 ghost use Rattle.outcomes.specs.Outcome.{isRefusal};
-ghost use Rattle.fault_rules.specs.Figures.{invokesD, amountKind, isCounted, nothingBy, zeroUnits, isZero};
+ghost use Rattle.fault_rules.specs.Figures.{invokesD, amountKind, isCounted, nothingBy, zeroUnits, isZero, faultAnswer};
 ghost use Rattle.fault_rules.specs.inner.Breaking.{placedBy, misplacedBy, moneyBy, chargesBy, breaksBy, freeNext, seenNext, concluded};
 
 const IN_LIST: u32 = refusal::IN_LIST as u32;
@@ -113,13 +113,11 @@ fn is_zero(c: Charge) -> bool
 fn is_placed(phase: u8, total: u8) -> bool
     ensures { λ r. ⌜ r ≡ placedBy phase total ⌝ }
 {
-    if total == 0 {
-        return phase == phases::ACTIVE;
+    match total {
+        0 => phase == phases::ACTIVE,
+        1 => phase == phases::CLEARING,
+        _ => false,
     }
-    if total == 1 {
-        return phase == phases::CLEARING;
-    }
-    false
 }
 
 fn misplaced(d: bool, phase: u8, kind: u8, total: u8) -> bool
@@ -175,25 +173,26 @@ fn free_next(free: u64, d: bool, kind: u8, o: Outcome) -> u64
 }
 
 // Event n breaks a rule, or none (0).
-pub fn seen_next(s: Seen, d: bool, kind: u8, o: Outcome, rule: u32, n: u64) -> Seen
+pub fn seen_next(mut s: Seen, d: bool, kind: u8, o: Outcome, rule: u32, n: u64) -> Seen
     ensures { λ r. ⌜ r ≡ seenNext s d kind o rule n ⌝ }
 {
-    let free = free_next(s.free, d, kind, o);
-    let refused = events::or_else(s.refused, is_refused(o.number), n);
+    s.free = free_next(s.free, d, kind, o);
+    s.refused = events::or_else(s.refused, is_refused(o.number), n);
     if s.rule != rule::KEPT {
-        return Seen {
-            free,
-            refused,
-            event: s.event,
-            rule: s.rule,
-        };
+        return s;
     }
-    let event = events::or_else(0, rule != rule::KEPT, n);
-    Seen {
-        free,
-        refused,
-        event,
+    s.event = events::or_else(0, rule != rule::KEPT, n);
+    s.rule = rule;
+    s
+}
+
+pub fn fault_answer(number: u32, rule: u32, event: u64) -> FaultAnswer
+    ensures { λ r. ⌜ r ≡ faultAnswer number rule event ⌝ }
+{
+    FaultAnswer {
+        number,
         rule,
+        event,
     }
 }
 
@@ -201,15 +200,7 @@ pub fn concluded(s: Seen) -> FaultAnswer
     ensures { λ r. ⌜ r ≡ concluded s ⌝ }
 {
     if s.refused != 0 {
-        return FaultAnswer {
-            number: IN_LIST,
-            rule: rule::KEPT,
-            event: s.refused,
-        };
+        return fault_answer(IN_LIST, rule::KEPT, s.refused);
     }
-    FaultAnswer {
-        number: 0,
-        rule: s.rule,
-        event: s.event,
-    }
+    fault_answer(0, s.rule, s.event)
 }

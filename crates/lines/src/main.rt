@@ -89,10 +89,7 @@ fn run(s: &[u8], from: usize, l: Line, octets: &mut [u8; 254], out: &mut [u8; 65
 }
 
 fn written(out: &[u8], used: usize) -> bool {
-    if used <= out.len() {
-        return io::write_all(STDOUT_FILENO, &out[..used]);
-    }
-    false
+    used <= out.len() && io::write_all(STDOUT_FILENO, &out[..used])
 }
 
 // A write that fails is reported on standard error.
@@ -130,26 +127,20 @@ fn chunk(s: &[u8], l: Line, octets: &mut [u8; 254], out: &mut [u8; 65536]) -> Le
 
 // Reads once and answers what came. Where no more comes, a line that nothing ended is answered if it has a character. A read
 // that fails is reported, and ends the program: the line may go on in what was not read, so it is not answered.
-fn once(l: Line, octets: &mut [u8; 254], buf: &mut [u8], out: &mut [u8; 65536]) -> Left {
+fn once(line: Line, octets: &mut [u8; 254], buf: &mut [u8], out: &mut [u8; 65536]) -> Left {
     let got = libc::read(STDIN_FILENO, buf);
     if got < 0 {
         io::write_all(STDERR_FILENO, b"lines: the input cannot be read\n");
-        return Left {
-            line: l,
-            more: false,
-        };
+        return Left { line, more: false };
     }
     if got == 0 {
-        if l.phase != 0 {
-            chunk(b"\n", l, octets, out);
+        if line.phase != 0 {
+            chunk(b"\n", line, octets, out);
         }
-        return Left {
-            line: l,
-            more: false,
-        };
+        return Left { line, more: false };
     }
     let n = io::count(got, buf);
-    chunk(&buf[..n], l, octets, out)
+    chunk(&buf[..n], line, octets, out)
 }
 
 // No input takes as many reads as a u64 counts: the counter is there for the proof that the loop ends.

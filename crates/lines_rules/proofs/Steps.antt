@@ -1,5 +1,5 @@
 -- The machine's steps: digits, whole octets, and characters heard one after the other.
-use Rattle.prelude.proofs.Prelude.{ℕ, _+_, _≤_, _<_, _≡_, refl, sym, ap, _∙_, List, [], _∷_, _++_, true, false, arith, sub-zero, length, getD, set, take-all, eqb, le-leb, lt-leb}
+use Rattle.prelude.proofs.Prelude.{ℕ, _+_, _≤_, _<_, _≡_, refl, sym, ap, _∙_, List, [], _∷_, _++_, true, false, arith, sub-zero, length, getD, set, take-all, eqb, le-leb, lt-leb, true≢false}
 use Rattle.prelude.proofs.{Prelude.{lt-ltb, le-ltb, ne-eqb, eq-eqb, eqb-true}, Ways.by-cases}
 use Rattle.coding.{proofs.Tests.tests, specs.Reader.part, proofs.Parts.part-none, proofs.Parts.part-more, proofs.Parts.part-split}
 use Rattle.lines_rules.specs.{declared.Line.Line, declared.Went.Went, Lines.digitOf, inner.Machine.State, inner.Machine.state, inner.Machine.madeLine, inner.Machine.newLine, inner.Machine.badLine}
@@ -117,6 +117,13 @@ pub heard-on : (s : List ℕ) (from : ℕ) (l : Line) (o : List ℕ) (w : Went) 
     → (t : List ℕ) → turns (state l o t) (part s from at) ≡ state m q t
 heard-on s from l o w p h e at m q i f t = turns-both s from (w .at) at (state l o t) (h .onward) i (heard-open s from l o w p h e t) (f t)
 
+-- and the line's end
+pub heard-end : {s : List ℕ} {from at : ℕ} {l m : Line} {o p : List ℕ} → from ≤ at → at < length s
+    → ((t : List ℕ) → turns (state l o t) (part s from at) ≡ state m p t) → getD s at 0 ≡ 10
+    → Heard s from l o (record { line = m; at = at + 1; ended = true }) p × (from < at + 1)
+unfolding turn
+heard-end h i f c = (record { onward = omega arith; inside = omega arith; heard = λ t. turns-more _ _ _ _ h i (f t) ∙ rw c }, omega arith)
+
 -- three
 turns-three : (s : List ℕ) (at : ℕ) (q : State) → at + 3 ≤ length s → turns q (part s at (at + 3)) ≡ turn (turn (turn q (getD s at 0)) (getD s (at + 1) 0)) (getD s (at + 2) 0)
 turns-three s at q h =
@@ -140,6 +147,11 @@ spaced-count l k = by-cases (eqb k 0) (λ e. rw e (omega (arith, eqb-true k 0 e)
 -- nothing is taken yet
 pub taken-none : (s : List ℕ) (from : ℕ) (l : Line) (o : List ℕ) → Taken s from from 0 l o o
 taken-none s from l o t = turns-none s from (state l o t)
+
+-- no more is taken
+pub heard-left : {s : List ℕ} {from at : ℕ} (k : ℕ) {l : Line} {o p : List ℕ} → from ≤ at → at ≤ length s → Taken s from at k l o p
+    → Heard s from l o (record { line = spacedLine l k; at = at; ended = false }) p × (false ≡ true → from < at)
+heard-left k h i t = (record { onward = h; inside = i; heard = t }, λ e. absurd (true≢false (sym e)))
 
 -- two digits at a place, after those that are taken, and their values
 pub record Next (s : List ℕ) (from at k : ℕ) (l : Line) (o p : List ℕ) (x y : ℕ) : Type 0 where
@@ -172,7 +184,8 @@ module _ {s : List ℕ} {from at k : ℕ} {l : Line} {o p : List ℕ} {x y : ℕ
       taken-octet t ∙ rw (c, m, ne-eqb (k + 1) 0 f)
 
   -- with the line's end
-  pub taken-last : getD s (at + 2) 0 ≡ 10 → (t : List ℕ)
-      → turns (state l o t) (part s from (at + 3)) ≡ state newLine (set p (l .count + k) z) (t ++ answerText (madeLine (l .count + k + 1) 3 0) (set p (l .count + k) z))
+  pub heard-last : getD s (at + 2) 0 ≡ 10
+      → Heard s from l o (record { line = madeLine (l .count + k + 1) 3 0; at = at + 3; ended = true }) (set p (l .count + k) z) × (true ≡ true → from < at + 3)
   unfolding turn
-  taken-last c t = taken-octet t ∙ rw c
+  heard-last c =
+      (record { onward = omega (arith, n .onward); inside = n .inside; heard = λ t. taken-octet t ∙ rw c }, λ e. omega (arith, n .onward))

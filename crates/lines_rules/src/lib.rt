@@ -2,13 +2,13 @@
 ghost use mathlib.Core.Path.{_≡_};
 ghost use mathlib.Core.Bool.{true, _||_};
 ghost use mathlib.Core.List.{[], _∷_};
-ghost use Prim.Native.Nat.{_+_, _*_, _/_, _%_, _≤_, _<_};
+ghost use Prim.Native.Nat.{_+_, _/_, _%_, _≤_, _<_};
 ghost use lib.ListN.{length, take};
 ghost use lib.Dec.{eqb};
 ghost use Rattle.coding.specs.inner.Written.{Wrote};
 ghost use Rattle.lines_rules.specs.Text.{glyph, hexText, refusedText, badText};
 ghost use Rattle.lines_rules.specs.Lines.{digitOf};
-ghost use Rattle.lines_rules.specs.inner.Machine.{newLine, badLine, stepLine, octetOf, stepOctets, spacedLine, Heard};
+ghost use Rattle.lines_rules.specs.inner.Machine.{madeLine, newLine, badLine, stepLine, octetOf, stepOctets, spacedLine, Heard};
 
 // ---- a line's octets
 
@@ -20,59 +20,41 @@ pub struct Line {
     pub high: u8,
 }
 
+fn line_of(count: usize, phase: u8, high: u8) -> Line
+    ensures { λ r. ⌜ r ≡ madeLine count phase high ⌝ }
+{
+    Line { count, phase, high }
+}
+
 pub fn new_line() -> Line
     ensures { λ r. ⌜ r ≡ newLine ⌝ }
 {
-    Line {
-        count: 0,
-        phase: 0,
-        high: 0,
-    }
+    line_of(0, 0, 0)
 }
 
 fn bad_line() -> Line
     ensures { λ r. ⌜ r ≡ badLine ⌝ }
 {
-    Line {
-        count: 0,
-        phase: 4,
-        high: 0,
-    }
+    line_of(0, 4, 0)
 }
 
 // Whether a line that ends here is well formed.
 pub fn is_whole(l: Line) -> bool
     ensures { λ r. ⌜ r ≡ eqb (l .phase) 0 || eqb (l .phase) 3 ⌝ }
 {
-    if l.phase == 0 {
-        return true;
-    }
-    l.phase == 3
+    l.phase == 0 || l.phase == 3
 }
 
 // A hex digit's value, or 16.
 fn digit(b: u8) -> u8
     ensures { λ r. ⌜ r ≡ digitOf b ⌝ }
 {
-    if b < b'0' {
-        return 16;
+    match b {
+        b'0'..=b'9' => b - 48,
+        b'A'..=b'F' => b - 55,
+        b'a'..=b'f' => b - 87,
+        _ => 16,
     }
-    if b <= b'9' {
-        return b - 48;
-    }
-    if b < b'A' {
-        return 16;
-    }
-    if b <= b'F' {
-        return b - 55;
-    }
-    if b < b'a' {
-        return 16;
-    }
-    if b <= b'f' {
-        return b - 87;
-    }
-    16
 }
 
 fn octet(high: u8, low: u8) -> u8
@@ -93,11 +75,7 @@ fn fed(l: Line, b: u8, octets: &mut [u8; 254]) -> Line
     }
     if phase == 3 {
         if b == b' ' {
-            return Line {
-                count,
-                phase: 1,
-                high: 0,
-            };
+            return line_of(count, 1, 0);
         }
         return bad_line();
     }
@@ -108,23 +86,11 @@ fn fed(l: Line, b: u8, octets: &mut [u8; 254]) -> Line
     if phase == 2 {
         if count < 254 {
             octets[count] = octet(l.high, low);
-            return Line {
-                count: count + 1,
-                phase: 3,
-                high: 0,
-            };
+            return line_of(count + 1, 3, 0);
         }
-        return Line {
-            count: 255,
-            phase: 3,
-            high: 0,
-        };
+        return line_of(255, 3, 0);
     }
-    Line {
-        count,
-        phase: 2,
-        high: low,
-    }
+    line_of(count, 2, low)
 }
 
 // How far a line has come, and whether it ended there.
@@ -134,16 +100,16 @@ pub struct Went {
     pub ended: bool,
 }
 
+fn went_to(line: Line, at: usize, ended: bool) -> Went
+    ensures { λ r. ⌜ r ≡ record { line = line; at = at; ended = ended } ⌝ }
+{
+    Went { line, at, ended }
+}
+
 fn least(a: usize, b: usize) -> usize
     ensures { λ r. ⌜ (r ≤ a) × (r ≤ b) ⌝ }
 {
     if a < b { a } else { b }
-}
-
-fn third(n: usize) -> usize
-    ensures { λ r. ⌜ 3 * r ≤ n ⌝ }
-{
-    n / 3
 }
 
 // A line that awaits a first digit, after k octets with their spaces.
@@ -154,11 +120,7 @@ fn spaced(l: Line, k: usize) -> Line
     if k == 0 {
         return l;
     }
-    Line {
-        count: l.count + k,
-        phase: 1,
-        high: 0,
-    }
+    line_of(l.count + k, 1, 0)
 }
 
 // Takes whole octets from a place of s on, each two digits and a space or the line's end, as long as there are such: the
@@ -169,55 +131,31 @@ fn take_octets(s: &[u8], from: usize, l: Line, octets: &mut [u8; 254]) -> Went
     ensures { λ r. ⌜ (r .ended ≡ true → from < r .at) ⌝ }
 {
     let count = l.count;
-    let most = least(third(s.len() - from), 254 - count);
+    let most = least((s.len() - from) / 3, 254 - count);
     let mut k = 0;
     let mut at = from;
     while k < most {
         let high = digit(s[at]);
         if 16 <= high {
-            return Went {
-                line: spaced(l, k),
-                at,
-                ended: false,
-            };
+            break;
         }
         let low = digit(s[at + 1]);
         if 16 <= low {
-            return Went {
-                line: spaced(l, k),
-                at,
-                ended: false,
-            };
+            break;
         }
         let next = s[at + 2];
         if next != b' ' {
             if next != b'\n' {
-                return Went {
-                    line: spaced(l, k),
-                    at,
-                    ended: false,
-                };
+                break;
             }
             octets[count + k] = octet(high, low);
-            return Went {
-                line: Line {
-                    count: count + k + 1,
-                    phase: 3,
-                    high: 0,
-                },
-                at: at + 3,
-                ended: true,
-            };
+            return went_to(line_of(count + k + 1, 3, 0), at + 3, true);
         }
         octets[count + k] = octet(high, low);
         k += 1;
         at += 3;
     }
-    Went {
-        line: spaced(l, k),
-        at,
-        ended: false,
-    }
+    went_to(spaced(l, k), at, false)
 }
 
 // The same where the line awaits a first digit, and else nothing yet.
@@ -231,11 +169,7 @@ fn take_ready(s: &[u8], from: usize, l: Line, octets: &mut [u8; 254]) -> Went
             return take_octets(s, from, l, octets);
         }
     }
-    Went {
-        line: l,
-        at: from,
-        ended: false,
-    }
+    went_to(l, from, false)
 }
 
 // Goes on from a place of s to just past the line's end, or to the end of s.
@@ -254,42 +188,17 @@ pub fn take_line(s: &[u8], from: usize, l: Line, octets: &mut [u8; 254]) -> Went
         let b = s[at];
         at += 1;
         if b == b'\n' {
-            return Went {
-                line,
-                at,
-                ended: true,
-            };
+            return went_to(line, at, true);
         }
         line = fed(line, b, octets);
     }
-    Went {
-        line,
-        at,
-        ended: false,
-    }
+    went_to(line, at, false)
 }
 
 // ---- an answer's characters
 
 // Each function puts them into a buffer from a place on, and gives the place after them.
-const GLYPHS: [u8; 16] = [
-    48,
-    49,
-    50,
-    51,
-    52,
-    53,
-    54,
-    55,
-    56,
-    57,
-    65,
-    66,
-    67,
-    68,
-    69,
-    70,
-];
+const GLYPHS: [u8; 16] = *b"0123456789ABCDEF";
 
 fn glyph_of(d: u8) -> u8
     requires { ⌜ d < 16 ⌝ }
@@ -298,25 +207,13 @@ fn glyph_of(d: u8) -> u8
     GLYPHS[d as usize]
 }
 
-fn high_of(b: u8) -> u8
-    ensures { λ r. ⌜ (r ≡ b / 16) × (r < 16) ⌝ }
-{
-    b / 16
-}
-
-fn low_of(b: u8) -> u8
-    ensures { λ r. ⌜ (r ≡ b % 16) × (r < 16) ⌝ }
-{
-    b % 16
-}
-
 // An octet's two digits, and what comes after them.
 fn put_octet(b: u8, next: u8, out: &mut [u8; 65536], at: usize) -> usize
     requires { ⌜ at ≤ 65533 ⌝ }
     ensures { λ r. ⌜ Wrote (now (out .entry)) (now (out .exit)) at (glyph (b / 16) ∷ glyph (b % 16) ∷ next ∷ []) r ⌝ }
 {
-    out[at] = glyph_of(high_of(b));
-    out[at + 1] = glyph_of(low_of(b));
+    out[at] = glyph_of(b / 16);
+    out[at + 1] = glyph_of(b % 16);
     out[at + 2] = next;
     at + 3
 }
@@ -355,12 +252,7 @@ pub fn put_refused(number: u32, out: &mut [u8; 65536], from: usize) -> usize
     let at = octets::put_octets(out, from, b"refused ", 8);
     let n = number as u8;
     if n < 10 {
-        out[at] = 48 + n;
-        out[at + 1] = b'\n';
-        return at + 2;
+        return octets::put_octets(out, at, &[48 + n, b'\n'], 2);
     }
-    out[at] = 48 + n / 10;
-    out[at + 1] = 48 + n % 10;
-    out[at + 2] = b'\n';
-    at + 3
+    octets::put_octets(out, at, &[48 + n / 10, 48 + n % 10, b'\n'], 3)
 }

@@ -80,8 +80,7 @@ fn with_money(mut m: Month, x: Money, i: usize, n: usize) -> Month
 fn with_place(mut m: Month, service: u32, billed: u8, billing: u8) -> Month
     ensures { λ r. ⌜ r ≡ withPlace m service billed billing ⌝ }
 {
-    let old = m.grid;
-    let grid = month_rows::placed(old, service, billed, billing);
+    let grid = month_rows::placed(m.grid, service, billed, billing);
     m.grid = grid;
     m.added = std::num::wrapping_add_u32(m.added, 1);
     m
@@ -98,9 +97,7 @@ pub fn add(m: Month, service: u32, c: Charge) -> Added
     ensures { λ r. ⌜ r ≡ addOf m service c ⌝ }
 {
     let f = c.figure;
-    let e = c.entries;
     let x = f.money;
-    let currency = x.currency;
     let rows = m.rows;
     if !closing::in_range(service, c) {
         return answer(BAD_RECORD, m);
@@ -110,7 +107,7 @@ pub fn add(m: Month, service: u32, c: Charge) -> Added
     }
     if f.kind == charge_kind::MONEY {
         let n = same_final::places(m.count, 16);
-        let i = month_rows::row_of(rows, n, currency);
+        let i = month_rows::row_of(rows, n, x.currency);
         if i == 16 {
             return answer(CURRENCIES_FULL, m);
         }
@@ -121,7 +118,7 @@ pub fn add(m: Month, service: u32, c: Charge) -> Added
         let free = with_free(m);
         return answer(0, with_place(free, service, f.billed, f.billing));
     }
-    let used = with_units(m, e, f.count);
+    let used = with_units(m, c.entries, f.count);
     answer(0, with_place(used, service, f.billed, f.billing))
 }
 

@@ -43,8 +43,7 @@ pub fn row_of(rows: [Row; 16], n: usize, c: Currency) -> usize
     let mut i: usize = 0;
     while i < n {
         let r = rows[i];
-        let d = r.currency;
-        if amounts::same_currency(d, c) {
+        if amounts::same_currency(r.currency, c) {
             return i;
         }
         i += 1;
@@ -102,12 +101,6 @@ fn unit_at(e: Entries, i: usize) -> Units
     }
 }
 
-fn wide(n: u32) -> u64
-    ensures { λ r. ⌜ r ≡ n ⌝ }
-{
-    n as u64
-}
-
 fn add_unit(mut sums: [u64; 17], u: Units) -> [u64; 17]
     ensures { λ r. ⌜ r ≡ addUnit u sums ⌝ }
 {
@@ -115,8 +108,7 @@ fn add_unit(mut sums: [u64; 17], u: Units) -> [u64; 17]
         return sums;
     }
     let k = same_final::places(u.kind as u32, 16);
-    let old = sums[k];
-    sums[k] = std::num::wrapping_add_u64(old, wide(u.number));
+    sums[k] = std::num::wrapping_add_u64(sums[k], u.number as u64);
     sums
 }
 
@@ -164,18 +156,14 @@ fn billing_column(billed: u8, billing: u8) -> usize
     if billed == 0 {
         return 8;
     }
-    if billing <= 7 {
-        return billing as usize;
-    }
-    7
+    same_final::places(billing as u32, 7)
 }
 
 fn raised_at(mut t: [[u32; 9]; 2], s: usize, b: usize) -> [[u32; 9]; 2]
     requires { ⌜ (s < 2) × (b < 9) ⌝ }
     ensures { λ r. ⌜ r ≡ raisedAt t s b ⌝ }
 {
-    let n = t[s][b];
-    t[s][b] = std::num::wrapping_add_u32(n, 1);
+    t[s][b] = std::num::wrapping_add_u32(t[s][b], 1);
     t
 }
 

@@ -3,6 +3,8 @@
 // Services are numbered 1 S, 2 D, 3 E. Phases: 0 Idle, 1 Establishment, 2 Active, 3 Clearing, 4 Ended, 5 Suspended.
 use phases::Outcome;
 use phases::Status;
+use phases::no_service;
+use phases::outcome_of;
 use requests::service;
 use types::Charge;
 use types::Front;
@@ -75,34 +77,17 @@ fn service_of(operation: u8) -> u8
 fn runs(phase: u8, service: u8, kind: u8, total: u8) -> bool
     ensures { λ r. ⌜ r ≡ runsBy phase service kind total ⌝ }
 {
-    if service != service::D {
-        return false;
-    }
     if kind == charge_kind::FREE {
-        if phase == phases::ESTABLISHMENT {
-            return true;
-        }
-        return phase == phases::ACTIVE;
+        return service == service::D && (phase == phases::ESTABLISHMENT || phase == phases::ACTIVE);
     }
-    if total != 0 {
-        return false;
-    }
-    phase == phases::ACTIVE
+    service == service::D && (total == 0 && phase == phases::ACTIVE)
 }
 
 fn closes(phase: u8, service: u8, kind: u8, total: u8) -> bool
     ensures { λ r. ⌜ r ≡ closesBy phase service kind total ⌝ }
 {
-    if phase != phases::CLEARING {
-        return false;
-    }
-    if service == service::E {
-        return true;
-    }
-    if kind == charge_kind::FREE {
-        return true;
-    }
-    total == 1
+    phase == phases::CLEARING
+        && (service == service::E || (kind == charge_kind::FREE || total == 1))
 }
 
 // A figure of a service that has no request pending.
@@ -110,51 +95,29 @@ fn figure_outcome(phase: u8, service: u8, kind: u8, total: u8) -> Outcome
     ensures { λ r. ⌜ r ≡ claimFigure phase service kind total ⌝ }
 {
     if service == service::S {
-        return Outcome {
-            number: NEW_RATE,
-            service,
-        };
+        return outcome_of(NEW_RATE, service);
     }
     if runs(phase, service, kind, total) {
-        return Outcome {
-            number: NEW_RUNNING,
-            service,
-        };
+        return outcome_of(NEW_RUNNING, service);
     }
     if closes(phase, service, kind, total) {
-        return Outcome {
-            number: FINAL,
-            service,
-        };
+        return outcome_of(FINAL, service);
     }
-    Outcome {
-        number: OUT_OF_PHASE,
-        service,
-    }
+    outcome_of(OUT_OF_PHASE, service)
 }
 
 fn invoke_outcome(t: Status, operation: u8, kind: u8, total: u8) -> Outcome
     ensures { λ r. ⌜ r ≡ claimInvoke (t .phase) (requestsOf t) operation kind total ⌝ }
 {
     if operation == operation::CHARGING_REQUEST {
-        return Outcome {
-            number: NOT_OURS,
-            service: service::NONE,
-        };
+        return no_service(NOT_OURS);
     }
     let service = service_of(operation);
-    let asked = t.asked;
-    if asked.has(service) {
-        return Outcome {
-            number: IGNORED,
-            service,
-        };
+    if t.asked.has(service) {
+        return outcome_of(IGNORED, service);
     }
     if kind == charge_kind::NONE {
-        return Outcome {
-            number: NOT_AVAILABLE,
-            service,
-        };
+        return outcome_of(NOT_AVAILABLE, service);
     }
     figure_outcome(t.phase, service, kind, total)
 }
@@ -162,10 +125,7 @@ fn invoke_outcome(t: Status, operation: u8, kind: u8, total: u8) -> Outcome
 fn matches(mark: u8, own: u16, id: u16) -> bool
     ensures { λ r. ⌜ r ≡ not (eqb mark 0) && eqb own id ⌝ }
 {
-    if mark == 0 {
-        return false;
-    }
-    own == id
+    mark != 0 && own == id
 }
 
 // The service whose pending request has the identifier.
@@ -191,46 +151,28 @@ fn fits(service: u8, kind: u8) -> bool
     if service != service::S {
         return kind == charge_kind::NONE;
     }
-    if kind == charge_kind::RATES {
-        return true;
-    }
-    kind == charge_kind::ARRANGEMENT
+    kind == charge_kind::RATES || kind == charge_kind::ARRANGEMENT
 }
 
 fn result_outcome(service: u8, kind: u8) -> Outcome
     ensures { λ r. ⌜ r ≡ claimResult service kind ⌝ }
 {
     if service == service::NONE {
-        return Outcome {
-            number: NO_REQUEST,
-            service: service::NONE,
-        };
+        return no_service(NO_REQUEST);
     }
     if fits(service, kind) {
-        return Outcome {
-            number: GRANTED,
-            service,
-        };
+        return outcome_of(GRANTED, service);
     }
-    Outcome {
-        number: MISFIT,
-        service,
-    }
+    outcome_of(MISFIT, service)
 }
 
 fn failure_outcome(service: u8) -> Outcome
     ensures { λ r. ⌜ r ≡ judgeFailure service ⌝ }
 {
     if service == service::NONE {
-        return Outcome {
-            number: NO_REQUEST,
-            service: service::NONE,
-        };
+        return no_service(NO_REQUEST);
     }
-    Outcome {
-        number: FAILED,
-        service,
-    }
+    outcome_of(FAILED, service)
 }
 
 fn frame_outcome(t: Status, f: Front, kind: u8, total: u8) -> Outcome
@@ -244,10 +186,7 @@ fn frame_outcome(t: Status, f: Front, kind: u8, total: u8) -> Outcome
         return result_outcome(service, kind);
     }
     if f.unnamed == 1 {
-        return Outcome {
-            number: NO_REQUEST,
-            service: service::NONE,
-        };
+        return no_service(NO_REQUEST);
     }
     failure_outcome(service)
 }
@@ -269,11 +208,7 @@ pub fn claimed(t: Status, f: Front, kind: u8, total: u8) -> Outcome
     ensures { λ r. ⌜ r ≡ claimRecord (t .phase) (requestsOf t) f kind total ⌝ }
 {
     if t.phase == phases::SUSPENDED {
-        let service = service_by(f);
-        return Outcome {
-            number: OUT_OF_PHASE,
-            service,
-        };
+        return outcome_of(OUT_OF_PHASE, service_by(f));
     }
     frame_outcome(t, f, kind, total)
 }
@@ -291,25 +226,16 @@ pub fn final_outcome(
     ensures { λ r. ⌜ r ≡ judgeFinal (firstFigure first) service (withList figure (now (numbers .entry)) (now (rows .entry))) ⌝ }
 {
     if first.figure.kind == charge_kind::NONE {
-        return Outcome {
-            number: FINAL,
-            service,
-        };
+        return outcome_of(FINAL, service);
     }
     let entries = types::Entries {
         numbers: *numbers,
         octets: *rows,
     };
     if same_final::same(first, Charge { figure, entries }) {
-        return Outcome {
-            number: REPEATED,
-            service,
-        };
+        return outcome_of(REPEATED, service);
     }
-    Outcome {
-        number: CONFLICT,
-        service,
-    }
+    outcome_of(CONFLICT, service)
 }
 
 // A request that is no longer pending.
@@ -338,52 +264,41 @@ fn settled(mut t: Status, service: u8) -> Status
 pub fn noted(mut t: Status, o: Outcome) -> Status
     ensures { λ r. ⌜ r ≡ noted t o ⌝ }
 {
-    if o.number == NOT_AVAILABLE {
-        let absent = t.absent;
-        let more = absent.with(o.service);
-        t.absent = more;
-        return t;
+    let number = o.number;
+    match number {
+        NOT_AVAILABLE => {
+            t.absent = t.absent.with(o.service);
+            t
+        }
+        GRANTED => settled(t, o.service),
+        FAILED => settled(t, o.service),
+        CONFLICT => {
+            t.conflict = t.conflict.with(o.service);
+            t
+        }
+        _ => t,
     }
-    if o.number == GRANTED {
-        return settled(t, o.service);
-    }
-    if o.number == FAILED {
-        return settled(t, o.service);
-    }
-    if o.number == CONFLICT {
-        let conflict = t.conflict;
-        let more = conflict.with(o.service);
-        t.conflict = more;
-        return t;
-    }
-    t
 }
 
 pub fn place_of(o: Outcome) -> u16
     ensures { λ r. ⌜ r ≡ placeOf o ⌝ }
 {
-    if o.number == NEW_RATE {
-        return place::RATE;
+    let number = o.number;
+    let service = o.service;
+    match number {
+        NEW_RATE => place::RATE,
+        NEW_RUNNING => place::RUNNING,
+        FINAL => match service {
+            service::D => place::D_FINAL,
+            service::E => place::E_FINAL,
+            _ => place::NONE,
+        },
+        GRANTED => match service {
+            service::S => place::RATE,
+            _ => place::NONE,
+        },
+        _ => place::NONE,
     }
-    if o.number == NEW_RUNNING {
-        return place::RUNNING;
-    }
-    if o.number == FINAL {
-        if o.service == service::D {
-            return place::D_FINAL;
-        }
-        if o.service == service::E {
-            return place::E_FINAL;
-        }
-        return place::NONE;
-    }
-    if o.number == GRANTED {
-        if o.service == service::S {
-            return place::RATE;
-        }
-        return place::NONE;
-    }
-    place::NONE
 }
 
 // ---- which outcome it is
@@ -391,8 +306,5 @@ pub fn place_of(o: Outcome) -> u16
 pub fn is_its(o: Outcome, service: u8, number: u8) -> bool
     ensures { λ r. ⌜ r ≡ its service number o ⌝ }
 {
-    if o.number != number {
-        return false;
-    }
-    o.service == service
+    o.number == number && o.service == service
 }

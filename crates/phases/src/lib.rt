@@ -9,7 +9,8 @@ ghost use mathlib.Core.Path.{_≡_};
 ghost use mathlib.Core.Bool.{_&&_};
 ghost use lib.Dec.{eqb};
 ghost use Prim.Native.Nat.{ℕ};
-ghost use Rattle.phases.specs.Phases.{clash, asking, clashes, moved};
+ghost use Rattle.requests.specs.Sets.{emptySet};
+ghost use Rattle.phases.specs.Phases.{clash, asking, clashes, moved, outcome, noService};
 ghost use Rattle.phases.specs.inner.ByNumber.{nextPhase, moving, movingOf};
 
 // The phases and the kinds of events, each by its name in include/aoc.h.
@@ -76,6 +77,52 @@ pub struct Moving {
     pub status: Status,
 }
 
+pub fn outcome_of(number: u8, service: u8) -> Outcome
+    ensures { λ r. ⌜ r ≡ outcome number service ⌝ }
+{
+    Outcome { number, service }
+}
+
+pub fn no_service(number: u8) -> Outcome
+    ensures { λ r. ⌜ r ≡ noService number ⌝ }
+{
+    outcome_of(number, service::NONE)
+}
+
+pub fn event_of(kind: u8, asked: Services, s: u16, d: u16, e: u16) -> Event
+    ensures { λ r. ⌜ r ≡ record { kind = kind; asked = asked; s = s; d = d; e = e } ⌝ }
+{
+    Event {
+        kind,
+        asked,
+        s,
+        d,
+        e,
+    }
+}
+
+// An event that asks for nothing.
+pub fn bare_event(kind: u8) -> Event
+    ensures { λ r. ⌜ r ≡ record { kind = kind; asked = emptySet; s = 0; d = 0; e = 0 } ⌝ }
+{
+    event_of(kind, Services::EMPTY, 0, 0, 0)
+}
+
+// A status with a phase and nothing else.
+pub fn bare(phase: u8) -> Status
+    ensures { λ r. ⌜ r ≡ record { phase = phase; asked = emptySet; s = 0; d = 0; e = 0; absent = emptySet; conflict = emptySet } ⌝ }
+{
+    Status {
+        phase,
+        asked: Services::EMPTY,
+        s: 0,
+        d: 0,
+        e: 0,
+        absent: Services::EMPTY,
+        conflict: Services::EMPTY,
+    }
+}
+
 // Where each kind of event leads, in hexadecimal: the digit at a phase, counted from the right, is the phase that it leads to from there.
 // 0 means that it is not allowed, since nothing leads to Idle.
 const NEXT: [u32; 8] = [0, 0x1, 0x20, 0x300330, 0x4000, 0x503210, 0x500, 0x200000];
@@ -97,36 +144,22 @@ pub fn next_phase(kind: u8, phase: u8) -> u8
 fn clash(mark: u8, id: u16, other: u8, its: u16) -> bool
     ensures { λ r. ⌜ r ≡ clash (asking mark id) (asking other its) ⌝ }
 {
-    if mark == 0 {
-        return false;
-    }
-    if other == 0 {
-        return false;
-    }
-    id == its
+    mark != 0 && (other != 0 && id == its)
 }
 
 fn clashes(e: Event) -> bool
     ensures { λ r. ⌜ r ≡ clashes e ⌝ }
 {
     let asked = e.asked;
-    if clash(asked.s, e.s, asked.d, e.d) {
-        return true;
-    }
-    if clash(asked.s, e.s, asked.e, e.e) {
-        return true;
-    }
-    clash(asked.d, e.d, asked.e, e.e)
+    clash(asked.s, e.s, asked.d, e.d)
+        || (clash(asked.s, e.s, asked.e, e.e) || clash(asked.d, e.d, asked.e, e.e))
 }
 
 // A Setup with two requests that have one identifier.
 fn bad_setup(e: Event) -> bool
     ensures { λ r. ⌜ r ≡ eqb (e .kind) 1 && clashes e ⌝ }
 {
-    if e.kind != SETUP {
-        return false;
-    }
-    clashes(e)
+    e.kind == SETUP && clashes(e)
 }
 
 // A mark as it is kept: 1 where something is asked for.
@@ -150,28 +183,21 @@ fn moved(mut t: Status, e: Event, phase: u8) -> Status
     if e.kind != SETUP {
         return t;
     }
-    let asked = e.asked;
-    let s = mark_of(asked.s);
-    let d = mark_of(asked.d);
-    let f = mark_of(asked.e);
+    let s = mark_of(e.asked.s);
+    let d = mark_of(e.asked.d);
+    let f = mark_of(e.asked.e);
     let set = Services { s, d, e: f };
-    let i = id_of(asked.s, e.s);
-    let j = id_of(asked.d, e.d);
-    let k = id_of(asked.e, e.e);
     t.asked = set;
-    t.s = i;
-    t.d = j;
-    t.e = k;
+    t.s = id_of(e.asked.s, e.s);
+    t.d = id_of(e.asked.d, e.d);
+    t.e = id_of(e.asked.e, e.e);
     t
 }
 
 fn going(number: u8, status: Status) -> Moving
     ensures { λ r. ⌜ r ≡ moving number status ⌝ }
 {
-    let outcome = Outcome {
-        number,
-        service: service::NONE,
-    };
+    let outcome = no_service(number);
     Moving { outcome, status }
 }
 

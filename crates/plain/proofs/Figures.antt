@@ -1,5 +1,5 @@
 -- The figures after the whole list.
-use Rattle.prelude.proofs.Prelude.{ℕ, suc, _-_, _/_, _≤_, _<_, _≡_, refl, _∙_, ap, List, reverse, Bool, _||_, cond, eqb, arith, length, [], _∷_}
+use Rattle.prelude.proofs.Prelude.{ℕ, suc, _-_, _/_, _≤_, _<_, _≡_, refl, _∙_, ap, ap₂, List, reverse, Bool, _||_, cond, eqb, arith, length, [], _∷_}
 use Rattle.prelude.proofs.Ways.{by-cases}
 use Rattle.types.specs.{declared.Charge.Charge}
 use Rattle.phases.{specs.declared.Outcome.Outcome, specs.Phases.{S, D, E, Given}, proofs.Choice.by-number}
@@ -35,7 +35,7 @@ module _ (rows octets : List ℕ) where
 
 last-alike : (t u : Outcome → Bool) → ((r : Outcome) → t r ≡ u r) → (h : List Judged) → last (λ j. t (j .outcome)) h ≡ last (λ j. u (j .outcome)) h
 last-alike t u e [] = refl
-last-alike t u e (j ∷ h) = rw (e (j .outcome), last-alike t u e h) refl
+last-alike t u e (j ∷ h) = ap₂ (λ (b : Bool) (c : Charge). cond b (chargeIn (j .octets)) c) (e (j .outcome)) (last-alike t u e h)
 
 place-is : (r : Outcome) → (eqb (placeOf r) 1 ≡ (was 20 r || its S 24 r)) × (eqb (placeOf r) 2 ≡ was 21 r) × (eqb (placeOf r) 3 ≡ its D 22 r)
     × (eqb (placeOf r) 4 ≡ its E 22 r)

@@ -5,7 +5,9 @@ use coding::refusal;
 use phases::Event;
 use phases::Outcome;
 use phases::Status;
-use requests::Services;
+use phases::bare;
+use phases::no_service;
+use phases::outcome_of;
 use requests::service;
 use types::Charge;
 ghost use mathlib.Core.Path.{_≡_};
@@ -21,18 +23,7 @@ ghost use Rattle.events.specs.Events.{addsUp, rowAt};
 ghost use Rattle.events.specs.inner.Prefix.{placeAt, octetsAt, before};
 ghost use Rattle.account.specs.History.{judged, phase, pending, requests, known};
 ghost use Rattle.plain_scans.specs.inner.Scan.{Scan, FirstAt, sought, Requested};
-ghost use Rattle.plain_scans.specs.inner.Claim.{nextBy, bare, askOf, requestOf, sole, claimOf, Asks};
-
-const NO_SERVICES: Services = Services { s: 0, d: 0, e: 0 };
-
-// An event that asks for nothing.
-const NO_SETUP: Event = Event {
-    kind: 0,
-    asked: NO_SERVICES,
-    s: 0,
-    d: 0,
-    e: 0,
-};
+ghost use Rattle.plain_scans.specs.inner.Claim.{nextBy, askOf, requestOf, sole, claimOf, Asks};
 
 // A service's request: mark 0 for none.
 struct Ask {
@@ -42,28 +33,12 @@ struct Ask {
 
 // ---- phases
 
-fn bare(phase: u8) -> Status
-    ensures { λ r. ⌜ r ≡ bare phase ⌝ }
-{
-    Status {
-        phase,
-        asked: NO_SERVICES,
-        s: 0,
-        d: 0,
-        e: 0,
-        absent: NO_SERVICES,
-        conflict: NO_SERVICES,
-    }
-}
-
 // The phase after an event that comes in a phase.
 fn passed(phase: u8, e: Event) -> u8
     ensures { λ r. ⌜ r ≡ nextBy phase e ⌝ }
 {
-    let t = bare(phase);
-    let m = phases::phase_step(t, e);
-    let after = m.status;
-    after.phase
+    let m = phases::phase_step(bare(phase), e);
+    m.status.phase
 }
 
 // The phase after the first k events.
@@ -75,8 +50,7 @@ pub fn phase_before(rows: &[u16], k: usize) -> u8
     let mut i: usize = 0;
     while i < k {
         let e = events::row_at(rows, i);
-        let next = passed(phase, e);
-        phase = next;
+        phase = passed(phase, e);
         i += 1;
     }
     phase
@@ -97,7 +71,7 @@ fn setup_before(rows: &[u16], k: usize) -> Event
         }
         i += 1;
     }
-    NO_SETUP
+    phases::bare_event(0)
 }
 
 fn asking(mark: u8, id: u16) -> Ask
@@ -113,14 +87,11 @@ fn asking(mark: u8, id: u16) -> Ask
 fn asked_for(e: Event, service: u8) -> Ask
     ensures { λ r. ⌜ r ≡ askOf (requestFor service e) ⌝ }
 {
-    let asked = e.asked;
-    if service == service::S {
-        return asking(asked.s, e.s);
+    match service {
+        service::S => asking(e.asked.s, e.s),
+        service::D => asking(e.asked.d, e.d),
+        _ => asking(e.asked.e, e.e),
     }
-    if service == service::D {
-        return asking(asked.d, e.d);
-    }
-    asking(asked.e, e.e)
 }
 
 // A request that is still there at event i, if it is answered at a place.
@@ -163,31 +134,17 @@ fn claim(t: Status, kind: u8, octets: &[u8]) -> Outcome
     ensures { λ r. ⌜ r ≡ claimOf (t .phase) (requestsOf t) kind (now (octets .entry)) ⌝ }
 {
     if kind != phases::COMPONENT {
-        return Outcome {
-            number: refusal::WRONG_PHASE,
-            service: service::NONE,
-        };
+        return no_service(refusal::WRONG_PHASE);
     }
     if phases::next_phase(kind, t.phase) == phases::IDLE {
-        return Outcome {
-            number: refusal::WRONG_PHASE,
-            service: service::NONE,
-        };
+        return no_service(refusal::WRONG_PHASE);
     }
     let a = read::read(octets);
     if a.number != 0 {
-        return Outcome {
-            number: a.number as u8,
-            service: service::NONE,
-        };
+        return no_service(a.number as u8);
     }
-    let front = a.value.front;
-    outcomes::claimed(
-        t,
-        front,
-        a.value.charge.figure.kind,
-        a.value.charge.figure.total,
-    )
+    let figure = a.value.charge.figure;
+    outcomes::claimed(t, a.value.front, figure.kind, figure.total)
 }
 
 // Whether an outcome is a service's final, or else answers its request.
@@ -228,8 +185,7 @@ fn first_before(
         if is_sought(o, service, finals) {
             return i;
         }
-        let next = passed(phase, e);
-        phase = next;
+        phase = passed(phase, e);
         at = end;
         i += 1;
     }
@@ -265,24 +221,17 @@ pub fn status_before(rows: &[u16], octets: &[u8], k: usize) -> Status
     requires { ⌜ Scan (now rows) (now octets) k ⌝ }
     ensures { λ r. ⌜ (r .phase ≡ phase (judged (before (now (rows .entry)) (now (octets .entry)) k))) × (requestsOf r ≡ requests (judged (before (now (rows .entry)) (now (octets .entry)) k))) ⌝ }
 {
-    let phase = phase_before(rows, k);
+    let mut t = bare(phase_before(rows, k));
     let s = pending_before(rows, octets, k, service::S);
+    t.asked.s = s.mark;
+    t.s = s.id;
     let d = pending_before(rows, octets, k, service::D);
+    t.asked.d = d.mark;
+    t.d = d.id;
     let e = pending_before(rows, octets, k, service::E);
-    let asked = Services {
-        s: s.mark,
-        d: d.mark,
-        e: e.mark,
-    };
-    Status {
-        phase,
-        asked,
-        s: s.id,
-        d: d.id,
-        e: e.id,
-        absent: NO_SERVICES,
-        conflict: NO_SERVICES,
-    }
+    t.asked.e = e.mark;
+    t.e = e.id;
+    t
 }
 
 // ---- one event of the list
@@ -319,22 +268,13 @@ fn final_at(rows: &[u16], octets: &[u8], k: usize, service: u8, charge: Charge) 
 {
     let i = final_before(rows, octets, k, service);
     if i >= k {
-        return Outcome {
-            number: outcomes::FINAL,
-            service,
-        };
+        return outcome_of(outcomes::FINAL, service);
     }
     let first = charge_at(rows, octets, i);
     if same_final::same(first, charge) {
-        return Outcome {
-            number: outcomes::REPEATED,
-            service,
-        };
+        return outcome_of(outcomes::REPEATED, service);
     }
-    Outcome {
-        number: outcomes::CONFLICT,
-        service,
-    }
+    outcome_of(outcomes::CONFLICT, service)
 }
 
 // The outcome of event k.
@@ -344,8 +284,7 @@ pub fn outcome_at(rows: &[u16], octets: &[u8], k: usize) -> Outcome
 {
     let e = events::row_at(rows, k);
     if e.kind != phases::COMPONENT {
-        let t = bare(phase_before(rows, k));
-        let m = phases::phase_step(t, e);
+        let m = phases::phase_step(bare(phase_before(rows, k)), e);
         return m.outcome;
     }
     let at = place_of(rows, k, octets.len());
@@ -355,6 +294,5 @@ pub fn outcome_at(rows: &[u16], octets: &[u8], k: usize) -> Outcome
     if o.number != outcomes::FINAL {
         return o;
     }
-    let charge = charge_at(rows, octets, k);
-    final_at(rows, octets, k, o.service, charge)
+    final_at(rows, octets, k, o.service, charge_at(rows, octets, k))
 }

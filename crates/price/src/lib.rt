@@ -30,8 +30,8 @@ fn no_amount(number: u32, free: u8) -> Priced
     ensures { λ r. ⌜ r ≡ noAmount number free ⌝ }
 {
     Priced {
-        number: number,
-        free: free,
+        number,
+        free,
         currency: Currency {
             count: 0,
             octets: [0; 10],
@@ -61,7 +61,6 @@ fn priced_money(m: Money) -> Priced
 pub fn price(service: u32, c: Charge) -> Priced
     ensures { λ r. ⌜ r ≡ priceOf service c ⌝ }
 {
-    let money = c.figure.money;
     let kind = c.figure.kind;
     if service == closing_service::NONE {
         return no_amount(NO_CLOSING, 0);
@@ -69,11 +68,9 @@ pub fn price(service: u32, c: Charge) -> Priced
     if !closing::in_range(service, c) {
         return no_amount(BAD_RECORD, 0);
     }
-    if kind == charge_kind::UNITS {
-        return no_amount(UNIT_LIST, 0);
+    match kind {
+        charge_kind::UNITS => no_amount(UNIT_LIST, 0),
+        charge_kind::FREE => no_amount(0, 1),
+        _ => priced_money(c.figure.money),
     }
-    if kind == charge_kind::FREE {
-        return no_amount(0, 1);
-    }
-    priced_money(money)
 }

@@ -1,6 +1,7 @@
 // The components of an element one after another, read by the element's own profile octet.
 use profile_read::Judged;
 use profile_read::family;
+use profile_read::judged_as;
 ghost use mathlib.Core.Path.{_≡_};
 ghost use Rattle.trunk_types.specs.Stored.{Spare};
 ghost use Rattle.element_pass.specs.Pass.{passWith};
@@ -35,47 +36,29 @@ pub fn next_by(
     let n = element_pass::next_into(octets, place, front, figure, numbers, rows);
     let after = n.after;
     let ended = n.ended;
-    if after == 0 {
-        profile_read::no_trunk(
-            trunk_front,
-            extension,
-            trunk_figure,
-            trunk_numbers,
-            trunk_rows,
-        );
-        return NextBy {
-            after: 0,
-            ended,
-            answer: Judged {
-                number: n.answer.number,
-                offset: 0,
-                family: family::NONE,
-            },
-        };
+    let a: read::Refusal = n.answer;
+    let mut answer = judged_as(a.number, 0, family::NONE);
+    if after != 0 {
+        let profile = octets[2];
+        if profile != 0x91 {
+            let answer = profile_read::trunk_by(
+                profile,
+                &octets[place..after],
+                trunk_front,
+                extension,
+                trunk_figure,
+                trunk_numbers,
+                trunk_rows,
+            );
+            return NextBy {
+                after,
+                ended,
+                answer,
+            };
+        }
+        answer = judged_as(a.number, a.offset, family::LINE);
     }
-    let profile = octets[2];
-    if profile == 0x91 {
-        profile_read::no_trunk(
-            trunk_front,
-            extension,
-            trunk_figure,
-            trunk_numbers,
-            trunk_rows,
-        );
-        let a: read::Refusal = n.answer;
-        return NextBy {
-            after,
-            ended,
-            answer: Judged {
-                number: a.number,
-                offset: a.offset,
-                family: family::LINE,
-            },
-        };
-    }
-    let answer = profile_read::trunk_by(
-        profile,
-        &octets[place..after],
+    profile_read::no_trunk(
         trunk_front,
         extension,
         trunk_figure,

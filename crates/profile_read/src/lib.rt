@@ -25,6 +25,16 @@ pub struct Judged {
     pub family: u32,
 }
 
+pub fn judged_as(number: u32, offset: u32, family: u32) -> Judged
+    ensures { λ r. ⌜ r ≡ record { number = number; offset = offset; family = family } ⌝ }
+{
+    Judged {
+        number,
+        offset,
+        family,
+    }
+}
+
 // ---- a record of zeros, in its parts
 
 fn no_line(
@@ -76,18 +86,10 @@ pub fn trunk_by(
 {
     if profile == 0x9f {
         let a = trunk_read::read_into(octets, trunk_front, extension, figure, numbers, rows);
-        return Judged {
-            number: a.number,
-            offset: a.offset,
-            family: family::TRUNK,
-        };
+        return judged_as(a.number, a.offset, family::TRUNK);
     }
     no_trunk(trunk_front, extension, figure, numbers, rows);
-    Judged {
-        number: OTHER_PROFILE,
-        offset: 0,
-        family: family::NONE,
-    }
+    judged_as(OTHER_PROFILE, 0, family::NONE)
 }
 
 // Reads a component with its profile octet into the parts of both records, whatever they hold: the record of the family that is not read is zero.
@@ -116,11 +118,7 @@ pub fn read_by(
             trunk_rows,
         );
         let a = read::read_into(octets, front, figure, numbers, rows);
-        return Judged {
-            number: a.number,
-            offset: a.offset,
-            family: family::LINE,
-        };
+        return judged_as(a.number, a.offset, family::LINE);
     }
     no_line(front, figure, numbers, rows);
     trunk_by(

@@ -90,13 +90,7 @@ fn keep_head(front: &mut [u8; 8], h: read_heads::Head)
 fn is_request(h: read_heads::Head) -> bool
     ensures { λ r. ⌜ r ≡ isRequest (h .front) ⌝ }
 {
-    if h.front.frame != frame::INVOKE {
-        return false;
-    }
-    if h.front.operation != operation::CHARGING_REQUEST {
-        return false;
-    }
-    true
+    h.front.frame == frame::INVOKE && h.front.operation == operation::CHARGING_REQUEST
 }
 
 // The refusal of an argument or result: a fault in it, or what is left over.
@@ -119,10 +113,7 @@ fn ended(h: read_heads::Head, fault: u8, place: usize, next: usize) -> Refusal
 fn ends_well(fault: u8, number: u32) -> bool
     ensures { λ r. ⌜ r ≡ endsWell fault number ⌝ }
 {
-    if fault != 0 {
-        return false;
-    }
-    number == 0
+    fault == 0 && number == 0
 }
 
 // The argument of operation 30.

@@ -87,16 +87,10 @@ fn priced_at(
     if a.fault != 0 {
         return read_elements::halted(a.fault, a.place);
     }
-    let contents = price_in(
-        s,
-        a.value.start,
-        a.value.stop,
-        operation,
-        figure,
-        numbers,
-        rows,
-    );
-    let p = read_elements::closed(contents, a.value.stop, a.next);
+    let start = a.value.start;
+    let stop = a.value.stop;
+    let contents = price_in(s, start, stop, operation, figure, numbers, rows);
+    let p = read_elements::closed(contents, stop, a.next);
     if p.fault != 0 {
         return read_elements::halted(p.fault, p.place);
     }
@@ -156,26 +150,20 @@ fn figure_at(
     if e.fault != 0 {
         return read_elements::halted(e.fault, e.place);
     }
-    let u = settled_at(
-        s,
-        e.value.start,
-        e.value.stop,
-        operation,
-        figure,
-        numbers,
-        rows,
-    );
+    let start = e.value.start;
+    let stop = e.value.stop;
+    let u = settled_at(s, start, stop, operation, figure, numbers, rows);
     if u.fault != 0 {
         return read_elements::halted(u.fault, u.place);
     }
     if read_unit::is_subtotal(operation) {
         return u;
     }
-    if u.next == e.value.stop {
+    if u.next == stop {
         return read_elements::reached(e.next);
     }
-    let a = read_figures::association_at(s, u.next, e.value.stop, false, figure);
-    read_elements::closed(a, e.value.stop, e.next)
+    let a = read_figures::association_at(s, u.next, stop, false, figure);
+    read_elements::closed(a, stop, e.next)
 }
 
 // ---- by the operation

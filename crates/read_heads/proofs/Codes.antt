@@ -97,16 +97,16 @@ module _ (u : ℕ) (ks : List ℕ) (at next : ℕ) where
         abbrev found : ℕ → ℕ × ℕ × ℕ × ℕ
         found v = lookedUp u ks at (record { fault = 0; place = 0; value = v; next = next })
 
-        pub number-negative : not n ≡ false → found 16777216 ≡ meant
+        pub number-negative : n ≡ true → found 16777216 ≡ meant
         unfolding listing ruled shown lookedUp
-        number-negative h = rw (unlisted ks low, sym e ∙ not-false b t, counts, le-ltb _ _ f, sym g ∙ not-false n h)
+        number-negative h = rw (unlisted ks low, sym e ∙ not-false b t, counts, le-ltb _ _ f, sym g ∙ h)
 
-        pub number-found : {v : ℕ} → not n ≡ true → v ≡ min (numberFrom 0 (part s start stop)) 16777216 → found v ≡ meant
+        pub number-found : {v : ℕ} → n ≡ false → v ≡ min (numberFrom 0 (part s start stop)) 16777216 → found v ≡ meant
         unfolding listing ruled shown lookedUp
         number-found {v} h p =
             by-cases (oneOf ks v)
-            (λ q. rw q (number-known _ (sym e ∙ not-false b t) (omega (arith, counts)) (sym g ∙ not-true n h) (omega (arith, has-below 16777216 ks v low q)) q))
-            (λ q. rw (q, sym e ∙ not-false b t, counts, le-ltb _ _ f, sym g ∙ not-true n h, unlisted-held ks low v _ p q))
+            (λ q. rw q (number-known _ (sym e ∙ not-false b t) (omega (arith, counts)) (sym g ∙ h) (omega (arith, has-below 16777216 ks v low q)) q))
+            (λ q. rw (q, sym e ∙ not-false b t, counts, le-ltb _ _ f, sym g ∙ h, unlisted-held ks low v _ p q))
 
 pub ruleset numbering = (number-padded, number-long, number-negative, number-found)
 

@@ -12,7 +12,7 @@ ghost use lib.ListN.{length};
 ghost use Rattle.coding.specs.Reader.{enteredAny};
 ghost use Rattle.coding.specs.Reader.Fault.{named};
 ghost use Rattle.coding.specs.inner.Shown.{shown};
-ghost use Rattle.types.specs.Frames.{outside, numberOf, value, invoke, returnResult, returnError, reject, caller, rejects, readWhole};
+ghost use Rattle.types.specs.Frames.{frontBy, outside, numberOf, value, invoke, returnResult, returnError, reject, caller, rejects, readWhole};
 ghost use Rattle.read_heads.specs.inner.Heads.{outsideCode, argumentCode, faultBy, contentsOf, noHead, restOf, callerBy, rejectedBy, problemIn, problemsIn};
 ghost use Rattle.read_lengths.specs.inner.Bounds.{Bounded};
 
@@ -94,6 +94,50 @@ fn no_head(fault: u8, at: usize) -> Head
     }
 }
 
+// What comes before an argument or result.
+fn lead(frame: u8, id: u16, operation: u8, at: usize, stop: usize, next: usize, end: usize) -> Head
+    ensures { λ r. ⌜ r ≡ record { fault = 0; at = at; stop = stop; next = next; end = end; front = frontBy frame 0 id operation 0 0 0 } ⌝ }
+{
+    Head {
+        fault: 0,
+        at,
+        stop,
+        next,
+        end,
+        front: types::Front {
+            frame,
+            unnamed: 0,
+            id,
+            operation,
+            error: 0,
+            problem: 0,
+            detail: 0,
+        },
+    }
+}
+
+// A return error or reject, which is read whole.
+fn alone(frame: u8, unnamed: u8, id: u16, error: u8, problem: u8, detail: u8) -> Head
+    ensures { λ r. ⌜ r ≡ record { fault = 0; at = 0; stop = 0; next = 0; end = 0; front = frontBy frame unnamed id 0 error problem detail } ⌝ }
+{
+    Head {
+        fault: 0,
+        at: 0,
+        stop: 0,
+        next: 0,
+        end: 0,
+        front: types::Front {
+            frame,
+            unnamed,
+            id,
+            operation: 0,
+            error,
+            problem,
+            detail,
+        },
+    }
+}
+
 // A1: identifier, operation.
 fn invoke_head(s: &[u8], start: usize, n: usize) -> Head
     requires { ⌜ Bounded (now s) n ⌝ }
@@ -110,22 +154,7 @@ fn invoke_head(s: &[u8], start: usize, n: usize) -> Head
     }
     let id = i.value as u16;
     let operation = o.value as u8;
-    Head {
-        fault: 0,
-        at: o.next,
-        stop: n,
-        next: n,
-        end: n,
-        front: types::Front {
-            frame: frame::INVOKE,
-            unnamed: 0,
-            id,
-            operation,
-            error: 0,
-            problem: 0,
-            detail: 0,
-        },
-    }
+    lead(frame::INVOKE, id, operation, o.next, n, n, n)
 }
 
 // A2: identifier, then 30 holding operation and result.
@@ -148,22 +177,8 @@ fn result_head(s: &[u8], start: usize, n: usize) -> Head
     }
     let id = i.value as u16;
     let operation = o.value as u8;
-    Head {
-        fault: 0,
-        at: o.next,
-        stop: e.value.stop,
-        next: e.next,
-        end: n,
-        front: types::Front {
-            frame: frame::RESULT,
-            unnamed: 0,
-            id,
-            operation,
-            error: 0,
-            problem: 0,
-            detail: 0,
-        },
-    }
+    let last = e.value.stop;
+    lead(frame::RESULT, id, operation, o.next, last, e.next, n)
 }
 
 // A3: identifier, error.
@@ -183,24 +198,7 @@ fn error_head(s: &[u8], start: usize, n: usize) -> Head
     if o.next != n {
         return no_head(refusal::UNEXPECTED, o.next);
     }
-    let id = i.value as u16;
-    let error = o.value as u8;
-    Head {
-        fault: 0,
-        at: 0,
-        stop: 0,
-        next: 0,
-        end: 0,
-        front: types::Front {
-            frame: frame::ERROR,
-            unnamed: 0,
-            id,
-            operation: 0,
-            error,
-            problem: 0,
-            detail: 0,
-        },
-    }
+    alone(frame::ERROR, 0, i.value as u16, o.value as u8, 0, 0)
 }
 
 // What a reject answers: an identifier, or NULL.
@@ -216,6 +214,17 @@ pub struct CallerRead {
     pub next: usize,
 }
 
+fn caller_read(fault: u8, place: usize, unnamed: u8, id: u16, next: usize) -> CallerRead
+    ensures { λ r. ⌜ r ≡ record { fault = fault; place = place; value = record { unnamed = unnamed; id = id }; next = next } ⌝ }
+{
+    CallerRead {
+        fault,
+        place,
+        value: Caller { unnamed, id },
+        next,
+    }
+}
+
 pub fn caller_at(s: &[u8], at: usize, end: usize) -> CallerRead
     requires { ⌜ Bounded (now s) end ⌝ }
     ensures { λ r. ⌜ (r .fault, r .place, callerBy (r .value), r .next) ≡ shown (inr 0) (caller .read (now (s .entry)) at end) ⌝ }
@@ -224,36 +233,15 @@ pub fn caller_at(s: &[u8], at: usize, end: usize) -> CallerRead
     if read_lengths::is_tag(s, at, end, 0x05) {
         let z = read_elements::null_at(s, at, end, 0x05);
         if z.fault != 0 {
-            return CallerRead {
-                fault: z.fault,
-                place: z.place,
-                value: Caller { unnamed: 0, id: 0 },
-                next: 0,
-            };
+            return caller_read(z.fault, z.place, 0, 0, 0);
         }
-        return CallerRead {
-            fault: 0,
-            place: 0,
-            value: Caller { unnamed: 1, id: 0 },
-            next: z.next,
-        };
+        return caller_read(0, 0, 1, 0, z.next);
     }
     let i = read_elements::identifier_at(s, at, end, 0x02);
     if i.fault != 0 {
-        return CallerRead {
-            fault: i.fault,
-            place: i.place,
-            value: Caller { unnamed: 0, id: 0 },
-            next: 0,
-        };
+        return caller_read(i.fault, i.place, 0, 0, 0);
     }
-    let id = i.value as u16;
-    CallerRead {
-        fault: 0,
-        place: 0,
-        value: Caller { unnamed: 0, id },
-        next: i.next,
-    }
+    caller_read(0, 0, 0, i.value as u16, i.next)
 }
 
 pub struct ProblemRead {
@@ -324,22 +312,9 @@ fn reject_head(s: &[u8], start: usize, n: usize) -> Head
     if p.next != n {
         return no_head(refusal::UNEXPECTED, p.next);
     }
-    Head {
-        fault: 0,
-        at: 0,
-        stop: 0,
-        next: 0,
-        end: 0,
-        front: types::Front {
-            frame: frame::REJECT,
-            unnamed: i.value.unnamed,
-            id: i.value.id,
-            operation: 0,
-            error: 0,
-            problem: p.value.tag,
-            detail: p.value.detail,
-        },
-    }
+    let who = i.value;
+    let why = p.value;
+    alone(frame::REJECT, who.unnamed, who.id, 0, why.tag, why.detail)
 }
 
 // The component's own element: its first octet, its length, its end, and nothing after it.
@@ -351,41 +326,23 @@ pub fn enter(s: &[u8]) -> read_lengths::Opened
 {
     let n = s.len();
     if n == 0 {
-        return shut_out(named::CUT, n);
+        return read_lengths::halted(named::CUT, n);
     }
     let tag = s[0];
     if tag < 0xa1 {
-        return shut_out(named::UNKNOWN_COMPONENT, 0);
+        return read_lengths::halted(named::UNKNOWN_COMPONENT, 0);
     }
     if 0xa4 < tag {
-        return shut_out(named::UNKNOWN_COMPONENT, 0);
+        return read_lengths::halted(named::UNKNOWN_COMPONENT, 0);
     }
     let e = read_lengths::open_at(s, 0, n, tag);
     if e.fault != 0 {
-        return shut_out(outer(e.fault), e.place);
+        return read_lengths::halted(outer(e.fault), e.place);
     }
     if e.next != n {
-        return shut_out(named::TRAILING, e.next);
+        return read_lengths::halted(named::TRAILING, e.next);
     }
-    let value = e.value;
-    read_lengths::Opened {
-        fault: 0,
-        place: 0,
-        value,
-        next: e.next,
-    }
-}
-
-// It is refused, at a place.
-pub fn shut_out(fault: u8, place: usize) -> read_lengths::Opened
-    ensures { λ r. ⌜ r ≡ record { fault = fault; place = place; value = record { start = 0; stop = 0 }; next = 0 } ⌝ }
-{
-    read_lengths::Opened {
-        fault,
-        place,
-        value: coding::Extent { start: 0, stop: 0 },
-        next: 0,
-    }
+    read_lengths::found(e.value.start, e.value.stop, e.next)
 }
 
 // All that comes before an argument or result.
@@ -403,15 +360,10 @@ pub fn head_of(s: &[u8]) -> Head
     }
     let start = e.value.start;
     let stop = e.value.stop;
-    let tag = s[0];
-    if tag == 0xa1 {
-        return invoke_head(s, start, stop);
+    match s[0] {
+        0xa1 => invoke_head(s, start, stop),
+        0xa2 => result_head(s, start, stop),
+        0xa3 => error_head(s, start, stop),
+        _ => reject_head(s, start, stop),
     }
-    if tag == 0xa2 {
-        return result_head(s, start, stop);
-    }
-    if tag == 0xa3 {
-        return error_head(s, start, stop);
-    }
-    reject_head(s, start, stop)
 }

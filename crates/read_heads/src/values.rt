@@ -65,53 +65,31 @@ pub fn unknown(frame: u8) -> u8
     }
 }
 
-// Reading a value stopped at a place.
-pub fn no_value(fault: u8, place: usize) -> read_elements::NumberRead
-    ensures { λ r. ⌜ r ≡ record { fault = fault; place = place; value = 0; next = 0 } ⌝ }
-{
-    read_elements::NumberRead {
-        fault,
-        place,
-        value: 0,
-        next: 0,
-    }
-}
-
 // The number of a value, whatever list it is then looked up in: held at 2^24, which no list has, and 2^24 for one below 0 and for tag 06.
 pub fn number_at(s: &[u8], at: usize, end: usize) -> read_elements::NumberRead
     requires { ⌜ Bounded (now s) end ⌝ }
     ensures { λ r. ⌜ ((u : ℕ) (ks : List ℕ) → all (λ k. ltb k 16777216) ks ≡ true → lookedUp u ks at r ≡ shown 0 ((value u ks) .read (now (s .entry)) at end)) ⌝ }
 {
     if read_lengths::is_tag(s, at, end, 0x06) {
-        return read_elements::NumberRead {
-            fault: 0,
-            place: 0,
-            value: UNLISTED,
-            next: 0,
-        };
+        return read_elements::number(UNLISTED, 0);
     }
     let e = read_lengths::open_at(s, at, end, 0x02);
     if e.fault != 0 {
-        return no_value(e.fault, e.place);
+        return read_elements::no_number(e.fault, e.place);
     }
     let start = e.value.start;
     let stop = e.value.stop;
     if !read_elements::is_shortest(s, start, stop) {
-        return no_value(refusal::NOT_SHORTEST, at);
+        return read_elements::no_number(refusal::NOT_SHORTEST, at);
     }
     if 4 < stop - start {
-        return no_value(refusal::BAD_CONTENTS, at);
+        return read_elements::no_number(refusal::BAD_CONTENTS, at);
     }
-    let mut value = UNLISTED;
-    if !read_elements::is_negative(s, start, stop) {
-        value = read_elements::magnitude(s, start, stop);
+    if read_elements::is_negative(s, start, stop) {
+        return read_elements::number(UNLISTED, e.next);
     }
-    read_elements::NumberRead {
-        fault: 0,
-        place: 0,
-        value,
-        next: e.next,
-    }
+    let value = read_elements::magnitude(s, start, stop);
+    read_elements::number(value, e.next)
 }
 
 pub fn value_long(s: &[u8], at: usize, end: usize, frame: u8) -> read_elements::NumberRead
@@ -121,12 +99,12 @@ pub fn value_long(s: &[u8], at: usize, end: usize, frame: u8) -> read_elements::
 {
     let n = number_at(s, at, end);
     if n.fault != 0 {
-        return no_value(n.fault, n.place);
+        return read_elements::no_number(n.fault, n.place);
     }
     if is_known(frame, n.value) {
         return n;
     }
-    no_value(unknown(frame), at)
+    read_elements::no_number(unknown(frame), at)
 }
 
 // The same, where the value is a known one of one octet at once.
@@ -138,12 +116,7 @@ pub fn value_at(s: &[u8], at: usize, end: usize, frame: u8) -> read_elements::Nu
     let x = read_elements::tiny(s, at, end, 0x02) as u32;
     if x < 128 {
         if is_known(frame, x) {
-            return read_elements::NumberRead {
-                fault: 0,
-                place: 0,
-                value: x,
-                next: at + 3,
-            };
+            return read_elements::number(x, at + 3);
         }
     }
     value_long(&s[0..], at, end, frame)

@@ -26,14 +26,11 @@ pub fn is_tag(s: &[u8], at: usize, end: usize, tag: u8) -> bool
     requires { ⌜ end ≤ length (now s) ⌝ }
     ensures { λ r. ⌜ r ≡ tagged (now (s .entry)) at end tag ⌝ }
 {
-    if end <= at {
-        return false;
-    }
-    s[at] == tag
+    at < end && s[at] == tag
 }
 
 // A fault, and nothing opened.
-fn halted(fault: u8, place: usize) -> Opened
+pub fn halted(fault: u8, place: usize) -> Opened
     ensures { λ r. ⌜ r ≡ record { fault = fault; place = place; value = record { start = 0; stop = 0 }; next = 0 } ⌝ }
 {
     Opened {
@@ -119,13 +116,7 @@ fn is_endless(s: &[u8], tag: usize, at: usize, end: usize) -> bool
     requires { ⌜ (end ≤ length (now s)) × (tag < at) ⌝ }
     ensures { λ r. ⌜ r ≡ endless (now (s .entry)) tag at end ⌝ }
 {
-    if end <= at {
-        return false;
-    }
-    if s[at] != 0x80 {
-        return false;
-    }
-    s[tag] / 32 % 2 == 1
+    at < end && (s[at] == 0x80 && s[tag] / 32 % 2 == 1)
 }
 
 // Whether the end marker is at a place.

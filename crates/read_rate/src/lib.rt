@@ -9,7 +9,7 @@ ghost use lib.Seq.{sets};
 ghost use Rattle.coding.specs.Codec.{sort, pad};
 ghost use Rattle.coding.specs.inner.Shown.{shown, refusal};
 ghost use Rattle.types.specs.Charges.{noMoney, money};
-ghost use Rattle.types.specs.Rates.{noRate, isRate, duration, flatRate, volume, coded, plainRate, price, rate, rateNumbers, rateOctets};
+ghost use Rattle.types.specs.Rates.{noScaled, noRate, isRate, duration, flatRate, volume, coded, plainRate, price, rate, rateNumbers, rateOctets};
 ghost use Rattle.read_rate.specs.inner.Readers.{accepted, noStep, stepTime, ratedAs};
 ghost use Rattle.read_lengths.specs.inner.Bounds.{Bounded};
 
@@ -132,10 +132,17 @@ fn rate_read(
     }
 }
 
+// The same without a time and a step.
+fn untimed(kind: u8, money: types::Money, detail: u8, next: usize) -> RateRead
+    ensures { λ r. ⌜ (r .fault, r .place, r .value, r .next) ≡ accepted (ratedAs kind money detail noScaled noStep) next ⌝ }
+{
+    rate_read(kind, money, detail, types::NO_SCALED, NO_STEP, next)
+}
+
 fn no_rate(fault: u8, place: usize) -> RateRead
     ensures { λ r. ⌜ (r .fault, r .place, r .value, r .next) ≡ refusal noRate fault place ⌝ }
 {
-    let mut r = rate_read(0, types::NO_MONEY, 0, types::NO_SCALED, NO_STEP, 0);
+    let mut r = untimed(0, types::NO_MONEY, 0, 0);
     r.fault = fault;
     r.place = place;
     r
@@ -169,14 +176,8 @@ fn duration_at(s: &[u8], at: usize, end: usize, trunk: bool) -> RateRead
     if g.next != e.value.stop {
         return no_rate(refusal::UNEXPECTED, g.next);
     }
-    rate_read(
-        rate_kind::DURATION,
-        m.value,
-        d.value as u8,
-        t.value,
-        g.value,
-        e.next,
-    )
+    let kind = rate_kind::DURATION;
+    rate_read(kind, m.value, d.value as u8, t.value, g.value, e.next)
 }
 
 // A2: currency, amount.
@@ -195,14 +196,7 @@ fn flat_at(s: &[u8], at: usize, end: usize, trunk: bool) -> RateRead
     if m.next != e.value.stop {
         return no_rate(refusal::UNEXPECTED, m.next);
     }
-    rate_read(
-        rate_kind::FLAT,
-        m.value,
-        0,
-        types::NO_SCALED,
-        NO_STEP,
-        e.next,
-    )
+    untimed(rate_kind::FLAT, m.value, 0, e.next)
 }
 
 // A3: currency, amount, 83 unit.
@@ -225,14 +219,7 @@ fn volume_at(s: &[u8], at: usize, end: usize, trunk: bool) -> RateRead
     if d.next != e.value.stop {
         return no_rate(refusal::UNEXPECTED, d.next);
     }
-    rate_read(
-        rate_kind::VOLUME,
-        m.value,
-        d.value as u8,
-        types::NO_SCALED,
-        NO_STEP,
-        e.next,
-    )
+    untimed(rate_kind::VOLUME, m.value, d.value as u8, e.next)
 }
 
 // 02: a code.
@@ -244,14 +231,7 @@ fn coded_at(s: &[u8], at: usize, end: usize) -> RateRead
     if n.fault != 0 {
         return no_rate(n.fault, n.place);
     }
-    rate_read(
-        rate_kind::CODE,
-        types::NO_MONEY,
-        n.value as u8,
-        types::NO_SCALED,
-        NO_STEP,
-        n.next,
-    )
+    untimed(rate_kind::CODE, types::NO_MONEY, n.value as u8, n.next)
 }
 
 // 84 00 free, 85 00 unknown: a tag with no contents stands for a kind.
@@ -263,7 +243,7 @@ fn plain_rate_at(s: &[u8], at: usize, end: usize, tag: u8, kind: u8) -> RateRead
     if z.fault != 0 {
         return no_rate(z.fault, z.place);
     }
-    rate_read(kind, types::NO_MONEY, 0, types::NO_SCALED, NO_STEP, z.next)
+    untimed(kind, types::NO_MONEY, 0, z.next)
 }
 
 // The last two choices of a trunk: 85 00 unknown, 86 00 free from the beginning.

@@ -21,11 +21,21 @@ pub struct UnitsRead {
     pub next: usize,
 }
 
-const NO_UNITS: types::Units = types::Units {
-    number: 0,
-    known: 0,
-    kind: 0,
-};
+// Units and the place after them.
+fn units(number: u32, known: u8, kind: u8, next: usize) -> UnitsRead
+    ensures { λ r. ⌜ r ≡ record { fault = 0; place = 0; value = record { number = number; known = known; kind = kind }; next = next } ⌝ }
+{
+    UnitsRead {
+        fault: 0,
+        place: 0,
+        value: types::Units {
+            number,
+            known,
+            kind,
+        },
+        next,
+    }
+}
 
 fn no_units(fault: u8, place: usize) -> UnitsRead
     ensures { λ r. ⌜ (r .fault, r .place, r .value, r .next) ≡ refusal noUnits fault place ⌝ }
@@ -33,7 +43,11 @@ fn no_units(fault: u8, place: usize) -> UnitsRead
     UnitsRead {
         fault,
         place,
-        value: NO_UNITS,
+        value: types::Units {
+            number: 0,
+            known: 0,
+            kind: 0,
+        },
         next: 0,
     }
 }
@@ -48,27 +62,13 @@ fn unit_number_at(s: &[u8], at: usize, end: usize) -> UnitsRead
         if z.fault != 0 {
             return no_units(z.fault, z.place);
         }
-        return UnitsRead {
-            fault: 0,
-            place: 0,
-            value: NO_UNITS,
-            next: z.next,
-        };
+        return units(0, 0, 0, z.next);
     }
     let n = read_elements::natural_at(s, at, end, 0x02, 0, types::MOST);
     if n.fault != 0 {
         return no_units(n.fault, n.place);
     }
-    UnitsRead {
-        fault: 0,
-        place: 0,
-        value: types::Units {
-            number: n.value,
-            known: 1,
-            kind: 0,
-        },
-        next: n.next,
-    }
+    units(n.value, 1, 0, n.next)
 }
 
 // An entry of a list of units.
@@ -91,16 +91,7 @@ pub fn unit_at(s: &[u8], at: usize, end: usize) -> UnitsRead
     if k.next != e.value.stop {
         return no_units(refusal::UNEXPECTED, k.next);
     }
-    UnitsRead {
-        fault: 0,
-        place: 0,
-        value: types::Units {
-            number: n.value.number,
-            known: n.value.known,
-            kind: k.value.value as u8,
-        },
-        next: e.next,
-    }
+    units(n.value.number, n.value.known, k.value.value as u8, e.next)
 }
 
 // Stores an entry's rows as entry i of a list of units.
@@ -120,10 +111,7 @@ pub fn keep_unit(numbers: &mut [u32; 32], rows: &mut [u8; 192], i: usize, u: typ
 pub fn is_tariff(operation: u8) -> bool
     ensures { λ r. ⌜ r ≡ isTariff operation ⌝ }
 {
-    if operation < operation::CHARGING_REQUEST {
-        return false;
-    }
-    operation <= operation::S_SPECIAL
+    operation::CHARGING_REQUEST <= operation && operation <= operation::S_SPECIAL
 }
 
 // The argument of operation 32, and the special arrangement among the results of operation 30.
@@ -131,33 +119,22 @@ pub fn is_arranged(s: &[u8], at: usize, end: usize, operation: u8) -> bool
     requires { ⌜ Bounded (now s) end ⌝ }
     ensures { λ r. ⌜ r ≡ eqb operation 32 || eqb operation 30 && tagged (now (s .entry)) at end 0x02 ⌝ }
 {
-    if operation == operation::S_SPECIAL {
-        return true;
-    }
-    if operation != operation::CHARGING_REQUEST {
-        return false;
-    }
-    read_lengths::is_tag(s, at, end, 0x02)
+    operation == operation::S_SPECIAL
+        || (operation == operation::CHARGING_REQUEST && read_lengths::is_tag(s, at, end, 0x02))
 }
 
 // 33 and 34 hand over subtotals and totals; 35 and 36 finals.
 pub fn is_subtotal(operation: u8) -> bool
     ensures { λ r. ⌜ r ≡ isSubtotal operation ⌝ }
 {
-    if operation == operation::D_CURRENCY {
-        return true;
-    }
-    operation == operation::D_UNITS
+    operation == operation::D_CURRENCY || operation == operation::D_UNITS
 }
 
 // 35 and 33 hand over money; 36 and 34 units.
 pub fn is_money(operation: u8) -> bool
     ensures { λ r. ⌜ r ≡ isMoney operation ⌝ }
 {
-    if operation == operation::E_CURRENCY {
-        return true;
-    }
-    operation == operation::D_CURRENCY
+    operation == operation::E_CURRENCY || operation == operation::D_CURRENCY
 }
 
 // 35 and 36 have a 30 around the charge and its association; 33 and 34 have none.

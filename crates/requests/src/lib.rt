@@ -101,16 +101,12 @@ impl Services {
         ensures set { λ r. ⌜ r ≡ with self service ⌝ }
         ensures members { λ r. ⌜ ((u : ℕ) → has r u ≡ isService u && eqb service u || has self u) ⌝ }
     {
-        if service == service::S {
-            return self.with_s();
+        match service {
+            service::S => self.with_s(),
+            service::D => self.with_d(),
+            service::E => self.with_e(),
+            _ => self,
         }
-        if service == service::D {
-            return self.with_d();
-        }
-        if service == service::E {
-            return self.with_e();
-        }
-        self
     }
 
     pub fn has_s(self) -> bool
@@ -135,15 +131,11 @@ impl Services {
     pub fn has(self, service: u8) -> bool
         ensures { λ r. ⌜ r ≡ has self service ⌝ }
     {
-        if service == service::S {
-            return self.has_s();
+        match service {
+            service::S => self.has_s(),
+            service::D => self.has_d(),
+            service::E => self.has_e(),
+            _ => false,
         }
-        if service == service::D {
-            return self.has_d();
-        }
-        if service == service::E {
-            return self.has_e();
-        }
-        false
     }
 }

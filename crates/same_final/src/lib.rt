@@ -42,24 +42,14 @@ pub fn same(a: Charge, b: Charge) -> bool
 {
     let f = a.figure;
     let g = b.figure;
-    if f.kind != g.kind {
+    let kind = f.kind;
+    if kind != g.kind {
         return false;
     }
-    if f.kind == charge_kind::FREE {
-        return true;
+    match kind {
+        charge_kind::FREE => true,
+        charge_kind::MONEY => amounts::same_money(f.money, g.money),
+        charge_kind::UNITS => f.count == g.count && same_entries(a.entries, b.entries, f.count),
+        _ => false,
     }
-    if f.kind == charge_kind::MONEY {
-        let m = f.money;
-        let n = g.money;
-        return amounts::same_money(m, n);
-    }
-    if f.kind == charge_kind::UNITS {
-        if f.count != g.count {
-            return false;
-        }
-        let x = a.entries;
-        let y = b.entries;
-        return same_entries(x, y, f.count);
-    }
-    false
 }

@@ -63,11 +63,7 @@ fn still(outcome: Outcome, status: Status) -> Change
 fn plain(number: u8, status: Status) -> Change
     ensures { λ r. ⌜ r ≡ record { outcome = noService number; place = 0; status = status; charge = noCharge } ⌝ }
 {
-    let outcome = Outcome {
-        number,
-        service: service::NONE,
-    };
-    still(outcome, status)
+    still(phases::no_service(number), status)
 }
 
 fn taken(a: Account, octets: &[u8]) -> Change

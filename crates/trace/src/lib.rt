@@ -1,7 +1,6 @@
 // Writes the events of a trace as an event list into two buffers of the caller.
 use coding::refusal;
 use phases::Event;
-use requests::Services;
 use trace_messages::Gives;
 ghost use mathlib.Core.Path.{_≡_};
 ghost use mathlib.Core.Bool.{true, false};
@@ -16,17 +15,6 @@ ghost use Rattle.events.specs.Laid.{laidRow};
 ghost use Rattle.trace.specs.Into.{eventsIn, laidOf, rowsLeft, octetsLeft};
 ghost use Rattle.trace.specs.inner.Putting.{Puts, Rooms, RowsFor, Lays};
 
-const NO_SERVICES: Services = Services { s: 0, d: 0, e: 0 };
-
-// What a component becomes, but for its octets.
-const COMPONENT: Event = Event {
-    kind: phases::COMPONENT,
-    asked: NO_SERVICES,
-    s: 0,
-    d: 0,
-    e: 0,
-};
-
 // ---- an event stored in the caller's slices
 
 // Where the next event goes: its row's first number, and its first octet.
@@ -40,10 +28,9 @@ fn put_component(rows: &mut [u16], out: &mut [u8], p: Put, octets: &[u8]) -> Put
     ensures { λ r. ⌜ Puts (now (rows .entry)) (now (rows .exit)) (now (out .entry)) (now (out .exit)) p (componentEvent (now (octets .entry)) ∷ []) r ⌝ }
 {
     let n = octets.len();
-    let r = p.rows;
-    let o = p.octets;
-    let row = events::put_row(rows, r, COMPONENT, n as u16);
-    let end = octets::put_octets(out, o, octets, n);
+    let e = phases::bare_event(phases::COMPONENT);
+    let row = events::put_row(rows, p.rows, e, n as u16);
+    let end = octets::put_octets(out, p.octets, octets, n);
     Put {
         rows: row,
         octets: end,
@@ -55,8 +42,7 @@ fn put_bare(rows: &mut [u16], p: Put, e: Event) -> Put
     requires { ⌜ Room (now rows) (p .rows) (laidRow e 0) ⌝ }
     ensures { λ r. ⌜ ((out : List ℕ) → Puts (now (rows .entry)) (now (rows .exit)) out out p (event e [] ∷ []) r) ⌝ }
 {
-    let at = p.rows;
-    let row = events::put_row(rows, at, e, 0);
+    let row = events::put_row(rows, p.rows, e, 0);
     Put {
         rows: row,
         octets: p.octets,
@@ -78,8 +64,7 @@ fn put_tiles(rows: &mut [u16], out: &mut [u8], p: Put, s: &[u8]) -> Put
     let mut found = element_pass::first(s);
     while found.after != 0 {
         let after = found.after;
-        let next = put_component(rows, out, q, &s[place..after]);
-        q = next;
+        q = put_component(rows, out, q, &s[place..after]);
         place = after;
         found = element_pass::onward(s, after);
     }
@@ -129,10 +114,8 @@ fn put_elements(
     let mut at = start;
     while at < end {
         let next = trace_framing::element_end(s, at);
-        let after = put_at(rows, out, q, s, at, next, under);
-        let over = trace_messages::under_after(under, s[at]);
-        q = after;
-        under = over;
+        q = put_at(rows, out, q, s, at, next, under);
+        under = trace_messages::under_after(under, s[at]);
         at = next;
     }
     q
@@ -148,14 +131,7 @@ fn put_when(rows: &mut [u16], p: Put, given: bool, kind: u8) -> Put
     if !given {
         return p;
     }
-    let e = Event {
-        kind,
-        asked: NO_SERVICES,
-        s: 0,
-        d: 0,
-        e: 0,
-    };
-    put_bare(rows, p, e)
+    put_bare(rows, p, phases::bare_event(kind))
 }
 
 // A SETUP's event, where it is given.
@@ -225,9 +201,8 @@ fn put_trace(
     while i < n {
         let end = at + trace_framing::size(pairs[i * 2]);
         let network = pairs[i * 2 + 1] != 0;
-        let next = put_next(rows, out, q, &octets[at..end], network, cleared, call);
+        q = put_next(rows, out, q, &octets[at..end], network, cleared, call);
         let over = trace_messages::cleared_by(&octets[at..end], call, cleared);
-        q = next;
         cleared = over;
         at = end;
         i += 1;

@@ -90,8 +90,7 @@ fn asked_from(s: &[u8], start: usize, case: u8) -> Asked
         if q.mark != 0 {
             return q;
         }
-        let over = trace_messages::under_after(under, s[at]);
-        under = over;
+        under = trace_messages::under_after(under, s[at]);
         at = next;
     }
     Asked { mark: 0, id: 0 }
@@ -109,11 +108,5 @@ pub fn setup_of(s: &[u8], start: usize) -> Event
         d: d0.mark,
         e: e0.mark,
     };
-    Event {
-        kind: phases::SETUP,
-        asked,
-        s: s0.id,
-        d: d0.id,
-        e: e0.id,
-    }
+    phases::event_of(phases::SETUP, asked, s0.id, d0.id, e0.id)
 }

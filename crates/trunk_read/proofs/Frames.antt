@@ -2,8 +2,9 @@
 use Rattle.prelude.proofs.Prelude.{ℕ, _≡_, refl, List, length, getD, replicate}
 use Rattle.coding.{specs.Reader.after, specs.Reader.blamed, specs.Reader.opened, specs.Reader.closed, specs.Reader.constructed, specs.Reader.enteredAny, specs.Reader.Ans.got, specs.Reader.Fault.named}
 use Rattle.coding.{specs.Codec.prim, specs.Codec.cons, specs.Codec.canonical, specs.Codec.over, specs.Codec.leads, specs.Codec.marked, specs.Codec.frames, specs.Leaves.identifier, proofs.Reading.flat}
-use Rattle.types.specs.{Frames.outside, Frames.inArgument, Frames.value, Arguments.noCharge, Stored.storedCharge}
+use Rattle.types.specs.{Frames.outside, Frames.inArgument, Frames.value, Arguments.noCharge, Stored.{stored, storedCharge}}
 use Rattle.read_elements.specs.declared.Empty.{Empty}
+use Rattle.read_figures.proofs.Answers.{arrived}
 use Rattle.trunk_types.specs.{declared.Trunk.Trunk, Bodies.argumentOf, Bodies.resultOf}
 use Rattle.trunk_types.specs.Components.{leadBy, trunkBy, trunkOperations, answerable, carryingBody, trunkInvoke, trunkResult, tags, trunkFrame, trunkComponent}
 use Rattle.trunk_read_bodies.{specs.inner.Bodied.Bare, proofs.Stores.blank-none}
@@ -23,6 +24,11 @@ module _ (s : List ℕ) (at end : ℕ) where
       after (blamed inArgument ((resultOf o) .read s n (x .stop))) (λ b last. closed (trunkBy (leadBy 2 0 i 0 o 0) b) last (x .stop) next))))
   unfolding trunkResult leads cons constructed carryingBody canonical over marked
   answer-read = simp flat
+
+-- what is stored where the last step stored the value v
+pub arrived-as : {A : Type 0} (z w : A) {v : A} {r : Empty} {n : ℕ} {t : ℕ × ℕ × A × ℕ} → r ≡ record { fault = 0; place = 0; next = n } → w ≡ v → (0, 0, v, n) ≡ t
+    → (r .fault, r .place, stored z (r .fault) w, r .next) ≡ t
+arrived-as z w e q h = arrived z w e (rw q h)
 
 pub component-read : (s : List ℕ) →
     trunkComponent .read s 0 (length s) ≡

@@ -39,7 +39,7 @@ fn invoke_at(
     if i.fault != 0 {
         return read_elements::halted(i.fault, i.place);
     }
-    let o = trunk_read_heads::operation_at(s, i.next, end);
+    let o = trunk_read_heads::value_at(s, i.next, end, frame::INVOKE);
     if o.fault != 0 {
         return read_elements::halted(o.fault, o.place);
     }
@@ -133,19 +133,13 @@ fn frame_at(
     ensures { λ r. ⌜ framed r (now (front .exit)) (now (extension .exit)) (storedCharge (now (figure .exit)) (now (numbers .exit)) (now (rows .exit))) ≡ shown noTrunk ((trunkFrame tag) .read (now (s .entry)) at end) ⌝ }
     ensures spare { λ _. ⌜ Spare (now (front .exit)) ⌝ }
 {
-    if tag == 0xa1 {
-        return invoke_at(s, at, end, front, extension, figure, numbers, rows);
+    match tag {
+        0xa1 => invoke_at(s, at, end, front, extension, figure, numbers, rows),
+        0xa2 => answer_at(s, at, end, front, extension, figure, numbers, rows),
+        0xa3 => trunk_read_frames::error_at(s, at, end, front, extension),
+        0xa4 => trunk_read_frames::reject_at(s, at, end, front),
+        _ => trunk_read_frames::facility_at(s, at, end, front, figure),
     }
-    if tag == 0xa2 {
-        return answer_at(s, at, end, front, extension, figure, numbers, rows);
-    }
-    if tag == 0xa3 {
-        return trunk_read_frames::error_at(s, at, end, front, extension);
-    }
-    if tag == 0xa4 {
-        return trunk_read_frames::reject_at(s, at, end, front);
-    }
-    trunk_read_frames::facility_at(s, at, end, front, figure)
 }
 
 // ---- whole
@@ -169,24 +163,10 @@ fn component_at(
         return read_elements::halted(e.fault, e.place);
     }
     let tag = s[0];
-    let f = frame_at(
-        s,
-        e.value.start,
-        e.value.stop,
-        tag,
-        front,
-        extension,
-        figure,
-        numbers,
-        rows,
-    );
-    if f.fault != 0 {
-        return read_elements::halted(f.fault, f.place);
-    }
-    if f.next != e.value.stop {
-        return read_elements::halted(refusal::UNEXPECTED, f.next);
-    }
-    read_elements::reached(e.next)
+    let start = e.value.start;
+    let stop = e.value.stop;
+    let f = frame_at(s, start, stop, tag, front, extension, figure, numbers, rows);
+    read_elements::closed(f, stop, e.next)
 }
 
 // Reads a component of a trunk into its parts, whatever they hold: zeros where it is refused.

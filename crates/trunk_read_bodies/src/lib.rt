@@ -1,7 +1,6 @@
 // Reading what a component of a trunk carries, by its form: what comes before its extension, and the extension.
 //
 // What is read is stored in the caller's parts: a front of 48 octets, an extension of 244, a figure of 48 and a list's two arrays.
-use coding::refusal;
 use trunk_types::form;
 use types::charge_kind;
 use types::operation;
@@ -63,22 +62,14 @@ fn inner_at(
     ensures { λ r. ⌜ inner r (now (front .exit)) (storedCharge (now (figure .exit)) (now (numbers .exit)) (now (rows .exit))) ≡ shown noBody ((innerOf form) .read (now (s .entry)) at end) ⌝ }
     ensures spare { λ _. ⌜ Spare (now (front .exit)) ⌝ }
 {
-    if form == form::CHARGE_RESULT {
-        return trunk_read_fields::detail_at(s, at, end, 6, front);
+    match form {
+        form::CHARGE_RESULT => trunk_read_fields::detail_at(s, at, end, 6, front),
+        form::COMPLETE_RESULT => trunk_read_fields::detail_at(s, at, end, 2, front),
+        operation::CHARGE_REQUEST => trunk_read_fields::modes_at(s, at, end, front),
+        operation::COMPLETE => trunk_read_fields::users_at(s, at, end, front, figure),
+        operation::DIVERSION => trunk_read_fields::diverting_at(s, at, end, front, figure),
+        _ => charge_at(s, at, end, form, figure, numbers, rows),
     }
-    if form == form::COMPLETE_RESULT {
-        return trunk_read_fields::detail_at(s, at, end, 2, front);
-    }
-    if form == operation::CHARGE_REQUEST {
-        return trunk_read_fields::modes_at(s, at, end, front);
-    }
-    if form == operation::COMPLETE {
-        return trunk_read_fields::users_at(s, at, end, front, figure);
-    }
-    if form == operation::DIVERSION {
-        return trunk_read_fields::diverting_at(s, at, end, front, figure);
-    }
-    charge_at(s, at, end, form, figure, numbers, rows)
 }
 
 // ---- arguments and results
@@ -104,27 +95,14 @@ fn extended_at(
     if e.fault != 0 {
         return read_elements::halted(e.fault, e.place);
     }
-    let b = inner_at(
-        s,
-        e.value.start,
-        e.value.stop,
-        form,
-        front,
-        figure,
-        numbers,
-        rows,
-    );
+    let start = e.value.start;
+    let stop = e.value.stop;
+    let b = inner_at(s, start, stop, form, front, figure, numbers, rows);
     if b.fault != 0 {
         return read_elements::halted(b.fault, b.place);
     }
-    let x = trunk_read_extensions::extension_if(s, b.next, e.value.stop, extension);
-    if x.fault != 0 {
-        return read_elements::halted(x.fault, x.place);
-    }
-    if x.next != e.value.stop {
-        return read_elements::halted(refusal::UNEXPECTED, x.next);
-    }
-    read_elements::reached(e.next)
+    let x = trunk_read_extensions::extension_if(s, b.next, stop, extension);
+    read_elements::closed(x, stop, e.next)
 }
 
 // 60: 05 00, or an extension by itself.
@@ -159,17 +137,8 @@ pub fn argument_at(
     if operation == operation::GET_FINAL_CHARGE {
         return dummy_at(s, at, end, extension);
     }
-    extended_at(
-        s,
-        at,
-        end,
-        operation,
-        front,
-        extension,
-        figure,
-        numbers,
-        rows,
-    )
+    let form = operation;
+    extended_at(s, at, end, form, front, extension, figure, numbers, rows)
 }
 
 // The result of 59; else that of 64.
@@ -190,27 +159,9 @@ pub fn result_at(
     ensures spare { λ _. ⌜ Spare (now (front .exit)) ⌝ }
 {
     if operation == operation::CHARGE_REQUEST {
-        return extended_at(
-            s,
-            at,
-            end,
-            form::CHARGE_RESULT,
-            front,
-            extension,
-            figure,
-            numbers,
-            rows,
-        );
+        let form = form::CHARGE_RESULT;
+        return extended_at(s, at, end, form, front, extension, figure, numbers, rows);
     }
-    extended_at(
-        s,
-        at,
-        end,
-        form::COMPLETE_RESULT,
-        front,
-        extension,
-        figure,
-        numbers,
-        rows,
-    )
+    let form = form::COMPLETE_RESULT;
+    extended_at(s, at, end, form, front, extension, figure, numbers, rows)
 }

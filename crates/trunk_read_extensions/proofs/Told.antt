@@ -43,17 +43,6 @@ entry-is s a e =
     ∙ after-same (oneExtension .read s (x .start) (x .stop)) (λ v last r. closed-told v last (x .stop) n)
     ∙ sym (after-assoc (oneExtension .read s (x .start) (x .stop)) _ _))
 
--- an answer that is handed on
-pub handed : (r : Ans (Unit {0})) {k p n : ℕ} → (k, p, tt, n) ≡ shown tt r → (k ≡ 0 → ⊥) → (k, p, tt, 0) ≡ shown tt r
-unfolding shown
-handed (got u m) q k0 = absurd (k0 (ap (λ (t : ℕ × ℕ × Unit {0} × ℕ). t .0) q))
-handed (halt w i) q k0 = ap (λ (t : ℕ × ℕ × Unit {0} × ℕ). (t .0, t .1, tt, 0)) q
-
-pub handed-on : (r : Ans (Unit {0})) {k p n : ℕ} → (k, p, tt, n) ≡ shown tt r → k ≡ 0 → (0, 0, tt, n) ≡ shown tt r
-unfolding shown
-handed-on (got u m) q k0 = ap (λ (t : ℕ × ℕ × Unit {0} × ℕ). (0, 0, tt, t .3)) q
-handed-on (halt w i) q k0 = absurd (some-code w (sym (ap (λ (t : ℕ × ℕ × Unit {0} × ℕ). t .0) q) ∙ k0))
-
 -- ---- any number of entries
 
 entry-told : {A : Type 0} (r : Reader A) (o : Reader (Unit {0})) (tag most : ℕ) (s : List ℕ) (e : ℕ) (x : Ans A)

@@ -1,5 +1,6 @@
 // Extensions of a manufacturer: their contents are checked at every depth, not interpreted, and stored in their shortest form.
 use coding::refusal;
+use read_elements::Empty;
 use trunk_types::extended;
 use trunk_types::in_extension;
 ghost use mathlib.Core.Path.{_≡_};
@@ -19,10 +20,7 @@ ghost use Rattle.trunk_read_extensions.specs.inner.Judges.{oneTold, entr
 fn begins_badly(fresh: bool, x: u8) -> bool
     ensures { λ r. ⌜ r ≡ fresh && eqb x 0x80 ⌝ }
 {
-    if !fresh {
-        return false;
-    }
-    x == 0x80
+    fresh && x == 0x80
 }
 
 // The numbers of an object identifier: each ends with an octet below 80, and none begins with 80. Answers the fault.
@@ -57,7 +55,7 @@ fn identifier_in(s: &[u8], start: usize, stop: usize) -> u8
     arcs_in(s, start, stop)
 }
 
-fn identifier_at(s: &[u8], at: usize, end: usize) -> read_elements::Empty
+fn identifier_at(s: &[u8], at: usize, end: usize) -> Empty
     requires { ⌜ Bounded (now s) end ⌝ }
     ensures { λ r. ⌜ (r .fault, r .place, tt, r .next) ≡ shown tt (primitive 0x06 objectIdentifier (now (s .entry)) at end) ⌝ }
 {
@@ -73,7 +71,7 @@ fn identifier_at(s: &[u8], at: usize, end: usize) -> read_elements::Empty
 }
 
 // 06 identifier, and one element of any tag.
-fn one_at(s: &[u8], at: usize, end: usize) -> read_elements::Empty
+fn one_at(s: &[u8], at: usize, end: usize) -> Empty
     requires { ⌜ Bounded (now s) end ⌝ }
     ensures { λ r. ⌜ (r .fault, r .place, tt, r .next) ≡ shown tt (oneTold (now (s .entry)) at end) ⌝ }
 {
@@ -81,15 +79,11 @@ fn one_at(s: &[u8], at: usize, end: usize) -> read_elements::Empty
     if i.fault != 0 {
         return read_elements::halted(i.fault, i.place);
     }
-    let e = any_elements::any_at(s, i.next, end);
-    if e.fault != 0 {
-        return read_elements::halted(e.fault, e.place);
-    }
-    read_elements::reached(e.next)
+    any_elements::any_at(s, i.next, end)
 }
 
 // An entry of a list: 30 with one.
-fn entry_at(s: &[u8], at: usize, end: usize) -> read_elements::Empty
+fn entry_at(s: &[u8], at: usize, end: usize) -> Empty
     requires { ⌜ Bounded (now s) end ⌝ }
     ensures { λ r. ⌜ (r .fault, r .place, tt, r .next) ≡ shown tt (entryTold (now (s .entry)) at end) ⌝ }
 {
@@ -98,17 +92,11 @@ fn entry_at(s: &[u8], at: usize, end: usize) -> read_elements::Empty
         return read_elements::halted(e.fault, e.place);
     }
     let o = one_at(s, e.value.start, e.value.stop);
-    if o.fault != 0 {
-        return read_elements::halted(o.fault, o.place);
-    }
-    if o.next != e.value.stop {
-        return read_elements::halted(refusal::UNEXPECTED, o.next);
-    }
-    read_elements::reached(e.next)
+    read_elements::closed(o, e.value.stop, e.next)
 }
 
 // Any number of entries, up to the end.
-fn list_at(s: &[u8], at: usize, end: usize) -> read_elements::Empty
+fn list_at(s: &[u8], at: usize, end: usize) -> Empty
     requires { ⌜ Bounded (now s) end ⌝ }
     ensures { λ r. ⌜ (r .fault, r .place, tt, r .next) ≡ shown tt (listTold (now (s .entry)) at end) ⌝ }
 {
@@ -135,7 +123,7 @@ fn list_at(s: &[u8], at: usize, end: usize) -> read_elements::Empty
 }
 
 // One, or a list where the kind is 2.
-fn inside_at(s: &[u8], at: usize, end: usize, kind: u8) -> read_elements::Empty
+fn inside_at(s: &[u8], at: usize, end: usize, kind: u8) -> Empty
     requires { ⌜ Bounded (now s) end ⌝ }
     ensures { λ r. ⌜ (r .fault, r .place, tt, r .next) ≡ shown tt (judgeOf kind (now (s .entry)) at end) ⌝ }
 {
@@ -172,7 +160,7 @@ fn extension_at(
     tag: u8,
     kind: u8,
     extension: &mut [u8; 244],
-) -> read_elements::Empty
+) -> Empty
     requires { ⌜ Bounded (now s) end ⌝ }
     requires { ⌜ now extension ≡ replicate 244 0 ⌝ }
     ensures { λ r. ⌜ (r .fault, r .place, stored noExtension (r .fault) (extensionIn (now (extension .exit))), r .next) ≡ shown noExtension ((extensionAt tag kind (insideOf kind)) .read (now (s .entry)) at end) ⌝ }
@@ -202,12 +190,7 @@ fn extension_at(
 }
 
 // One or a list, or none.
-pub fn extension_if(
-    s: &[u8],
-    at: usize,
-    end: usize,
-    extension: &mut [u8; 244],
-) -> read_elements::Empty
+pub fn extension_if(s: &[u8], at: usize, end: usize, extension: &mut [u8; 244]) -> Empty
     requires { ⌜ Bounded (now s) end ⌝ }
     requires { ⌜ now extension ≡ replicate 244 0 ⌝ }
     ensures { λ r. ⌜ (r .fault, r .place, stored noExtension (r .fault) (extensionIn (now (extension .exit))), r .next) ≡ shown noExtension (anyExtension .read (now (s .entry)) at end) ⌝ }
@@ -222,7 +205,7 @@ pub fn extension_if(
 }
 
 // One or a list.
-pub fn some_at(s: &[u8], at: usize, end: usize, extension: &mut [u8; 244]) -> read_elements::Empty
+pub fn some_at(s: &[u8], at: usize, end: usize, extension: &mut [u8; 244]) -> Empty
     requires { ⌜ Bounded (now s) end ⌝ }
     requires { ⌜ now extension ≡ replicate 244 0 ⌝ }
     ensures { λ r. ⌜ (r .fault, r .place, stored noExtension (r .fault) (extensionIn (now (extension .exit))), r .next) ≡ shown noExtension (someExtension .read (now (s .entry)) at end) ⌝ }
@@ -234,12 +217,7 @@ pub fn some_at(s: &[u8], at: usize, end: usize, extension: &mut [u8; 244]) -> re
 }
 
 // The optional parameter of error 1008.
-pub fn parameter_at(
-    s: &[u8],
-    at: usize,
-    end: usize,
-    extension: &mut [u8; 244],
-) -> read_elements::Empty
+pub fn parameter_at(s: &[u8], at: usize, end: usize, extension: &mut [u8; 244]) -> Empty
     requires { ⌜ Bounded (now s) end ⌝ }
     requires { ⌜ now extension ≡ replicate 244 0 ⌝ }
     ensures { λ r. ⌜ (r .fault, r .place, stored noExtension (r .fault) (extensionIn (now (extension .exit))), r .next) ≡ shown noExtension (parameter .read (now (s .entry)) at end) ⌝ }

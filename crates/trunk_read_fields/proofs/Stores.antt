@@ -108,9 +108,6 @@ network-read s at end = simp flat
 -- ---- where a number, an association and a detail have been stored
 module _ (r : Empty) (b front b′ figure : List ℕ) {n : ℕ} {t : ℕ × ℕ × Body × ℕ} (e : b ≡ replicate 48 0) (k : SameBeside b front) (e′ : b′ ≡ replicate 48 0)
     (k′ : SameBeside b′ figure) (q : r ≡ record { fault = 0; place = 0; next = n }) where
-  pub users-arrived : (0, 0, naming 0 0 (associationIn front) (associationIn figure), n) ≡ t → inner r front (storedCharge figure (replicate 32 0) (replicate 192 0)) ≡ t
-  users-arrived h = arrived _ _ q (rw (user-stored b front e k (storedCharge figure (replicate 32 0) (replicate 192 0)), other-stored b′ figure e′ k′) h)
-
   pub diverting-arrived : (d : ℕ) → (0, 0, naming d 0 (associationIn front) (associationIn figure), n) ≡ t
       → inner r (set front 42 d) (storedCharge figure (replicate 32 0) (replicate 192 0)) ≡ t
   diverting-arrived d h = arrived _ _ q (rw (user-detailed b front e k d (storedCharge figure (replicate 32 0) (replicate 192 0)), other-stored b′ figure e′ k′) h)

@@ -3,6 +3,7 @@
 // What is read is stored in the caller's parts: a front of 48 octets and a figure of 48.
 // In the front the user lies where a figure has its association, so that the reader of a number stores it there.
 use coding::refusal;
+use read_elements::Empty;
 use trunk_types::in_front;
 use types::billing;
 use types::charge_kind;
@@ -42,25 +43,11 @@ fn billing_at(s: &[u8], at: usize, end: usize, most: u32) -> read_elements::Chos
     if b.value.value != REVERSE {
         return b;
     }
-    read_elements::ChosenRead {
-        fault: refusal::BAD_CONTENTS,
-        place: at,
-        value: coding::Chosen {
-            given: false,
-            value: 0,
-        },
-        next: 0,
-    }
+    read_elements::no_chosen(refusal::BAD_CONTENTS, at)
 }
 
 // The 30 that holds A1 and the billing.
-fn priced_at(
-    s: &[u8],
-    at: usize,
-    end: usize,
-    most: u32,
-    figure: &mut [u8; 48],
-) -> read_elements::Empty
+fn priced_at(s: &[u8], at: usize, end: usize, most: u32, figure: &mut [u8; 48]) -> Empty
     requires { ⌜ Bounded (now s) end × (most ≤ 7) ⌝ }
     requires { ⌜ now figure ≡ replicate 48 0 ⌝ }
     ensures { λ r. ⌜ figured r (now (figure .exit)) ≡ shown noCharge ((ending (billings most) (inMoney true)) .read (now (s .entry)) at end) ⌝ }
@@ -93,13 +80,7 @@ fn priced_at(
 }
 
 // 80 00 not available, 81 00 free, or the 30.
-fn figure_at(
-    s: &[u8],
-    at: usize,
-    end: usize,
-    most: u32,
-    figure: &mut [u8; 48],
-) -> read_elements::Empty
+fn figure_at(s: &[u8], at: usize, end: usize, most: u32, figure: &mut [u8; 48]) -> Empty
     requires { ⌜ Bounded (now s) end × (most ≤ 7) ⌝ }
     requires { ⌜ now figure ≡ replicate 48 0 ⌝ }
     ensures { λ r. ⌜ figured r (now (figure .exit)) ≡ shown noCharge ((figures most) .read (now (s .entry)) at end) ⌝ }
@@ -115,7 +96,7 @@ fn figure_at(
 }
 
 // The charge of 62.
-pub fn interim_at(s: &[u8], at: usize, end: usize, figure: &mut [u8; 48]) -> read_elements::Empty
+pub fn interim_at(s: &[u8], at: usize, end: usize, figure: &mut [u8; 48]) -> Empty
     requires { ⌜ Bounded (now s) end ⌝ }
     requires { ⌜ now figure ≡ replicate 48 0 ⌝ }
     ensures { λ r. ⌜ figured r (now (figure .exit)) ≡ shown noCharge ((figures 2) .read (now (s .entry)) at end) ⌝ }
@@ -124,7 +105,7 @@ pub fn interim_at(s: &[u8], at: usize, end: usize, figure: &mut [u8; 48]) -> rea
 }
 
 // The charge of 61 and its association, which may be a private number.
-pub fn final_at(s: &[u8], at: usize, end: usize, figure: &mut [u8; 48]) -> read_elements::Empty
+pub fn final_at(s: &[u8], at: usize, end: usize, figure: &mut [u8; 48]) -> Empty
     requires { ⌜ Bounded (now s) end ⌝ }
     requires { ⌜ now figure ≡ replicate 48 0 ⌝ }
     ensures { λ r. ⌜ figured r (now (figure .exit)) ≡ shown noCharge ((withAssociation true (figures 7)) .read (now (s .entry)) at end) ⌝ }
@@ -139,13 +120,7 @@ pub fn final_at(s: &[u8], at: usize, end: usize, figure: &mut [u8; 48]) -> read_
 // ---- what comes before the extension. After each of these the last four octets of the front are zero still.
 
 // The result of 59 or 64.
-pub fn detail_at(
-    s: &[u8],
-    at: usize,
-    end: usize,
-    most: u32,
-    front: &mut [u8; 48],
-) -> read_elements::Empty
+pub fn detail_at(s: &[u8], at: usize, end: usize, most: u32, front: &mut [u8; 48]) -> Empty
     requires { ⌜ Bounded (now s) end × (most < 7) ⌝ }
     requires { ⌜ now front ≡ replicate 48 0 ⌝ }
     ensures { λ r. ⌜ inner r (now (front .exit)) noCharge ≡ shown noBody ((detail most) .read (now (s .entry)) at end) ⌝ }
@@ -166,7 +141,7 @@ pub fn users_at(
     end: usize,
     front: &mut [u8; 48],
     figure: &mut [u8; 48],
-) -> read_elements::Empty
+) -> Empty
     requires { ⌜ Bounded (now s) end ⌝ }
     requires { ⌜ (now front ≡ replicate 48 0) × (now figure ≡ replicate 48 0) ⌝ }
     ensures { λ r. ⌜ inner r (now (front .exit)) (storedCharge (now (figure .exit)) (replicate 32 0) (replicate 192 0)) ≡ shown noBody (users .read (now (s .entry)) at end) ⌝ }
@@ -176,11 +151,7 @@ pub fn users_at(
     if u.fault != 0 {
         return read_elements::halted(u.fault, u.place);
     }
-    let a = read_figures::association_at(s, u.next, end, true, figure);
-    if a.fault != 0 {
-        return read_elements::halted(a.fault, a.place);
-    }
-    read_elements::reached(a.next)
+    read_figures::association_at(s, u.next, end, true, figure)
 }
 
 // 65: the same, and the diversion.
@@ -190,7 +161,7 @@ pub fn diverting_at(
     end: usize,
     front: &mut [u8; 48],
     figure: &mut [u8; 48],
-) -> read_elements::Empty
+) -> Empty
     requires { ⌜ Bounded (now s) end ⌝ }
     requires { ⌜ (now front ≡ replicate 48 0) × (now figure ≡ replicate 48 0) ⌝ }
     ensures { λ r. ⌜ inner r (now (front .exit)) (storedCharge (now (figure .exit)) (replicate 32 0) (replicate 192 0)) ≡ shown noBody (diverting .read (now (s .entry)) at end) ⌝ }
@@ -213,7 +184,7 @@ pub fn diverting_at(
 }
 
 // 0 to 7 modes, up to the end of the enclosing element.
-fn modes_in(s: &[u8], at: usize, end: usize, front: &mut [u8; 48]) -> read_elements::Empty
+fn modes_in(s: &[u8], at: usize, end: usize, front: &mut [u8; 48]) -> Empty
     requires { ⌜ Bounded (now s) end ⌝ }
     requires { ⌜ now front ≡ replicate 48 0 ⌝ }
     ensures { λ r. ⌜ inner r (now (front .exit)) noCharge ≡ shown noBody (inModes (now (s .entry)) at end) ⌝ }
@@ -244,7 +215,7 @@ fn modes_in(s: &[u8], at: usize, end: usize, front: &mut [u8; 48]) -> read_eleme
 }
 
 // 59: those in a 30.
-pub fn modes_at(s: &[u8], at: usize, end: usize, front: &mut [u8; 48]) -> read_elements::Empty
+pub fn modes_at(s: &[u8], at: usize, end: usize, front: &mut [u8; 48]) -> Empty
     requires { ⌜ Bounded (now s) end ⌝ }
     requires { ⌜ now front ≡ replicate 48 0 ⌝ }
     ensures { λ r. ⌜ inner r (now (front .exit)) noCharge ≡ shown noBody (modes .read (now (s .entry)) at end) ⌝ }
@@ -261,13 +232,7 @@ pub fn modes_at(s: &[u8], at: usize, end: usize, front: &mut [u8; 48]) -> read_e
 // ---- the network facility extension
 
 // A number in an element with this tag, or none.
-fn address_at(
-    s: &[u8],
-    at: usize,
-    end: usize,
-    tag: u8,
-    figure: &mut [u8; 48],
-) -> read_elements::Empty
+fn address_at(s: &[u8], at: usize, end: usize, tag: u8, figure: &mut [u8; 48]) -> Empty
     requires { ⌜ Bounded (now s) end ⌝ }
     requires { ⌜ Unassociated (now figure) ⌝ }
     ensures { λ r. ⌜ (r .fault, r .place, stored noAssociation (r .fault) (associationIn (now (figure .exit))), r .next) ≡ shown noAssociation ((address tag) .read (now (s .entry)) at end) ⌝ }
@@ -286,7 +251,7 @@ pub fn network_at(
     end: usize,
     front: &mut [u8; 48],
     figure: &mut [u8; 48],
-) -> read_elements::Empty
+) -> Empty
     requires { ⌜ Bounded (now s) end ⌝ }
     requires { ⌜ (now front ≡ replicate 48 0) × (now figure ≡ replicate 48 0) ⌝ }
     ensures { λ r. ⌜ inner r (now (front .exit)) (storedCharge (now (figure .exit)) (replicate 32 0) (replicate 192 0)) ≡ shown noBody (network .read (now (s .entry)) at end) ⌝ }

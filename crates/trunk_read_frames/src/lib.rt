@@ -2,6 +2,7 @@
 //
 // What is read is stored in the caller's parts. A body is stored first, and the lead last: it is all in the first eight octets of the front, which no body uses.
 use coding::named;
+use read_elements::Empty;
 use trunk_types::in_front;
 use types::error;
 use types::frame;
@@ -48,13 +49,7 @@ pub fn keep_lead(
 }
 
 // The parameter of error 1008; others have none.
-fn failing_at(
-    s: &[u8],
-    at: usize,
-    end: usize,
-    error: u16,
-    extension: &mut [u8; 244],
-) -> read_elements::Empty
+fn failing_at(s: &[u8], at: usize, end: usize, error: u16, extension: &mut [u8; 244]) -> Empty
     requires { ⌜ Bounded (now s) end ⌝ }
     requires { ⌜ now extension ≡ replicate 244 0 ⌝ }
     ensures { λ r. ⌜ (r .fault, r .place, stored noExtension (r .fault) (extensionIn (now (extension .exit))), r .next) ≡ shown noExtension ((failure error) .read (now (s .entry)) at end) ⌝ }
@@ -72,7 +67,7 @@ pub fn error_at(
     end: usize,
     front: &mut [u8; 48],
     extension: &mut [u8; 244],
-) -> read_elements::Empty
+) -> Empty
     requires { ⌜ Bounded (now s) end ⌝ }
     requires { ⌜ (now front ≡ replicate 48 0) × (now extension ≡ replicate 244 0) ⌝ }
     ensures { λ r. ⌜ framed r (now (front .exit)) (now (extension .exit)) noCharge ≡ shown noTrunk (trunkError .read (now (s .entry)) at end) ⌝ }
@@ -97,7 +92,7 @@ pub fn error_at(
 }
 
 // A4: as document 01 has it.
-pub fn reject_at(s: &[u8], at: usize, end: usize, front: &mut [u8; 48]) -> read_elements::Empty
+pub fn reject_at(s: &[u8], at: usize, end: usize, front: &mut [u8; 48]) -> Empty
     requires { ⌜ Bounded (now s) end ⌝ }
     requires { ⌜ now front ≡ replicate 48 0 ⌝ }
     ensures { λ r. ⌜ framed r (now (front .exit)) (replicate 244 0) noCharge ≡ shown noTrunk (rejected .read (now (s .entry)) at end) ⌝ }
@@ -112,15 +107,8 @@ pub fn reject_at(s: &[u8], at: usize, end: usize, front: &mut [u8; 48]) -> read_
         return read_elements::halted(p.fault, p.place);
     }
     front[in_front::DETAIL] = p.value.detail;
-    keep_lead(
-        front,
-        frame::REJECT,
-        i.value.unnamed,
-        i.value.id,
-        0,
-        0,
-        p.value.tag,
-    );
+    let id = i.value.id;
+    keep_lead(front, frame::REJECT, i.value.unnamed, id, 0, 0, p.value.tag);
     read_elements::reached(p.next)
 }
 
@@ -131,7 +119,7 @@ pub fn facility_at(
     end: usize,
     front: &mut [u8; 48],
     figure: &mut [u8; 48],
-) -> read_elements::Empty
+) -> Empty
     requires { ⌜ Bounded (now s) end ⌝ }
     requires { ⌜ (now front ≡ replicate 48 0) × (now figure ≡ replicate 48 0) ⌝ }
     ensures { λ r. ⌜ framed r (now (front .exit)) (replicate 244 0) (storedCharge (now (figure .exit)) (replicate 32 0) (replicate 192 0)) ≡ shown noTrunk (facility .read (now (s .entry)) at end) ⌝ }

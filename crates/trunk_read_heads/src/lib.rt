@@ -68,7 +68,7 @@ fn is_known(frame: u8, n: u32) -> bool
     }
 }
 
-pub fn value_at(s: &[u8], at: usize, end: usize, frame: u8) -> read_elements::NumberRead
+fn value_long(s: &[u8], at: usize, end: usize, frame: u8) -> read_elements::NumberRead
     requires { ⌜ Bounded (now s) end ⌝ }
     ensures { λ r. ⌜ (r .fault, r .place, r .value, r .next) ≡ shown 0 ((value (unknownIn frame) (knownIn frame)) .read (now (s .entry)) at end) ⌝ }
     ensures bounded { λ r. ⌜ r .value < 1017 ⌝ }
@@ -76,32 +76,28 @@ pub fn value_at(s: &[u8], at: usize, end: usize, frame: u8) -> read_elements::Nu
 {
     let n = values::number_at(s, at, end);
     if n.fault != 0 {
-        return values::no_value(n.fault, n.place);
+        return read_elements::no_number(n.fault, n.place);
     }
     if is_known(frame, n.value) {
         return n;
     }
-    values::no_value(values::unknown(frame), at)
+    read_elements::no_number(values::unknown(frame), at)
 }
 
-// The operation that is invoked, a known one of one octet at once. With one caller it becomes part of it.
-pub fn operation_at(s: &[u8], at: usize, end: usize) -> read_elements::NumberRead
+// The same, where the value is a known one of one octet at once.
+pub fn value_at(s: &[u8], at: usize, end: usize, frame: u8) -> read_elements::NumberRead
     requires { ⌜ Bounded (now s) end ⌝ }
-    ensures { λ r. ⌜ (r .fault, r .place, r .value, r .next) ≡ shown 0 ((value 7 trunkOperations) .read (now (s .entry)) at end) ⌝ }
-    ensures known { λ r. ⌜ (r .fault ≡ 0 → oneOf trunkOperations (r .value) ≡ true) ⌝ }
+    ensures { λ r. ⌜ (r .fault, r .place, r .value, r .next) ≡ shown 0 ((value (unknownIn frame) (knownIn frame)) .read (now (s .entry)) at end) ⌝ }
+    ensures bounded { λ r. ⌜ r .value < 1017 ⌝ }
+    ensures known { λ r. ⌜ (r .fault ≡ 0 → oneOf (knownIn frame) (r .value) ≡ true) ⌝ }
 {
     let x = read_elements::tiny(s, at, end, 0x02) as u32;
     if x < 128 {
-        if known_operation(x) {
-            return read_elements::NumberRead {
-                fault: 0,
-                place: 0,
-                value: x,
-                next: at + 3,
-            };
+        if is_known(frame, x) {
+            return read_elements::number(x, at + 3);
         }
     }
-    value_at(&s[0..], at, end, frame::INVOKE)
+    value_long(&s[0..], at, end, frame)
 }
 
 // ---- the component's own element
@@ -126,24 +122,18 @@ pub fn enter(s: &[u8]) -> read_lengths::Opened
 {
     let n = s.len();
     if n == 0 {
-        return read_heads::shut_out(named::CUT, n);
+        return read_lengths::halted(named::CUT, n);
     }
     let tag = s[0];
     if !is_frame(tag) {
-        return read_heads::shut_out(named::UNKNOWN_COMPONENT, 0);
+        return read_lengths::halted(named::UNKNOWN_COMPONENT, 0);
     }
     let e = read_lengths::open_at(s, 0, n, tag);
     if e.fault != 0 {
-        return read_heads::shut_out(read_heads::outer(e.fault), e.place);
+        return read_lengths::halted(read_heads::outer(e.fault), e.place);
     }
     if e.next != n {
-        return read_heads::shut_out(named::TRAILING, e.next);
+        return read_lengths::halted(named::TRAILING, e.next);
     }
-    let value = e.value;
-    read_lengths::Opened {
-        fault: 0,
-        place: 0,
-        value,
-        next: e.next,
-    }
+    read_lengths::found(e.value.start, e.value.stop, e.next)
 }

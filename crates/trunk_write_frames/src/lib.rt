@@ -154,14 +154,15 @@ fn put_inner(
 {
     let all: &[u8] = front;
     let octets: &[u8] = rows;
+    let detail = front[in_front::DETAIL];
     match form {
-        form::CHARGE_RESULT => write_elements::put_small(buf, at, 0x0a, front[in_front::DETAIL]),
-        form::COMPLETE_RESULT => write_elements::put_small(buf, at, 0x0a, front[in_front::DETAIL]),
+        form::CHARGE_RESULT => write_elements::put_small(buf, at, 0x0a, detail),
+        form::COMPLETE_RESULT => write_elements::put_small(buf, at, 0x0a, detail),
         operation::CHARGE_REQUEST => put_modes(buf, at, front),
         operation::COMPLETE => put_users(buf, at, front, figure),
         operation::DIVERSION => {
             let p = put_users(buf, at, front, figure);
-            write_elements::put_small(buf, p, 0x0a, front[in_front::DETAIL])
+            write_elements::put_small(buf, p, 0x0a, detail)
         }
         _ => {
             let f = types_parts::figure_of(figure);
@@ -279,16 +280,10 @@ fn invoke_size(
     ensures { λ r. ⌜ r ≡ length (trunkInvoke .write (whole (lent front extension figure numbers rows))) ⌝ }
     ensures few { λ r. ⌜ r ≤ 900 ⌝ }
 {
+    let operation = front[in_front::OPERATION];
     5
         + write_elements::id_width(types_parts::id_of(front))
-        + body_size(
-            front[in_front::OPERATION],
-            front,
-            extension,
-            figure,
-            numbers,
-            rows,
-        )
+        + body_size(operation, front, extension, figure, numbers, rows)
 }
 
 fn put_invoke(
@@ -303,18 +298,10 @@ fn put_invoke(
     requires { ⌜ Fits trunkInvoke (whole (held front extension figure numbers rows)) 251 (now buf) at ⌝ }
     ensures { λ r. ⌜ Wrote (now (buf .entry)) (now (buf .exit)) at (trunkInvoke .write (whole (lent front extension figure numbers rows))) r ⌝ }
 {
+    let operation = front[in_front::OPERATION];
     let p = write_elements::put_id(buf, at, 0x02, types_parts::id_of(front));
-    let q = write_elements::put_small(buf, p, 0x02, front[in_front::OPERATION]);
-    put_body(
-        buf,
-        q,
-        front[in_front::OPERATION],
-        front,
-        extension,
-        figure,
-        numbers,
-        rows,
-    )
+    let q = write_elements::put_small(buf, p, 0x02, operation);
+    put_body(buf, q, operation, front, extension, figure, numbers, rows)
 }
 
 // A result's form: that of 59, else that of 64.
@@ -338,14 +325,8 @@ fn result_size(
     ensures { λ r. ⌜ r ≡ length (trunkResult .write (whole (lent front extension figure numbers rows))) ⌝ }
     ensures few { λ r. ⌜ r ≤ 900 ⌝ }
 {
-    let n = body_size(
-        result_form(front[in_front::OPERATION]),
-        front,
-        extension,
-        figure,
-        numbers,
-        rows,
-    );
+    let form = result_form(front[in_front::OPERATION]);
+    let n = body_size(form, front, extension, figure, numbers, rows);
     2 + write_elements::id_width(types_parts::id_of(front)) + write_figures::sized(3 + n)
 }
 
@@ -361,11 +342,12 @@ fn put_result(
     requires { ⌜ Fits trunkResult (whole (held front extension figure numbers rows)) 251 (now buf) at ⌝ }
     ensures { λ r. ⌜ Wrote (now (buf .entry)) (now (buf .exit)) at (trunkResult .write (whole (lent front extension figure numbers rows))) r ⌝ }
 {
-    let form = result_form(front[in_front::OPERATION]);
+    let operation = front[in_front::OPERATION];
+    let form = result_form(operation);
     let n = body_size(form, front, extension, figure, numbers, rows);
     let p = write_elements::put_id(buf, at, 0x02, types_parts::id_of(front));
     let q = write_elements::put_lead(buf, p, 0x30, 3 + n);
-    let t = write_elements::put_small(buf, q, 0x02, front[in_front::OPERATION]);
+    let t = write_elements::put_small(buf, q, 0x02, operation);
     put_body(buf, t, form, front, extension, figure, numbers, rows)
 }
 

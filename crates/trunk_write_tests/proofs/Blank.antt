@@ -15,9 +15,9 @@ blank {s = s} e t h = sym (list-iff (replicate (length s) 0) s .0 (sym t ∙ h))
 -- ---- the extension
 
 pub not-extended : {z : Bool} (k : ℕ) (s : List ℕ) → length s ≡ 244 → z ≡ sameList eqb (replicate (length s) 0) s → z ≡ true
-    → true ≡ extensionFine k (extensionIn s)
+    → z ≡ extensionFine k (extensionIn s)
 unfolding extensionFine anyExtension sort unextended canonical over nothing
-not-extended k s l t h = let b : s ≡ replicate 244 0 = blank l t h in rw (b, leb·zero)
+not-extended k s l t h = let b : s ≡ replicate 244 0 = blank l t h in rw (h, b, leb·zero)
 
 -- ---- the modes and the user
 

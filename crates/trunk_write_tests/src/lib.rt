@@ -46,13 +46,7 @@ fn lead_fine(l: Lead) -> bool
     ensures { λ r. ⌜ r ≡ leadFine l ⌝ }
 {
     if l.frame == frame::REJECT {
-        if l.error != 0 {
-            return false;
-        }
-        if l.operation != 0 {
-            return false;
-        }
-        return write_heads::is_called(l.unnamed, l.id);
+        return l.error == 0 && (l.operation == 0 && write_heads::is_called(l.unnamed, l.id));
     }
     // No other frame has a problem, or may be unnamed.
     if l.unnamed != 0 {
@@ -62,10 +56,7 @@ fn lead_fine(l: Lead) -> bool
         return false;
     }
     if l.frame == frame::ERROR {
-        if l.operation != 0 {
-            return false;
-        }
-        return trunk_read_heads::known_error(l.error as u32);
+        return l.operation == 0 && trunk_read_heads::known_error(l.error as u32);
     }
     if l.error != 0 {
         return false;
@@ -77,13 +68,7 @@ fn lead_fine(l: Lead) -> bool
         return trunk_read_heads::is_answerable(l.operation as u32);
     }
     // A network facility extension has no identifier and no operation.
-    if l.id != 0 {
-        return false;
-    }
-    if l.operation != 0 {
-        return false;
-    }
-    l.frame == frame::EXTENSION
+    l.id == 0 && (l.operation == 0 && l.frame == frame::EXTENSION)
 }
 
 // The form by which a body is tested.
@@ -140,18 +125,11 @@ fn modes_fine(front: &[u8; 48], form: u8) -> bool
     let all: &[u8] = front;
     let n = all[in_front::ASKED] as usize;
     if form != operation::CHARGE_REQUEST {
-        if n != 0 {
-            return false;
-        }
-        return octets::below(all, in_front::MODES, in_front::USER, 1);
+        return n == 0 && octets::below(all, in_front::MODES, in_front::USER, 1);
     }
-    if 7 < n {
-        return false;
-    }
-    if !octets::below(all, in_front::MODES + n, in_front::USER, 1) {
-        return false;
-    }
-    octets::below(all, in_front::MODES, in_front::MODES + n, 7)
+    n <= 7
+        && (octets::below(all, in_front::MODES + n, in_front::USER, 1)
+            && octets::below(all, in_front::MODES, in_front::MODES + n, 7))
 }
 
 // ---- numbers and associations, with their digits in an array beside them
@@ -170,10 +148,7 @@ fn number_if(a: Association, digits: &[u8; 20]) -> bool
 fn names(form: u8) -> bool
     ensures { λ r. ⌜ r ≡ names form ⌝ }
 {
-    if form == operation::COMPLETE {
-        return true;
-    }
-    form == operation::DIVERSION
+    form == operation::COMPLETE || form == operation::DIVERSION
 }
 
 fn user_fine(a: Association, digits: &[u8; 20], form: u8) -> bool
@@ -193,10 +168,7 @@ fn user_fine(a: Association, digits: &[u8; 20], form: u8) -> bool
 fn associates(form: u8) -> bool
     ensures { λ r. ⌜ r ≡ eqb form 61 || names form ⌝ }
 {
-    if form == operation::FINAL {
-        return true;
-    }
-    names(form)
+    form == operation::FINAL || names(form)
 }
 
 // As `write_tests::association_fine`, which stays with one caller and is compiled into it.
@@ -251,19 +223,13 @@ fn other_fine(figure: &[u8; 48], associated: bool, form: u8) -> bool
 fn kind_fine(form: u8, kind: u8) -> bool
     ensures { λ r. ⌜ r ≡ kindFine form kind ⌝ }
 {
-    if kind == charge_kind::NONE {
-        return true;
+    match kind {
+        charge_kind::NONE => true,
+        charge_kind::FREE => form == operation::FINAL || form == operation::INTERIM,
+        charge_kind::MONEY => form == operation::FINAL || form == operation::INTERIM,
+        charge_kind::RATES => form == operation::RATE,
+        _ => false,
     }
-    if kind <= charge_kind::MONEY {
-        if form == operation::FINAL {
-            return true;
-        }
-        return form == operation::INTERIM;
-    }
-    if kind != charge_kind::RATES {
-        return false;
-    }
-    form == operation::RATE
 }
 
 // A billing identification that money may have.
@@ -331,10 +297,7 @@ fn list_fine(figure: &[u8; 48], numbers: &[u32; 32], rows: &[u8; 192]) -> bool
     if figure[in_figure::KIND] == charge_kind::RATES {
         return write_rates::rates_fine(numbers, rows, count, true);
     }
-    if count != 0 {
-        return false;
-    }
-    write_tests::no_entries(numbers, rows)
+    count == 0 && write_tests::no_entries(numbers, rows)
 }
 
 fn charge_fine(figure: &[u8; 48], numbers: &[u32; 32], rows: &[u8; 192], form: u8) -> bool
@@ -345,13 +308,8 @@ fn charge_fine(figure: &[u8; 48], numbers: &[u32; 32], rows: &[u8; 192], form: u
     let places: &[u32] = numbers;
     let octets: &[u8] = rows;
     let associated = is_associated(figure);
-    if !other_fine(figure, associated, form) {
-        return false;
-    }
-    if !fields_fine(figure, associated, form) {
-        return false;
-    }
-    list_fine(figure, numbers, rows)
+    other_fine(figure, associated, form)
+        && (fields_fine(figure, associated, form) && list_fine(figure, numbers, rows))
 }
 
 // ---- the extension
@@ -402,10 +360,7 @@ fn extension_fine(extension: &[u8; 244], form: u8) -> bool
     ensures { λ r. ⌜ r ≡ extensionFine form (extensionIn (now (extension .entry))) ⌝ }
 {
     let all: &[u8] = extension;
-    if octets::zeros(all) {
-        return true;
-    }
-    extended_fine(extension, form)
+    octets::zeros(all) || extended_fine(extension, form)
 }
 
 // ---- the whole
@@ -444,15 +399,8 @@ pub fn trunk_fine(
     ensures { λ r. ⌜ r ≡ trunkComponent .valid (trunkIn (now (front .entry)) (now (extension .entry)) (storedCharge (now (figure .entry)) (now (numbers .entry)) (now (rows .entry)))) ⌝ }
 {
     let l = lead_of(front);
-    if !lead_fine(l) {
-        return false;
-    }
     let form = form_of(l);
-    if !front_fine(front, form, l.problem) {
-        return false;
-    }
-    if !charge_fine(figure, numbers, rows, form) {
-        return false;
-    }
-    extension_fine(extension, form)
+    lead_fine(l)
+        && (front_fine(front, form, l.problem)
+            && (charge_fine(figure, numbers, rows, form) && extension_fine(extension, form)))
 }

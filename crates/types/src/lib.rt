@@ -354,14 +354,7 @@ pub const NO_MONEY: Money = Money {
 
 pub const NO_CHARGE: Charge = Charge {
     figure: Figure {
-        money: Money {
-            currency: Currency {
-                count: 0,
-                octets: [0; 10],
-            },
-            multiplier: 0,
-            number: 0,
-        },
+        money: NO_MONEY,
         association: Association {
             id: 0,
             count: 0,
@@ -388,11 +381,5 @@ pub const NO_CHARGE: Charge = Charge {
 pub fn is_digit(x: u8) -> bool
     ensures { λ r. ⌜ r ≡ isDigit x ⌝ }
 {
-    if x == 0x20 {
-        return true;
-    }
-    if x < 0x30 {
-        return false;
-    }
-    x <= 0x39
+    x == 0x20 || (0x30 <= x && x <= 0x39)
 }

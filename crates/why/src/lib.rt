@@ -45,10 +45,7 @@ fn passed_over(o: Outcome, octets: &[u8]) -> bool
     if o.number == outcomes::IGNORED {
         return is_figure(octets);
     }
-    if o.number == outcomes::OUT_OF_PHASE {
-        return is_figure(octets);
-    }
-    false
+    o.number == outcomes::OUT_OF_PHASE && is_figure(octets)
 }
 
 // ---- one event
@@ -56,13 +53,10 @@ fn passed_over(o: Outcome, octets: &[u8]) -> bool
 fn turn(t: State, e: Event, octets: &[u8], n: u64) -> State
     ensures { λ r. ⌜ r ≡ turnOf t e (now (octets .entry)) n ⌝ }
 {
-    let before = t.account;
-    let w = step::step_whole(before, e, octets);
-    let outcome = w.outcome;
+    let w = step::step_whole(t.account, e, octets);
     let account = w.account;
-    let s = t.seen;
-    let figure = passed_over(outcome, octets);
-    let seen = why_rules::seen_next(s, outcome, figure, n);
+    let figure = passed_over(w.outcome, octets);
+    let seen = why_rules::seen_next(t.seen, w.outcome, figure, n);
     State { account, seen }
 }
 
@@ -89,12 +83,10 @@ fn explained(rows: &[u16], octets: &[u8]) -> Reason
         let end = at + events::count_at(rows, i);
         let e = events::row_at(rows, i);
         i += 1;
-        let next = turn(state, e, &octets[at..end], i as u64);
-        state = next;
+        state = turn(state, e, &octets[at..end], i as u64);
         at = end;
     }
-    let last = state.seen;
-    why_rules::concluded(state.account.status.phase, last)
+    why_rules::concluded(state.account.status.phase, state.seen)
 }
 
 // One reason, from an event list in slices.

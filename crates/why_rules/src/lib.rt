@@ -1,5 +1,6 @@
 // Says why a call has no price, by value: what is remembered of the events so far, and the reason that follows from it.
 use coding::refusal;
+use outcomes::is_its;
 use phases::Outcome;
 use requests::service;
 ghost use mathlib.Core.Path.{_≡_};
@@ -45,8 +46,7 @@ pub struct Seen {
 fn told_absent(o: Outcome) -> bool
     ensures { λ r. ⌜ r ≡ toldAbsent o ⌝ }
 {
-    outcomes::is_its(o, service::D, outcomes::NOT_AVAILABLE)
-        || outcomes::is_its(o, service::E, outcomes::NOT_AVAILABLE)
+    is_its(o, service::D, outcomes::NOT_AVAILABLE) || is_its(o, service::E, outcomes::NOT_AVAILABLE)
 }
 
 fn is_unread(o: Outcome) -> bool
@@ -59,31 +59,16 @@ fn is_unread(o: Outcome) -> bool
 // ---- one event
 
 // Event n has an outcome; figure: whether it is a figure that was passed over.
-pub fn seen_next(s: Seen, o: Outcome, figure: bool, n: u64) -> Seen
+pub fn seen_next(mut s: Seen, o: Outcome, figure: bool, n: u64) -> Seen
     ensures { λ r. ⌜ r ≡ seenNext s o figure n ⌝ }
 {
-    let efinal = events::or_else(
-        s.efinal,
-        outcomes::is_its(o, service::E, outcomes::FINAL),
-        n,
-    );
-    let dfinal = events::or_else(
-        s.dfinal,
-        outcomes::is_its(o, service::D, outcomes::FINAL),
-        n,
-    );
-    let passed = events::or_else(s.figure, figure, n);
-    let absent = events::or_else(s.absent, told_absent(o), n);
-    let running = events::or_else(s.running, o.number == outcomes::NEW_RUNNING, n);
-    let refused = events::or_else(s.refused, is_unread(o), n);
-    Seen {
-        efinal,
-        dfinal,
-        figure: passed,
-        absent,
-        running,
-        refused,
-    }
+    s.efinal = events::or_else(s.efinal, is_its(o, service::E, outcomes::FINAL), n);
+    s.dfinal = events::or_else(s.dfinal, is_its(o, service::D, outcomes::FINAL), n);
+    s.figure = events::or_else(s.figure, figure, n);
+    s.absent = events::or_else(s.absent, told_absent(o), n);
+    s.running = events::or_else(s.running, o.number == outcomes::NEW_RUNNING, n);
+    s.refused = events::or_else(s.refused, is_unread(o), n);
+    s
 }
 
 // ---- the reason

@@ -1,4 +1,3 @@
-pub mod Laid
 pub mod Valid
 pub mod Octets
 pub mod Outcomes

@@ -38,10 +38,7 @@ fn refuse(number: u32) -> Written
 fn may_hold(f: types::Front, kind: u8) -> bool
     ensures { λ r. ⌜ r ≡ charged f || eqb kind 0 ⌝ }
 {
-    if write_heads::is_charged(f) {
-        return true;
-    }
-    kind == charge_kind::NONE
+    write_heads::is_charged(f) || kind == charge_kind::NONE
 }
 
 // The operation by which a charge is tested: its own, or, where none follows, one to which no charge at all is fine.
@@ -162,70 +159,6 @@ pub fn write_from(
     put_record(f, g, figure, numbers, rows, buf)
 }
 
-// The 48 octets that a figure lies in.
-fn octets_of(f: Figure) -> [u8; 48]
-    ensures { λ r. ⌜ figureIn r ≡ f ⌝ }
-{
-    let m = f.money;
-    let c = m.currency;
-    let a = f.association;
-    let o = c.octets;
-    let d = a.digits;
-    let n = m.number;
-    let i = a.id;
-    let k = a.count;
-    [
-        c.count,
-        o[0],
-        o[1],
-        o[2],
-        o[3],
-        o[4],
-        o[5],
-        o[6],
-        o[7],
-        o[8],
-        o[9],
-        m.multiplier,
-        (n % 256) as u8,
-        (n / 256 % 256) as u8,
-        (n / 65536 % 256) as u8,
-        (n / 16777216) as u8,
-        (i % 256) as u8,
-        (i / 256) as u8,
-        (k % 256) as u8,
-        (k / 256) as u8,
-        a.kind,
-        a.plan,
-        d[0],
-        d[1],
-        d[2],
-        d[3],
-        d[4],
-        d[5],
-        d[6],
-        d[7],
-        d[8],
-        d[9],
-        d[10],
-        d[11],
-        d[12],
-        d[13],
-        d[14],
-        d[15],
-        d[16],
-        d[17],
-        d[18],
-        d[19],
-        f.kind,
-        f.total,
-        f.billed,
-        f.billing,
-        f.arrangement,
-        f.count,
-    ]
-}
-
 // Writes a record into the caller's buffer.
 pub fn write(r: types::Record, buf: &mut [u8]) -> Written
     ensures { λ w. ⌜ w ≡ writeOf r (length (now (buf .entry))) ⌝ }
@@ -234,7 +167,7 @@ pub fn write(r: types::Record, buf: &mut [u8]) -> Written
     let f = r.front;
     let g = r.charge.figure;
     let entries = r.charge.entries;
-    let figure = octets_of(g);
+    let figure = types_parts::octets_of(g);
     let numbers = entries.numbers;
     let rows = entries.octets;
     write_from(f, &figure, &numbers, &rows, buf)

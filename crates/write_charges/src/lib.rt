@@ -38,10 +38,7 @@ fn unit_fine(u: Units) -> bool
     if u.known == 1 {
         return u.number <= types::MOST;
     }
-    if u.known != 0 {
-        return false;
-    }
-    u.number == 0
+    u.known == 0 && u.number == 0
 }
 
 fn number_size(u: Units) -> usize
@@ -127,16 +124,9 @@ fn units_fine(numbers: &[u32; 32], rows: &[u8; 192], count: u8) -> bool
     ensures { λ r. ⌜ r ≡ unitsFine (laid (now (numbers .entry)) (now (rows .entry))) count ⌝ }
 {
     let n = count as usize;
-    if n == 0 {
-        return false;
-    }
-    if 32 < n {
-        return false;
-    }
-    if !write_tests::unused_zero(numbers, rows, n, 2 * n) {
-        return false;
-    }
-    units_valid(numbers, rows, n)
+    n != 0
+        && (n <= 32
+            && (write_tests::unused_zero(numbers, rows, n, 2 * n) && units_valid(numbers, rows, n)))
 }
 
 // The octets of the first n entries.
@@ -185,10 +175,7 @@ fn entries_fine(f: Figure, numbers: &[u32; 32], rows: &[u8; 192]) -> bool
     if f.kind == charge_kind::RATES {
         return write_rates::rates_fine(numbers, rows, f.count, false);
     }
-    if f.count != 0 {
-        return false;
-    }
-    write_tests::no_entries(numbers, rows)
+    f.count == 0 && write_tests::no_entries(numbers, rows)
 }
 
 // Whether a charge may be written as the argument or result of an operation. Its figure is tested where it lies.
@@ -204,10 +191,7 @@ pub fn charge_fine(
     requires { ⌜ (length (now numbers) ≡ 32) × (length (now rows) ≡ 192) ⌝ }
     ensures { λ r. ⌜ r ≡ (chargeOf operation) .valid (withList f (now (numbers .entry)) (now (rows .entry))) ⌝ }
 {
-    if !write_masks::parts_fine(figure, operation) {
-        return false;
-    }
-    entries_fine(f, numbers, rows)
+    write_masks::parts_fine(figure, operation) && entries_fine(f, numbers, rows)
 }
 
 // The octets of a valid charge, which may be too many for a component.

@@ -42,19 +42,7 @@ fn request_fine(f: types::Front) -> bool
     requires { ⌜ (f .frame ≡ 1) × (f .operation ≡ 30) ⌝ }
     ensures { λ r. ⌜ r ≡ frontFine f ⌝ }
 {
-    if f.unnamed != 0 {
-        return false;
-    }
-    if f.error != 0 {
-        return false;
-    }
-    if f.problem != 0 {
-        return false;
-    }
-    if charging_case::E < f.detail {
-        return false;
-    }
-    true
+    f.unnamed == 0 && (f.error == 0 && (f.problem == 0 && f.detail <= charging_case::E))
 }
 
 fn invoke_fine(f: types::Front) -> bool
@@ -64,79 +52,35 @@ fn invoke_fine(f: types::Front) -> bool
     if f.operation == operation::CHARGING_REQUEST {
         return request_fine(f);
     }
-    if !is_operation(f.operation) {
-        return false;
-    }
-    if f.unnamed != 0 {
-        return false;
-    }
-    if f.error != 0 {
-        return false;
-    }
-    if f.problem != 0 {
-        return false;
-    }
-    if f.detail != 0 {
-        return false;
-    }
-    true
+    f.unnamed == 0
+        && (f.error == 0 && (f.problem == 0 && (f.detail == 0 && is_operation(f.operation))))
 }
 
 fn result_fine(f: types::Front) -> bool
     requires { ⌜ f .frame ≡ 2 ⌝ }
     ensures { λ r. ⌜ r ≡ frontFine f ⌝ }
 {
-    if f.operation != operation::CHARGING_REQUEST {
-        return false;
-    }
-    if f.unnamed != 0 {
-        return false;
-    }
-    if f.error != 0 {
-        return false;
-    }
-    if f.problem != 0 {
-        return false;
-    }
-    if f.detail != 0 {
-        return false;
-    }
-    true
+    f.unnamed == 0
+        && (f.error == 0
+            && (f.problem == 0 && (f.detail == 0 && f.operation == operation::CHARGING_REQUEST)))
 }
 
 fn error_fine(f: types::Front) -> bool
     requires { ⌜ f .frame ≡ 3 ⌝ }
     ensures { λ r. ⌜ r ≡ frontFine f ⌝ }
 {
-    if f.unnamed != 0 {
-        return false;
-    }
-    if f.operation != 0 {
-        return false;
-    }
-    if f.problem != 0 {
-        return false;
-    }
-    if f.detail != 0 {
-        return false;
-    }
-    read_heads::values::known_error(f.error as u32)
+    f.unnamed == 0
+        && (f.operation == 0
+            && (f.problem == 0
+                && (f.detail == 0 && read_heads::values::known_error(f.error as u32))))
 }
 
 fn reject_fine(f: types::Front) -> bool
     requires { ⌜ f .frame ≡ 4 ⌝ }
     ensures { λ r. ⌜ r ≡ frontFine f ⌝ }
 {
-    if !is_called(f.unnamed, f.id) {
-        return false;
-    }
-    if f.operation != 0 {
-        return false;
-    }
-    if f.error != 0 {
-        return false;
-    }
-    problem_fine(f.problem, f.detail)
+    is_called(f.unnamed, f.id)
+        && (f.operation == 0 && (f.error == 0 && problem_fine(f.problem, f.detail)))
 }
 
 pub fn is_called(unnamed: u8, id: u16) -> bool

@@ -58,36 +58,32 @@ pub fn clear_by(figure: &[u8; 48], associated: bool, with: &[u8; 48], without: &
 fn clear_of(figure: &[u8; 48], associated: bool, kind: u8) -> bool
     ensures { λ r. ⌜ r ≡ clearBut (maskOf associated kind) (now (figure .entry)) ⌝ }
 {
-    if kind == charge_kind::MONEY {
-        return clear_by(
+    match kind {
+        charge_kind::MONEY => clear_by(
             figure,
             associated,
             b"xxxxxxxxxxxxxxxxxxxxxxxxxxxxxxxxxxxxxxxxxxxxxx.x",
             b"xxxxxxxxxxxxxxxx..........................xxxx.x",
-        );
-    }
-    if kind == charge_kind::UNITS {
-        return clear_by(
+        ),
+        charge_kind::UNITS => clear_by(
             figure,
             associated,
             b"................xxxxxxxxxxxxxxxxxxxxxxxxxxxxxx.x",
             b"..........................................xxxx.x",
-        );
-    }
-    if kind == charge_kind::ARRANGEMENT {
-        return clear_by(
+        ),
+        charge_kind::ARRANGEMENT => clear_by(
             figure,
             associated,
             b"................xxxxxxxxxxxxxxxxxxxxxxxxxxx...xx",
             b"..........................................x...xx",
-        );
+        ),
+        _ => clear_by(
+            figure,
+            associated,
+            b"................xxxxxxxxxxxxxxxxxxxxxxxxxxx....x",
+            b"..........................................x....x",
+        ),
     }
-    clear_by(
-        figure,
-        associated,
-        b"................xxxxxxxxxxxxxxxxxxxxxxxxxxx....x",
-        b"..........................................x....x",
-    )
 }
 
 // ---- what is used, by the operation and the kind
@@ -97,13 +93,11 @@ fn billed_fine(figure: &[u8; 48], most: u8) -> bool
 {
     let billed = figure[in_figure::BILLED];
     let billing = figure[in_figure::BILLING];
-    if billed == 1 {
-        return billing <= most;
+    match billed {
+        0 => billing == 0,
+        1 => billing <= most,
+        _ => false,
     }
-    if billed != 0 {
-        return false;
-    }
-    billing == 0
 }
 
 // What stands beside an amount or units, which one operation has during the call and another at its end.
@@ -112,81 +106,56 @@ fn priced_fine(figure: &[u8; 48], operation: u8, during: u8, ending: u8) -> bool
 {
     let total = figure[in_figure::TOTAL];
     if operation == during {
-        if 1 < total {
-            return false;
-        }
-        return billed_fine(figure, billing::CREDIT_CARD);
+        return total <= 1 && billed_fine(figure, billing::CREDIT_CARD);
     }
-    if operation != ending {
-        return false;
-    }
-    if total != 0 {
-        return false;
-    }
-    billed_fine(figure, billing::TRANSFER)
+    operation == ending && (total == 0 && billed_fine(figure, billing::TRANSFER))
 }
 
 // Whether an operation may have a special arrangement.
 fn arranges(operation: u8) -> bool
     ensures { λ r. ⌜ r ≡ eqb operation 30 || eqb operation 32 ⌝ }
 {
-    if operation == operation::CHARGING_REQUEST {
-        return true;
-    }
-    operation == operation::S_SPECIAL
+    operation == operation::CHARGING_REQUEST || operation == operation::S_SPECIAL
 }
 
 fn arranged_fine(arrangement: u8, operation: u8) -> bool
     ensures { λ r. ⌜ r ≡ arrangedFine operation arrangement ⌝ }
 {
-    if !arranges(operation) {
-        return false;
-    }
-    if arrangement < 1 {
-        return false;
-    }
-    arrangement <= 10
+    arranges(operation) && (1 <= arrangement && arrangement <= 10)
 }
 
 // Whether an operation may have a kind that has no small field.
 fn bare_kind(kind: u8, operation: u8) -> bool
     ensures { λ r. ⌜ r ≡ bareKind operation kind ⌝ }
 {
-    if kind == charge_kind::NONE {
-        return true;
+    match kind {
+        charge_kind::NONE => true,
+        charge_kind::FREE => operation::D_CURRENCY <= operation,
+        charge_kind::RATES => operation <= operation::S_CURRENCY,
+        _ => false,
     }
-    if kind == charge_kind::FREE {
-        return operation::D_CURRENCY <= operation;
-    }
-    if kind == charge_kind::RATES {
-        return operation <= operation::S_CURRENCY;
-    }
-    false
 }
 
 // All that the kind uses but the association.
 fn used_fine(figure: &[u8; 48], kind: u8, operation: u8) -> bool
     ensures { λ r. ⌜ r ≡ usedFine operation kind (now (figure .entry)) ⌝ }
 {
-    if kind == charge_kind::MONEY {
-        if !priced_fine(
-            figure,
-            operation,
-            operation::D_CURRENCY,
-            operation::E_CURRENCY,
-        ) {
-            return false;
+    match kind {
+        charge_kind::MONEY => {
+            priced_fine(
+                figure,
+                operation,
+                operation::D_CURRENCY,
+                operation::E_CURRENCY,
+            )
+                && write_tests::money_fine(types_parts::money_of(figure), false)
         }
-        let m = types_parts::money_of(figure);
-        return write_tests::money_fine(m, false);
+        charge_kind::UNITS => {
+            priced_fine(figure, operation, operation::D_UNITS, operation::E_UNITS)
+        }
+        charge_kind::ARRANGEMENT => arranged_fine(figure[in_figure::ARRANGEMENT], operation),
+        _ => bare_kind(kind, operation),
     }
-    if kind == charge_kind::UNITS {
-        return priced_fine(figure, operation, operation::D_UNITS, operation::E_UNITS);
-    }
-    if kind == charge_kind::ARRANGEMENT {
-        return arranged_fine(figure[in_figure::ARRANGEMENT], operation);
-    }
-    bare_kind(kind, operation)
 }
 
 // ---- figures
@@ -195,13 +164,9 @@ fn used_fine(figure: &[u8; 48], kind: u8, operation: u8) -> bool
 fn is_associated(figure: &[u8; 48], operation: u8) -> bool
     ensures { λ r. ⌜ r ≡ associated operation (figureIn (now (figure .entry))) ⌝ }
 {
-    if operation < operation::E_CURRENCY {
-        return false;
-    }
-    if figure[in_figure::KIND] == charge_kind::NONE {
-        return false;
-    }
-    figure[in_figure::ASSOCIATION_KIND] != association_kind::NONE
+    operation::E_CURRENCY <= operation
+        && (figure[in_figure::KIND] != charge_kind::NONE
+            && figure[in_figure::ASSOCIATION_KIND] != association_kind::NONE)
 }
 
 // The association, where there is one.
@@ -224,11 +189,6 @@ pub fn parts_fine(figure: &[u8; 48], operation: u8) -> bool
     let all: &[u8] = figure;
     let kind = figure[in_figure::KIND];
     let associated = is_associated(figure, operation);
-    if !associate_fine(figure, associated) {
-        return false;
-    }
-    if !clear_of(figure, associated, kind) {
-        return false;
-    }
-    used_fine(figure, kind, operation)
+    associate_fine(figure, associated)
+        && (clear_of(figure, associated, kind) && used_fine(figure, kind, operation))
 }

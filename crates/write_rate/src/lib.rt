@@ -41,37 +41,18 @@ fn is_kind(kind: u8, trunk: bool) -> bool
 fn detail_fine(kind: u8, detail: u8, trunk: bool) -> bool
     ensures { λ r. ⌜ r ≡ detailFine trunk kind detail ⌝ }
 {
-    if kind == rate_kind::DURATION {
-        return detail <= 1;
+    match kind {
+        rate_kind::DURATION => detail <= 1,
+        rate_kind::VOLUME => detail <= 2,
+        rate_kind::CODE => 1 <= detail && detail <= 10,
+        _ => rate_kind::FLAT <= kind && (is_kind(kind, trunk) && detail == 0),
     }
-    if kind == rate_kind::VOLUME {
-        return detail <= 2;
-    }
-    if kind == rate_kind::CODE {
-        if detail < 1 {
-            return false;
-        }
-        return detail <= 10;
-    }
-    if kind < rate_kind::FLAT {
-        return false;
-    }
-    if !is_kind(kind, trunk) {
-        return false;
-    }
-    detail == 0
 }
 
 fn no_step(r: Rate) -> bool
     ensures { λ b. ⌜ b ≡ unstepped r ⌝ }
 {
-    if r.stepped != 0 {
-        return false;
-    }
-    if r.stepscale != 0 {
-        return false;
-    }
-    r.step == 0
+    r.stepped == 0 && (r.stepscale == 0 && r.step == 0)
 }
 
 fn step_fine(r: Rate) -> bool
@@ -91,21 +72,13 @@ fn times_fine(r: Rate) -> bool
     ensures { λ b. ⌜ b ≡ timesFine r ⌝ }
 {
     if r.kind == rate_kind::DURATION {
-        if !write_tests::scaled_fine(Scaled {
+        let t = Scaled {
             number: r.time,
             scale: r.scale,
-        }) {
-            return false;
-        }
-        return step_fine(r);
+        };
+        return write_tests::scaled_fine(t) && step_fine(r);
     }
-    if r.scale != 0 {
-        return false;
-    }
-    if r.time != 0 {
-        return false;
-    }
-    no_step(r)
+    r.scale == 0 && (r.time == 0 && no_step(r))
 }
 
 // Durations, flat rates and volumes have an amount.
@@ -124,16 +97,8 @@ fn amount_fine(r: Rate, trunk: bool) -> bool
 pub fn rate_fine(r: Rate, trunk: bool) -> bool
     ensures { λ b. ⌜ b ≡ (rate trunk) .valid r ⌝ }
 {
-    if 4 < r.item {
-        return false;
-    }
-    if !detail_fine(r.kind, r.detail, trunk) {
-        return false;
-    }
-    if !times_fine(r) {
-        return false;
-    }
-    amount_fine(r, trunk)
+    r.item <= 4
+        && (detail_fine(r.kind, r.detail, trunk) && (times_fine(r) && amount_fine(r, trunk)))
 }
 
 // ---- the octets of a rate

@@ -25,6 +25,15 @@ test-yes a b r x e h q = rw (← e, not-false r h) q
 
 pub ruleset answered = (test-no, test-yes)
 
+-- the same where the tests are joined
+pub told-no : (a b r : Bool) → r ≡ a → r ≡ false → r ≡ a && b
+told-no a b r e h = rw (← e, h)
+
+pub told-yes : (a b r x : Bool) → r ≡ a → r ≡ true → x ≡ b → x ≡ a && b
+told-yes a b r x e h q = rw (← e, h) q
+
+pub ruleset told = (told-no, told-yes)
+
 -- ---- in any order
 
 -- a test of equality of charges, and a test of what it holds: the kind first, then the small fields, money and association, and the list

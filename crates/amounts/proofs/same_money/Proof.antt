@@ -7,5 +7,6 @@ pub same-money-spec : {M : Type 1} → statement M
 unfolding equalMoney
 same-money-spec =
     tie.close
-    (tie.spec (search needs) (search needs) (λ c. search (ways, ← c .before .before .thousandths .ensures .0, ← c .before .thousandths2 .ensures .0)) (search needs)
-    (λ c. let t = c .before .before .before in search (ways, ← t .before .before .thousandths .ensures .0, ← t .before .thousandths2 .ensures .0)))
+    (tie.spec (search needs) (search needs) (search needs)
+    (λ c. let t = c .before in search (ways, ← t .before .before .thousandths .ensures .0, ← t .before .thousandths2 .ensures .0))
+    (λ c. search (ways, ← c .before .before .thousandths .ensures .0, ← c .before .thousandths2 .ensures .0)))

@@ -6,4 +6,4 @@ use Rattle.board_rules.proofs.taken_up.Tie as tie
 pub taken-up-spec : {M : Type 1} → statement M
 unfolding takenUp
 taken-up-spec = tie.close (tie.spec (omega arith) (omega arith) (omega arith) (λ c. let t = c .before .before in rw
-    (c .key-of .ensures, c .before .no-charge .ensures, t .before .before .begin .ensures) refl))
+    (c .key-of .ensures, c .before .fresh .ensures, t .before .before .begin .ensures) refl))

@@ -7,5 +7,6 @@ pub first-spec : {M : Type 1} → statement M
 first-spec =
     tie.close
     (tie.spec (search needs)
-    (λ c κs. let t = c .before .before .element .ensures .0 in along-first _ (sym (ap (λ (x : Starts). x .number) t) ∙ c .if1 .taken)) (λ c. c .onward .ensures)
-    (λ c. let t = c .before .before .element .ensures .0 in sym (find-malformed _ _ (λ e. c .if1 .left (ap (λ (x : Starts). x .number) t ∙ e)))))
+    (λ c κs. let t = c .before .before .element .ensures .0 in along-first _ (sym (ap (λ (x : Starts). x .number) t) ∙ c .if1 .taken)) (λ c. c .onward .ensures) (λ c κs. search needs)
+    (λ c. let e = c .before in let t = e .before .before .element .ensures .0 in
+    c .found-as .ensures ∙ sym (find-malformed _ _ (λ n. e .if1 .left (ap (λ (x : Starts). x .number) t ∙ n)))))

@@ -8,8 +8,8 @@ small false n = omega arith
 
 add-result : tie.Need-add-result
 add-result c =
-    let x = c .before .before .before .args .t in
-    omega (arith, c .before .before .bit .ensures, c .before .bit2 .ensures, small (eqb (x .s) 0) 1, small (eqb (x .d) 0) 2)
+    let x = c .before .before .args .t in
+    omega (arith, c .before .bit .ensures, c .bit2 .ensures, small (eqb (x .s) 0) 1, small (eqb (x .d) 0) 2)
 
 add-result-2 : tie.Need-add-result-2
 add-result-2 c =
@@ -17,4 +17,4 @@ add-result-2 c =
     omega (arith, c .before .before .bit .ensures, c .before .bit2 .ensures, c .bit3 .ensures, small (eqb (x .s) 0) 1, small (eqb (x .d) 0) 2, small (eqb (x .e) 0) 4)
 
 pub bits-of-spec : {M : Type 1} → statement M
-bits-of-spec = tie.close (tie.spec (omega arith) (omega arith) (omega arith) add-result add-result-2 (omega arith))
+bits-of-spec = tie.close (tie.spec (omega arith) (omega arith) add-result (omega arith) add-result-2 (omega arith))

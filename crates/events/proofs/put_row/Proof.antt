@@ -16,4 +16,4 @@ put-row-spec =
     (omega arith) (omega arith) (λ c. simp length-set (omega arith))
     (omega arith) (omega arith) (λ c. simp length-set (omega arith))
     (omega arith) (omega arith) (λ c. simp length-set (omega arith))
-    (omega arith) (search needs) (λ c. rw (c .before .bits-of .ensures) (wrote-6 _ _ _ _ _ _ _ _)))
+    (omega arith) (search needs) (λ c. rw (c .bits-of .ensures) (wrote-6 _ _ _ _ _ _ _ _)))

@@ -10,13 +10,13 @@ returns-2 c =
     let amount = c .before in
     let f = amount .before in
     let found = f .before .before in
-    let e = found .before .before .before in
+    let e = found .before .before in
     rw (sym (e .before .counted-money .ensures) ∙ not-false _ (e .if1 .left), ← found .last-of .ensures, eq-eqb _ 1 (f .if2 .taken), amount .thousandths .ensures .0) refl
 
 returns-3 : tie.Need-returns-3
 returns-3 c =
     let found = c .before .before in
-    let e = found .before .before .before in
+    let e = found .before .before in
     rw (sym (e .before .counted-money .ensures) ∙ not-false _ (e .if1 .left), ← found .last-of .ensures, ne-eqb _ 1 (c .if2 .left)) refl
 
 pub falls-spec : {M : Type 1} → statement M

@@ -44,9 +44,9 @@ loop-again c =
 
 returns : tie.Need-returns Inv-loop μ-loop
 returns c =
-    let l = c .before .before .before in
+    let l = c .before .before in
     let x = l .before .before .before .before .args in
-    let e : l .loop .i ≡ length (x .rows .now) / 6 = omega (arith, l .loop .inv .0, c .before .before .loop-test .left) in
+    let e : l .loop .i ≡ length (x .rows .now) / 6 = omega (arith, l .loop .inv .0, c .before .loop-test .left) in
     c .concluded .ensures ∙ run-ends (x .rows .now) (x .octets .now) (l .loop .i) (l .loop .state) e (l .loop .inv .2)
 
 pub judged-all-spec : {M : Type 1} → statement M
@@ -54,7 +54,8 @@ judged-all-spec =
     tie.close
     (tie.spec Inv-loop μ-loop (omega arith) begin (omega arith)
     (λ c. omega (arith, ends c))
-    (omega arith) (omega arith) (omega arith) (omega arith)
+    (omega arith) (omega arith) (omega arith)
     (λ c. omega (arith, ends (c .before)))
-    (λ c κs. let in-loop = c .before .before .before in let call = in-loop .before .before .before in (call .before .before .pre, omega (arith, in-loop .loop-test .taken)))
+    (λ c κs. let in-loop = c .before .before .before in let call = in-loop .before .before in (call .before .before .before .pre, omega (arith, in-loop .loop-test .taken)))
+    (λ c. let n = c .before .before .before in omega (arith, n .before .loop-test .taken, start n .good .0 .0))
     (omega arith) loop-again (omega arith) returns)

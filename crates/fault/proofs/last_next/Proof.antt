@@ -1,4 +1,4 @@
-use Rattle.prelude.proofs.Prelude.{ℕ, _≡_, Bool, _&&_, cond, refl, sym, _∙_, ap, arith, not-true, not-false}
+use Rattle.prelude.proofs.Prelude.{_≡_, Bool, _&&_, cond, refl, sym, _∙_, arith, not-true, not-false}
 use Rattle.types.specs.Thousandths.{thousandths}
 use Rattle.amounts.specs.Currency.{equalCurrency}
 use Rattle.fault.specs.{inner.Going.lastNext, inner.Going.judging}
@@ -8,7 +8,7 @@ use Rattle.fault.proofs.last_next.Tie as tie
 -- what the event leaves, by whether it is counted money (b) and in an equal currency (s)
 module _ (m : tie.After-counted-money) where
   abbrev read : tie.After-read
-  read = m .before .before .before .before .before
+  read = m .before .before .before
 
   abbrev start : tie.Start
   start = read .before .before
@@ -34,5 +34,5 @@ last-next-spec =
     sym (leaves (e .before) (sym (not-false _ (e .if1 .left))) (sym (not-true _ (c .if2 .taken)) ∙ c .before .same-currency .ensures)))
     (omega arith)
     (λ c. let q = c .before .before in let e = q .before in
-    ap (λ (n : ℕ). record { found = 1; amount = n }) (c .thousandths .ensures .0)
+    c .last-by .ensures
     ∙ sym (leaves (e .before) (sym (not-false _ (e .if1 .left))) (sym (not-false _ (c .before .if2 .left)) ∙ q .same-currency .ensures))))

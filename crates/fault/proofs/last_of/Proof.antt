@@ -1,4 +1,4 @@
-use Rattle.prelude.proofs.{Prelude.{arith, needs, refl, sym, _∙_, eq-eqb}, Ways.ways}
+use Rattle.prelude.proofs.{Prelude.{arith, needs, sym, _∙_, eq-eqb}, Ways.ways}
 use Rattle.fault.proofs.last_of.Statement.{statement}
 use Rattle.fault.proofs.last_of.Tie as tie
 
@@ -6,18 +6,14 @@ use Rattle.fault.proofs.last_of.Tie as tie
 returns-4 : tie.Need-returns-4
 returns-4 c =
     let also = c .before .before in
-    let more = also .before .before .before in
-    let other = more .before .before in
+    let other = also .before .before .before in
     let same = other .before in
-    let some = same .before .before .before in
     rw (
-      eq-eqb _ 1 (some .if1 .left),
+      eq-eqb _ 1 (same .before .if1 .left),
       sym (same .same-currency .ensures) ∙ other .if2 .left,
-      eq-eqb _ 1 (more .if3 .left),
+      eq-eqb _ 1 (also .before .if3 .left),
       sym (also .same-currency2 .ensures) ∙ c .before .if4 .taken,
-      c .thousandths2 .ensures .0,
-    )
-    refl
+    ) (c .last-by2 .ensures)
 
 pub last-of-spec : {M : Type 1} → statement M
 last-of-spec =
@@ -25,7 +21,7 @@ last-of-spec =
     (tie.spec
     (λ c. search ways)
     (omega arith) (omega arith)
-    (λ c. rw (c .thousandths .ensures .0) (search ways))
+    (λ c. search ways)
     (λ c. search ways)
     (omega arith) (omega arith) returns-4 (λ c κs. search needs)
     (λ c. rw (c .last-in .ensures) (search ways)))

@@ -9,10 +9,9 @@ returns c =
     let latest = c .before in
     let seen = latest .before in
     let ruled = seen .before in
-    let fell = ruled .before .before in
+    let fell = ruled .before in
     let asked = fell .before .before .before in
-    let found = asked .before .before .before in
-    let read = found .before in
+    let read = asked .before .before .before in
     let stepped = read .before .before .before in
     rw (
       c .other-next .ensures,
@@ -28,4 +27,8 @@ returns c =
 
 pub next-spec : {M : Type 1} → statement M
 unfolding nextOf
-next-spec = tie.close (tie.spec (omega arith) (omega arith) (omega arith) (λ c κs. search needs) (omega arith) (omega arith) (omega arith) (omega arith) returns)
+next-spec =
+    tie.close (tie.spec
+    (omega arith) (omega arith) (omega arith) (λ c κs. search needs) (omega arith)
+    (λ c. let read = c .before .before .before .before .before .before .before in let start = read .before .before .before .before .before .before .before in omega (arith, start .good .1 .0 .0, start .pre .1))
+    (omega arith) (omega arith) (omega arith) returns)

@@ -5,14 +5,14 @@ use Rattle.fault.proofs.other_next.Tie as tie
 returns-3 : tie.Need-returns-3
 returns-3 c =
     let same = c .before in
-    let some = same .before .before .before .before in
+    let some = same .before in
     let e = some .before .before in
     rw (sym (e .before .counted-money .ensures) ∙ not-false _ (e .if1 .left), eq-eqb _ 1 (some .if2 .left), sym (same .same-currency .ensures) ∙ c .if3 .taken) refl
 
 returns-4 : tie.Need-returns-4
 returns-4 c =
     let same = c .before in
-    let some = same .before .before .before .before in
+    let some = same .before in
     let e = some .before .before in
     rw (sym (e .before .counted-money .ensures) ∙ not-false _ (e .if1 .left), eq-eqb _ 1 (some .if2 .left), sym (same .same-currency .ensures) ∙ c .if3 .left) refl
 

@@ -17,11 +17,13 @@ a-digit c = omega (arith, c .before .digit .ensures, c .if4 .left)
 pub fed-spec : {M : Type 1} → statement M
 fed-spec =
     tie.close
-    (tie.spec (λ c. fed-bad _ _ _ (c .if1 .taken)) (λ c. fed-space _ _ _ (c .before .if2 .taken) (c .if3 .taken)) (λ c κs. omega arith)
+    (tie.spec (λ c. fed-bad _ _ _ (c .if1 .taken)) (λ c κs. omega arith)
+    (λ c. let t = c .before in rw (c .line-of .ensures) (fed-space _ _ _ (t .before .if2 .taken) (t .if3 .taken))) (λ c κs. omega arith)
     (λ c. let f = fed-gap _ _ _ (c .before .before .if2 .taken) (c .before .if3 .left) in (c .bad-line .ensures ∙ f .0, f .1)) (λ c κs. omega arith)
-    (λ c κs. omega arith) returns-4 (λ c κs. omega arith) (λ c. omega arith) (λ c. omega arith)
-    (λ c. let s = c .before .before in
-    rw (c .octet .ensures, s .before .before .digit .ensures) (fed-second _ _ _ (s .if5 .taken) (c .before .if6 .taken) (a-digit (s .before))))
-    (λ c. fed-full _ _ _ (c .before .if5 .taken) (c .if6 .left) (a-digit (c .before .before)))
-    (λ c. let g = c .before .before in let e = g .before in
-    rw (g .digit .ensures) (fed-first _ _ _ (e .before .if1 .left) (e .if2 .left) (c .if5 .left) (a-digit (c .before)))))
+    (λ c κs. omega arith) returns-4 (λ c κs. omega arith) (λ c. omega arith) (λ c. omega arith) (λ c κs. omega arith)
+    (λ c. let o = c .before in let s = o .before .before in
+    rw (c .line-of2 .ensures, o .octet .ensures, s .before .before .digit .ensures) (fed-second _ _ _ (s .if5 .taken) (o .before .if6 .taken) (a-digit (s .before))))
+    (λ c κs. omega arith)
+    (λ c. let e = c .before in rw (c .line-of3 .ensures) (fed-full _ _ _ (e .before .if5 .taken) (e .if6 .left) (a-digit (e .before .before)))) (λ c κs. omega arith)
+    (λ c. let l = c .before in let g = l .before .before in let e = g .before in
+    rw (c .line-of4 .ensures, g .digit .ensures) (fed-first _ _ _ (e .before .if1 .left) (e .if2 .left) (l .if5 .left) (a-digit (l .before)))))

@@ -6,6 +6,5 @@ use Rattle.lines_rules.proofs.put_octet.Tie as tie
 pub put-octet-spec : {M : Type 1} → statement M
 put-octet-spec =
     tie.close
-    (tie.spec (λ c κs. omega arith) (λ c κs. c .high-of .ensures .1) (λ c. omega arith) (λ c κs. omega arith) (λ c κs. c .low-of .ensures .1)
-    (λ c. omega arith) (λ c. omega arith) (λ c. omega arith) (λ c. omega arith) (λ c. omega arith)
-    (λ c. rw (c .before .before .glyph-of .ensures, c .before .before .before .high-of .ensures .0, c .glyph-of2 .ensures, c .before .low-of .ensures .0) (wrote-3 _ _ _ _ _)))
+    (tie.spec (λ c κs. omega arith) (λ c. omega arith) (λ c κs. omega arith) (λ c. omega arith) (λ c. omega arith) (λ c. omega arith) (λ c. omega arith)
+    (λ c. omega arith) (λ c. rw (c .before .glyph-of .ensures, c .glyph-of2 .ensures) (wrote-3 _ _ _ _ _)))

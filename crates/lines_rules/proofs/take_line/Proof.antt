@@ -1,8 +1,8 @@
 -- The loop's invariant: the characters passed are heard, and none of them ended the line. The measure is what is left.
 use Rattle.prelude.proofs.Prelude.{arith, ℕ, _≤_, _-_, _≡_, _∙_, List, length}
 use Rattle.coding.specs.Reader.{part}
-use Rattle.lines_rules.specs.inner.Machine.{state, turn, turns}
-use Rattle.lines_rules.proofs.{Steps.turns-none, Steps.turns-more, Steps.turn-open, Steps.heard-on, take_line.Statement.statement}
+use Rattle.lines_rules.specs.inner.Machine.{state, turns}
+use Rattle.lines_rules.proofs.{Steps.turns-none, Steps.turns-more, Steps.turn-open, Steps.heard-on, Steps.heard-end, take_line.Statement.statement}
 use Rattle.lines_rules.proofs.take_line.Tie as tie
 
 abbrev Inv-loop : tie.InvT-loop
@@ -20,12 +20,6 @@ heard-by c =
     let h = e .before .take-ready .ensures .0 in
     (omega (arith, h .onward), heard-on _ _ _ _ _ _ h (e .if1 .left) _ _ _ (c .loop .inv .1) (c .loop .inv .2))
 
-returns-2 : tie.Need-returns-2 Inv-loop μ-loop
-unfolding turn
-returns-2 c =
-    let h = heard-by (c .before .before .before) in
-    (record { onward = omega arith; inside = omega arith; heard = λ t. turns-more _ _ _ _ (h .0) (omega arith) (h .1 t) ∙ rw (c .if2 .taken) }, omega arith)
-
 loop-again : tie.Need-loop-again Inv-loop μ-loop
 loop-again c =
     let e = c .before .before in
@@ -39,6 +33,7 @@ pub take-line-spec : {M : Type 1} → statement M
 take-line-spec =
     tie.close
     (tie.spec Inv-loop μ-loop (λ c κs. omega arith) (λ c. (c .before .take-ready .ensures .0, c .before .take-ready .ensures .1 (c .if1 .taken)))
-    (λ c. (c .before .before .take-ready .ensures .0 .inside, omega arith, λ t. turns-none _ _ _)) (λ c. omega arith) (λ c. omega arith) returns-2
-    (λ c κs. omega arith) (λ c. omega arith) loop-again
-    (λ c. let h = heard-by (c .before) in (record { onward = h .0; inside = omega arith; heard = h .1 }, omega arith)))
+    (λ c. (c .before .before .take-ready .ensures .0 .inside, omega arith, λ t. turns-none _ _ _)) (λ c. omega arith) (λ c. omega arith) (λ c κs. omega arith)
+    (λ c. let t = c .before in let h = heard-by (t .before .before .before) in rw (c .went-to .ensures) (heard-end (h .0) (omega arith) (h .1) (t .if2 .taken)))
+    (λ c κs. omega arith) (λ c. omega arith) loop-again (λ c κs. omega arith)
+    (λ c. let h = heard-by (c .before .before) in rw (c .went-to2 .ensures) (record { onward = h .0; inside = omega arith; heard = h .1 }, omega arith)))

@@ -1,7 +1,7 @@
 -- The loop's invariant: k octets with their spaces are taken. The measure is what may still come.
 use Rattle.prelude.proofs.Prelude.{arith, _≤_, _<_, _+_, _*_, _-_, _≡_, sym, true, false, true≢false}
 use Rattle.lines_rules.specs.{declared.Line.Line, inner.Machine.spacedLine, inner.Machine.Heard}
-use Rattle.lines_rules.proofs.{Steps.Taken, Steps.Next, Steps.taken-none, Steps.taken-more, Steps.taken-last, take_octets.Statement.statement}
+use Rattle.lines_rules.proofs.{Steps.Taken, Steps.Next, Steps.taken-none, Steps.taken-more, Steps.heard-left, Steps.heard-last, take_octets.Statement.statement}
 use Rattle.lines_rules.proofs.take_octets.Tie as tie
 
 abbrev Inv-loop : tie.InvT-loop
@@ -15,12 +15,7 @@ abbrev turn-of : tie.After-digit Inv-loop μ-loop → tie.At-loop Inv-loop μ-lo
 turn-of c = c .before .before .before
 
 abbrev start : tie.At-loop Inv-loop μ-loop → tie.Start Inv-loop μ-loop
-start c = let m = c .before in m .before .before .before
-
--- no more is taken
-left-at : (t : tie.At-loop Inv-loop μ-loop) {m : Line} → let a = start t .args in m ≡ spacedLine (a .l) (t .loop .k)
-    → Heard (a .s .now) (a .from) (a .l) (a .octets .now) (record { line = m; at = t .loop .at; ended = false }) (t .loop .octets) × (false ≡ true → a .from < t .loop .at)
-left-at t e = (record { onward = omega arith; inside = omega arith; heard = λ t'. rw e (t .loop .inv .2 t') }, λ z. absurd (true≢false (sym z)))
+start c = c .before .before .before
 
 -- both digits are read
 abbrev first : tie.Else2 Inv-loop μ-loop → tie.Else1 Inv-loop μ-loop
@@ -42,20 +37,20 @@ next-at c =
       taken = turn-of (f .before) .loop .inv .2;
     }
 
-returns-4 : tie.Need-returns-4 Inv-loop μ-loop
-returns-4 c =
-    let d = c .before .before .before in
-    (record { onward = omega arith; inside = omega arith; heard = taken-last (next-at (d .before)) (c .octet .ensures) (c .before .if4 .left) }, λ e. omega arith)
+returns : tie.Need-returns Inv-loop μ-loop
+returns c =
+    let o = c .before .before in
+    let d = o .before .before .before in
+    rw (c .went-to .ensures, c .before .line-of .ensures) (heard-last (next-at (d .before)) (o .octet .ensures) (o .before .if4 .left))
 
 pub take-octets-spec : {M : Type 1} → statement M
 take-octets-spec =
     tie.close
-    (tie.spec Inv-loop μ-loop (λ c. omega arith) (λ c κs. omega arith) (λ c. omega arith) (λ c κs. omega arith)
-    (λ c. (omega arith, omega arith, taken-none _ _ _ _)) (λ c. omega arith) (λ c κs. omega arith) (λ c κs. omega arith)
-    (λ c. left-at (turn-of (c .before .before)) (c .spaced .ensures)) (λ c. omega arith) (λ c. omega arith) (λ c κs. omega arith) (λ c κs. omega arith)
-    (λ c. let d = c .before .before .before in left-at (turn-of (d .before .before)) (c .spaced2 .ensures)) (λ c. omega arith) (λ c. omega arith)
-    (λ c κs. omega arith) (λ c. let d = c .before .before .before in left-at (turn-of (first (d .before) .before)) (c .spaced3 .ensures))
-    (λ c κs. omega arith) (λ c. omega arith) (λ c. omega arith) (λ c. omega arith) (λ c. omega arith) (λ c. omega arith) returns-4
+    (tie.spec Inv-loop μ-loop (λ c. omega arith) (λ c. omega arith) (λ c κs. omega arith)
+    (λ c. (omega arith, omega arith, taken-none _ _ _ _)) (λ c. omega arith) (λ c κs. omega arith) (λ c. omega arith) (λ c. omega arith)
+    (λ c κs. omega arith) (λ c. omega arith) (λ c. omega arith) (λ c κs. omega arith) (λ c. omega arith) (λ c. omega arith) (λ c. omega arith)
+    (λ c. omega arith) (λ c κs. omega arith) (λ c. omega arith) (λ c κs. omega arith) returns
     (λ c κs. omega arith) (λ c. omega arith) (λ c. omega arith) (λ c. omega arith) (λ c. omega arith) (λ c. omega arith)
     (λ c. (omega arith, omega arith, taken-more (next-at (c .before .before .before)) (c .octet2 .ensures) (c .before .if3 .left))) (λ c κs. omega arith)
-    (λ c. left-at (c .before .before) (c .spaced4 .ensures)))
+    (λ c κs. omega arith)
+    (λ c. let t = c .before .before .before in rw (c .went-to2 .ensures, c .before .spaced .ensures) (heard-left (t .loop .k) (omega arith) (omega arith) (t .loop .inv .2))))

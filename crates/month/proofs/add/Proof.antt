@@ -7,7 +7,7 @@ use Rattle.month.proofs.{Adding.{add-10, add-46, add-47, add-money, add
 use Rattle.month.proofs.add.Tie as tie
 
 abbrev start : tie.After-in-range → tie.Start
-start r = let b = r .before .before .before in b .before .before .before
+start r = r .before .before .before .before
 
 in-range : (e : tie.Else1) → inRange (start (e .before) .args .service) (start (e .before) .args .c) ≡ true
 in-range e = sym (e .before .in-range .ensures) ∙ not-false _ (e .if1 .left)

@@ -20,13 +20,13 @@ row-of-spec =
     (omega arith)
     (omega arith)
     (omega arith)
-    (λ c. let r = c .before .before in let at = r .before .before .before in let start = at .before in
+    (λ c. let r = c .before .before in let at = r .before .before in let start = at .before in
     let n : length (start .args .t1) ≡ 16 = search needs in
     let same = sym (c .before .same-currency .ensures) ∙ c .if1 .taken in
     sym (search-finds (start .args .c) (start .args .n) (start .args .t1) (at .loop .i) (omega arith) (omega (arith, n, start .pre)) same) ∙ at .loop .inv .1)
     (omega arith)
     (omega arith)
-    (λ c. let r = c .before .before in let at = r .before .before .before in let start = at .before in
+    (λ c. let r = c .before .before in let at = r .before .before in let start = at .before in
     let n : length (start .args .t1) ≡ 16 = search needs in
     let other = sym (c .before .same-currency .ensures) ∙ c .if1 .left in
     (omega arith, search-goes (start .args .c) (start .args .n) (start .args .t1) (at .loop .i) (omega arith) (omega (arith, n, start .pre)) other ∙ at .loop .inv .1))

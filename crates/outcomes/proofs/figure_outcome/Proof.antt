@@ -2,4 +2,6 @@ use Rattle.outcomes.proofs.{Cited.{arith, ways}, figure_outcome.Stateme
 use Rattle.outcomes.proofs.figure_outcome.Tie as tie
 
 pub figure-outcome-spec : {M : Type 1} → statement M
-figure-outcome-spec = tie.close (tie.spec (λ c. search ways) (omega arith) (λ c. search ways) (omega arith) (λ c. search ways) (λ c. search ways))
+figure-outcome-spec =
+    tie.close (tie.spec
+    (omega arith) (λ c. search ways) (omega arith) (omega arith) (λ c. search ways) (omega arith) (omega arith) (λ c. search ways) (omega arith) (λ c. search ways))

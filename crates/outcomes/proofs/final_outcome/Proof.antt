@@ -2,4 +2,4 @@ use Rattle.outcomes.proofs.{Cited.{arith, ways}, final_outcome.Statemen
 use Rattle.outcomes.proofs.final_outcome.Tie as tie
 
 pub final-outcome-spec : {M : Type 1} → statement M
-final-outcome-spec = tie.close (tie.spec (λ c. search ways) (omega arith) (λ c. search ways) (λ c. search ways))
+final-outcome-spec = tie.close (tie.spec (omega arith) (λ c. search ways) (omega arith) (omega arith) (λ c. search ways) (omega arith) (λ c. search ways))

@@ -1,15 +1,10 @@
-use Rattle.prelude.proofs.Prelude.{_∙_, sym, arith}
+use Rattle.prelude.proofs.Prelude.{arith}
 use Rattle.phases.proofs.clashes.Statement.{statement}
 use Rattle.phases.proofs.clashes.Tie as tie
-
-returns-3 : tie.Need-returns-3
-returns-3 c =
-    let back = c .before .before .before in
-    simp (sym (back .before .clash .ensures) ∙ back .if1 .left, sym (c .before .before .clash2 .ensures) ∙ c .before .if2 .left) (c .clash3 .ensures)
 
 pub clashes-spec : {M : Type 1} → statement M
 clashes-spec =
     tie.close (tie.spec
-    (omega arith) (λ c. simp (sym (c .before .clash .ensures) ∙ c .if1 .taken)) (omega arith)
-    (λ c. simp (sym (c .before .before .before .clash .ensures) ∙ c .before .before .if1 .left, sym (c .before .clash2 .ensures) ∙ c .if2 .taken))
-    (omega arith) returns-3)
+    (omega arith) (omega arith) (omega arith) (λ c. rw (← c .before .clash .ensures, c .if1 .taken))
+    (λ c. rw (← c .before .before .before .clash .ensures, c .before .before .if1 .left, ← c .before .clash2 .ensures, c .if2 .taken))
+    (λ c. let b = c .before .before in rw (← b .before .before .clash .ensures, b .before .if1 .left, ← b .clash2 .ensures, c .before .if2 .left) (c .clash3 .ensures)))

@@ -5,8 +5,8 @@ use Rattle.phases.proofs.moved.Tie as tie
 returns-2 : tie.Need-returns-2
 returns-2 c =
     let marks = c .before .before .before in
-    let asked = marks .before .before .before in
-    let e = asked .before .before .before .args .e in
+    let other = marks .before .before .before in
+    let e = other .before .before .args .e in
     rw (
       marks .before .before .mark-of .ensures (e .s),
       marks .before .mark-of2 .ensures (e .d),
@@ -14,7 +14,7 @@ returns-2 c =
       c .before .before .id-of .ensures,
       c .before .id-of2 .ensures,
       c .id-of3 .ensures,
-      asked .before .if1 .left,
+      other .if1 .left,
     )
 
 pub moved-spec : {M : Type 1} → statement M

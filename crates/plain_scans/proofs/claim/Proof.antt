@@ -7,10 +7,10 @@ use Rattle.plain_scans.proofs.claim.Tie as tie
 
 returns-2 : tie.Need-returns-2
 unfolding claimOf
-returns-2 c = search (ways, next-none _ _ _ (c .before .next-phase .ensures) (c .if2 .taken))
+returns-2 c = search (ways, next-none _ _ _ (c .before .before .next-phase .ensures) (c .before .if2 .taken))
 
-cast-t8 : tie.Need-cast-t8
-cast-t8 c =
+cast-no-service : tie.Need-cast-no-service
+cast-no-service c =
     let m = c .before .before .before .read in
     let h : m .result .number ≤ 255 = rw (ap (λ (x : Answer). x .number) (m .ensures)) (number-fits _) in
     omega arith
@@ -25,7 +25,7 @@ module _ (r : tie.After-read) where
 
 returns-3 : tie.Need-returns-3
 unfolding claimOf
-returns-3 c = let r = c .before .before .before in rw (← r .read .ensures) (search (ways, heard r))
+returns-3 c = let r = c .before .before .before .before in rw (← r .read .ensures) (search (ways, heard r))
 
 returns-4 : tie.Need-returns-4
 unfolding claimOf
@@ -33,4 +33,4 @@ returns-4 c = let r = c .before .before .before .before in rw (c .claimed .ensur
 
 pub claim-spec : {M : Type 1} → statement M
 unfolding claimOf
-claim-spec = tie.close (tie.spec (λ c. search ways) (omega arith) returns-2 (omega arith) cast-t8 returns-3 (omega arith) returns-4)
+claim-spec = tie.close (tie.spec (omega arith) (λ c. search ways) (omega arith) (omega arith) returns-2 (omega arith) cast-no-service (omega arith) returns-3 (omega arith) returns-4)

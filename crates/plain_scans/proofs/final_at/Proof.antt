@@ -7,9 +7,9 @@ use Rattle.plain_scans.proofs.final_at.Tie as tie
 
 returns : tie.Need-returns
 returns c =
-    let f = c .before in
+    let f = c .before .before in
     let s = f .before .before .before in
-    final-first (s .args .service) (s .pre .1) (s .pre .2) (f .final-before .ensures) (s .args .charge) (c .if1 .taken)
+    c .outcome-of .ensures ∙ final-first (s .args .service) (s .pre .1) (s .pre .2) (f .final-before .ensures) (s .args .charge) (c .before .if1 .taken)
 
 -- there is a final before it, with which it is compared
 module _ (m : tie.After-same) where
@@ -29,5 +29,6 @@ module _ (m : tie.After-same) where
 
 pub final-at-spec : {M : Type 1} → statement M
 final-at-spec =
-    tie.close (tie.spec (λ c κs. c .before .before .pre) returns (λ c κs. let far = c .before .before .before in let s = far .before in (s .pre .0 .list, omega (arith, s .pre .0 .some, c .if1 .left)))
-    (omega arith) (λ c. again (c .before) true (c .if2 .taken)) (λ c. again (c .before) false (c .if2 .left)))
+    tie.close (tie.spec (λ c κs. c .before .before .pre) (omega arith) returns (λ c κs. let far = c .before .before .before in let s = far .before in (s .pre .0 .list, omega (arith, s .pre .0 .some, c .if1 .left)))
+    (omega arith) (omega arith) (λ c. c .outcome-of2 .ensures ∙ again (c .before .before) true (c .before .if2 .taken))
+    (omega arith) (λ c. c .outcome-of3 .ensures ∙ again (c .before .before) false (c .before .if2 .left)))

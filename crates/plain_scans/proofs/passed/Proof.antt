@@ -4,9 +4,8 @@ use Rattle.plain_scans.proofs.passed.Tie as tie
 
 returns : tie.Need-returns
 returns c =
-    let step = c .before in
-    let x = step .before .before .args in
-    ap (λ (m : Moving). m .status .phase) (step .phase-step .ensures) ∙ rw (step .before .bare .ensures) (moving-phase (x .phase) (x .e))
+    let x = c .before .before .args in
+    ap (λ (m : Moving). m .status .phase) (c .phase-step .ensures) ∙ rw (c .before .bare .ensures) (moving-phase (x .phase) (x .e))
 
 pub passed-spec : {M : Type 1} → statement M
 passed-spec = tie.close (tie.spec (omega arith) (omega arith) returns)

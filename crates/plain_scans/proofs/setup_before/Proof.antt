@@ -29,10 +29,10 @@ loop-again c =
 
 returns-2 : tie.Need-returns-2 Inv-loop μ-loop
 returns-2 c =
-    let at = c .before in
+    let at = c .before .before in
     let x = at .before .before .args in
     let e : at .loop .i ≡ x .k = omega arith in
-    λ o. setup-none (x .rows .now) o (x .k) (ap (λ (n : ℕ). phase (judged (before (x .rows .now) o n))) (sym e) ∙ at .loop .inv .1 o) _ refl
+    λ o. setup-none (x .rows .now) o (x .k) (ap (λ (n : ℕ). phase (judged (before (x .rows .now) o n))) (sym e) ∙ at .loop .inv .1 o) (c .bare-event .result) (rw (c .bare-event .ensures) refl)
 
 pub setup-before-spec : {M : Type 1} → statement M
-setup-before-spec = tie.close (tie.spec Inv-loop μ-loop loop-holds (omega arith) (omega arith) returns (omega arith) (omega arith) loop-again returns-2)
+setup-before-spec = tie.close (tie.spec Inv-loop μ-loop loop-holds (omega arith) (omega arith) returns (omega arith) (omega arith) loop-again (omega arith) returns-2)

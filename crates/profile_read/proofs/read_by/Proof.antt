@@ -4,11 +4,12 @@ use Rattle.profile_read.proofs.read_by.Tie as tie
 
 returns : tie.Need-returns
 returns c =
-    let lent = c .before .before .before in
+    let r = c .before in
+    let lent = r .before .before .before in
     let t = lent .before .before in
     let a = t .before .before .before in
     let i = a .before .before .before in
-    (by-line _ _ (i .if1 .taken) (c .read-into .ensures) (t .no-trunk .ensures .0), t .no-trunk .ensures .1)
+    rw (c .judged-as .ensures) (by-line _ _ (i .if1 .taken) (r .read-into .ensures) (t .no-trunk .ensures .0), t .no-trunk .ensures .1)
 
 trunk-by-requires : tie.Need-trunk-by-requires
 trunk-by-requires c κs =
@@ -25,4 +26,4 @@ returns-2 c =
     (beside (l .no-line .ensures) (c .trunk-by .ensures .0), c .trunk-by .ensures .1)
 
 pub read-by-spec : {M : Type 1} → statement M
-read-by-spec = tie.close (tie.spec (omega arith) (omega arith) returns (omega arith) trunk-by-requires returns-2)
+read-by-spec = tie.close (tie.spec (omega arith) (omega arith) (omega arith) returns (omega arith) trunk-by-requires returns-2)

@@ -41,12 +41,12 @@ figure-at-spec =
     (λ c. omega arith)
     (λ c.
     let k = c .before .before .before in
-    let m = settled (k .before) in
+    let m = settled k in
     none-stored _ _ _ (c .reached .ensures) (m .1) (parties-none (storedCharge _ _ _) _ _ _ _ (c .before .if4 .taken)) ∙ m .0)
-    (λ c κs. let k = c .before .before .before in let m = settled (k .before) in (m .2, m .1)) (λ c. omega arith)
+    (λ c κs. let m = settled (c .before .before .before) in (m .2, m .1)) (λ c. omega arith)
     (λ c.
     let a = c .before in
     let k = a .before .before .before in
-    let m = settled (k .before .before) in
+    let m = settled (k .before) in
     let parts = closes-as _ _ _ _ _ _ (c .closed .ensures) (a .association-at .ensures .0) (λ v. associated v (storedCharge _ _ _)) noCharge in
     association-stored _ _ _ _ (a .association-at .ensures .1) parts ∙ m .0))

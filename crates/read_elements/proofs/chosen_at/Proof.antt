@@ -7,4 +7,5 @@ pub chosen-at-spec : {M : Type 1} → statement M
 unfolding given maybe over optional
 chosen-at-spec =
     tie.close
-    (tie.spec (omega arith) (omega arith) (λ c. (search reading, omega arith)) (λ c. (search reading, omega arith)) (λ c. (search reading, omega arith)))
+    (tie.spec (omega arith) (omega arith) (λ c κs. tt) (λ c. rw (c .no-chosen .ensures) (search reading, omega arith)) (λ c κs. tt)
+    (λ c. rw (c .chosen .ensures) (search reading, omega arith)) (λ c κs. tt) (λ c. rw (c .chosen2 .ensures) (search reading, omega arith)))

@@ -1,4 +1,4 @@
-use Rattle.prelude.proofs.Prelude.{arith}
+use Rattle.prelude.proofs.Prelude.{arith, le-ltb}
 use Rattle.coding.{specs.Contents.negative, proofs.Parts.part-none, proofs.Parts.part-cons}
 use Rattle.read_elements.proofs.is_negative.Statement.{statement}
 use Rattle.read_elements.proofs.is_negative.Tie as tie
@@ -6,4 +6,4 @@ use Rattle.read_elements.proofs.is_negative.Tie as tie
 pub is-negative-spec : {M : Type 1} → statement M
 unfolding negative
 is-negative-spec =
-    tie.close (tie.spec (λ c. rw (part-none _ _ _ (c .if1 .taken))) (omega arith) (λ c. rw (part-cons _ _ _ (c .before .if1 .left) (c .before .before .pre))))
+    tie.close (tie.spec (omega arith) (λ c. rw (part-cons _ _ _ (c .before .if1 .taken) (c .before .before .pre))) (λ c. rw (part-none _ _ _ (c .if1 .left), le-ltb _ _ (c .if1 .left))))

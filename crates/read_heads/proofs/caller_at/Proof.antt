@@ -8,5 +8,7 @@ pub caller-at-spec : {M : Type 1} → statement M
 unfolding caller alt
 caller-at-spec =
     tie.close
-    (tie.spec (omega arith) (omega arith) (λ c. (search reading, λ tag detail. refl)) (λ c. (search reading, λ tag detail. refl)) (omega arith)
-    (λ c. (search reading, λ tag detail. refl)) (omega arith) (λ c. (search reading, λ tag detail. refl)))
+    (tie.spec (omega arith) (omega arith) (omega arith) (λ c. rw (c .caller-read .ensures) (search reading, λ tag detail. refl)) (omega arith)
+    (λ c. rw (c .caller-read2 .ensures) (search reading, λ tag detail. refl)) (omega arith) (omega arith)
+    (λ c. rw (c .caller-read3 .ensures) (search reading, λ tag detail. refl)) (omega arith) (omega arith)
+    (λ c. rw (c .caller-read4 .ensures) (search reading, λ tag detail. refl)))

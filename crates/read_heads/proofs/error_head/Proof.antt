@@ -10,5 +10,5 @@ error-head-spec =
     tie.close (tie.spec
     (omega arith) (omega arith) (λ c. (rw (c .no-head .ensures) (simp flat (search heading)), rw (c .no-head .ensures) (omega arith))) (omega arith) (omega arith)
     (λ c. (rw (c .no-head2 .ensures) (simp flat (search heading)), rw (c .no-head2 .ensures) (omega arith)))
-    (omega arith) (λ c. (rw (c .no-head3 .ensures) (simp flat (search heading)), rw (c .no-head3 .ensures) (omega arith))) (omega arith) (omega arith)
-    (λ c. (simp flat (search heading), omega arith)))
+    (omega arith) (λ c. (rw (c .no-head3 .ensures) (simp flat (search heading)), rw (c .no-head3 .ensures) (omega arith))) (omega arith) (omega arith) (omega arith)
+    (λ c. rw (c .alone .ensures) (simp flat (search heading), omega arith)))

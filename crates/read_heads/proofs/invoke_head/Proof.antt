@@ -9,5 +9,5 @@ unfolding restOf contentsOf invoke leads
 invoke-head-spec =
     tie.close (tie.spec
     (omega arith) (omega arith) (λ c. (rw (c .no-head .ensures) (simp flat (search heading)), rw (c .no-head .ensures) (omega arith))) (omega arith) (omega arith)
-    (λ c. (rw (c .no-head2 .ensures) (simp flat (search heading)), rw (c .no-head2 .ensures) (omega arith))) (omega arith) (omega arith)
-    (λ c. (simp flat (search (heading, tail-one)), omega arith)))
+    (λ c. (rw (c .no-head2 .ensures) (simp flat (search heading)), rw (c .no-head2 .ensures) (omega arith))) (omega arith) (omega arith) (omega arith)
+    (λ c. rw (c .lead .ensures) (simp flat (search (heading, tail-one)), omega arith)))

@@ -18,5 +18,6 @@ reject-head-spec =
     (omega arith) (omega arith) (λ c. (rw (c .no-head .ensures, reject-by _ _ _) (search heading), rw (c .no-head .ensures) (omega arith))) (omega arith) (omega arith)
     (λ c. (rw (c .no-head2 .ensures, reject-by _ _ _) (search heading), rw (c .no-head2 .ensures) (omega arith))) (omega arith)
     (λ c. (rw (c .no-head3 .ensures, reject-by _ _ _) (search heading), rw (c .no-head3 .ensures) (omega arith)))
-    (λ c. let problem = c .before .before .before in
-    let answered = problem .before .before .before in (rw (reject-by _ _ _) (search (heading, ends-with, answered .before .caller-at .ensures .1)), omega arith)))
+    (omega arith) (λ c. let problem = c .before .before .before .before .before .before in
+    let answered = problem .before .before .before in
+    rw (c .alone .ensures) (rw (reject-by _ _ _) (search (heading, ends-with, answered .before .caller-at .ensures .1)), omega arith)))

@@ -7,5 +7,5 @@ pub is-endless-spec : {M : Type 1} → statement M
 unfolding endless
 is-endless-spec =
     tie.close
-    (tie.spec (λ c. simp (le-ltb _ _ (c .if1 .taken))) (omega arith) (λ c. simp (ne-eqb _ _ (c .if2 .taken), and-false)) (λ c. omega arith)
-    (λ c. simp (lt-ltb _ _ (c .before .before .before .if1 .left), eq-eqb _ _ (c .before .if2 .left))))
+    (tie.spec (omega arith) (λ c. omega arith) (λ c. simp (lt-ltb _ _ (c .before .before .before .if1 .taken), eq-eqb _ _ (c .before .if2 .taken)))
+    (λ c. simp (ne-eqb _ _ (c .if2 .left), and-false)) (λ c. simp (le-ltb _ _ (c .if1 .left))))

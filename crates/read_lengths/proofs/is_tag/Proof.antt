@@ -5,4 +5,4 @@ use Rattle.read_lengths.proofs.is_tag.Tie as tie
 
 pub is-tag-spec : {M : Type 1} → statement M
 unfolding tagged
-is-tag-spec = tie.close (tie.spec (λ c. simp (le-ltb _ _ (c .if1 .taken))) (omega arith) (λ c. simp (lt-ltb _ _ (c .before .if1 .left))))
+is-tag-spec = tie.close (tie.spec (omega arith) (λ c. simp (lt-ltb _ _ (c .before .if1 .taken))) (λ c. simp (le-ltb _ _ (c .if1 .left))))

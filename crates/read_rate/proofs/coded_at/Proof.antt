@@ -10,4 +10,4 @@ unfolding coded canonical over
 coded-at-spec =
     tie.close
     (tie.spec (omega arith) (omega arith) (λ c. c .no-rate .ensures ∙ (search reading)) (omega arith) (omega arith)
-    (λ c. c .rate-read .ensures ∙ (search reading)))
+    (λ c. c .untimed .ensures ∙ (search reading)))

@@ -13,4 +13,4 @@ flat-at-spec =
     (tie.spec (omega arith) (omega arith) (λ c. simp flat (c .no-rate .ensures ∙ (search reading))) (omega arith) (omega arith)
     (λ c. simp flat (c .no-rate2 .ensures ∙ (search reading depth 8))) (omega arith)
     (λ c. simp flat (c .no-rate3 .ensures ∙ (search (step, remains) depth 8))) (omega arith)
-    (λ c. simp flat (c .rate-read .ensures ∙ (search (step, shut) depth 8))))
+    (λ c. simp flat (c .untimed .ensures ∙ (search (step, shut) depth 8))))

@@ -9,4 +9,4 @@ pub plain-rate-at-spec : {M : Type 1} → statement M
 unfolding plainRate canonical over
 plain-rate-at-spec =
     tie.close
-    (tie.spec (omega arith) (omega arith) (λ c. c .no-rate .ensures ∙ (search reading)) (omega arith) (λ c. c .rate-read .ensures ∙ (search reading)))
+    (tie.spec (omega arith) (omega arith) (λ c. c .no-rate .ensures ∙ (search reading)) (omega arith) (λ c. c .untimed .ensures ∙ (search reading)))

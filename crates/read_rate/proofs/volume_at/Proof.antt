@@ -23,4 +23,4 @@ volume-at-spec =
     (omega arith) (omega arith)
     (λ c.
     let o = opened (c .before .before .before .before .before) .open-at .ensures .0 in
-    simp flat (c .rate-read .ensures ∙ (search (step, shut) depth 8))))
+    simp flat (c .untimed .ensures ∙ (search (step, shut) depth 8))))

@@ -19,9 +19,9 @@ unit-at-spec =
     let n = k .before .before .before in
     let o = n .before .before .before in
     rw unit-read (c .no-units4 .ensures ∙ search (step, remains) depth 8))
-    (search needs)
+    (search needs) (search needs)
     (λ c.
-    let k = c .before .before .before in
+    let k = c .before .before .before .before in
     let n = k .before .before .before in
     let o = n .before .before .before in
-    rw unit-read (search (step, shut) depth 8)))
+    rw (unit-read, c .units .ensures) (search (step, shut) depth 8)))

@@ -9,5 +9,5 @@ pub unit-number-at-spec : {M : Type 1} → statement M
 unfolding unitNumber
 unit-number-at-spec =
     tie.close
-    (tie.spec (search needs) (search needs) (search needs) (λ c. c .no-units .ensures ∙ search reading) (λ c. search reading) (search needs) (search needs)
-    (λ c. c .no-units2 .ensures ∙ search reading) (λ c. search reading))
+    (tie.spec (search needs) (search needs) (search needs) (λ c. c .no-units .ensures ∙ search reading) (search needs)
+    (λ c. rw (c .units .ensures) (search reading)) (search needs) (search needs) (λ c. c .no-units2 .ensures ∙ search reading) (search needs) (λ c. rw (c .units2 .ensures) (search reading)))

@@ -1,4 +1,4 @@
-use Rattle.prelude.proofs.Prelude.{refl}
+use Rattle.prelude.proofs.Prelude.{arith, _∙_}
 use Rattle.trace_setups.proofs.setup_of.Statement.{statement}
 use Rattle.trace_setups.proofs.setup_of.Tie as tie
 
@@ -6,4 +6,5 @@ pub setup-of-spec : {M : Type 1} → statement M
 setup-of-spec =
     tie.close
     (tie.spec (λ c κs. c .before .pre) (λ c κs. c .before .before .pre) (λ c κs. c .before .before .before .pre)
-    (λ c. rw (c .asked-from3 .ensures, c .before .asked-from2 .ensures, c .before .before .asked-from .ensures) refl))
+    (omega arith)
+    (λ c. let d = c .before .before in c .event-of .ensures ∙ rw (c .before .asked-from3 .ensures, d .asked-from2 .ensures, d .before .asked-from .ensures)))

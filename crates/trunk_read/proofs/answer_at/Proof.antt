@@ -3,11 +3,11 @@ use Rattle.prelude.proofs.Prelude.{needs, arith, _≡_, refl, _∙_}
 use Rattle.coding.{specs.Reader.after, specs.Reader.blamed, specs.Reader.closed, specs.inner.Shown.shown, proofs.Reading.step, proofs.Reading.stay, proofs.Reading.shut, proofs.Reading.remains}
 use Rattle.types.specs.Frames.{inArgument}
 use Rattle.read_heads.proofs.Codes.{has-below}
-use Rattle.read_figures.proofs.Answers.{refused, surplus, arrived}
+use Rattle.read_figures.proofs.Answers.{refused, surplus}
 use Rattle.trunk_types.specs.{Bodies.resultOf, Components.answerable, Components.noTrunk, Components.leadBy, Components.trunkBy, Components.trunkResult}
 use Rattle.trunk_read_fields.proofs.Stores.{zero-spare}
 use Rattle.trunk_read_frames.proofs.Marked.{refused-in, goes-under}
-use Rattle.trunk_read.proofs.{Frames.answer-read, answer_at.Statement.statement}
+use Rattle.trunk_read.proofs.{Frames.answer-read, Frames.arrived-as, answer_at.Statement.statement}
 use Rattle.trunk_read.proofs.answer_at.Tie as tie
 
 -- what is left to read where the operation is read
@@ -65,8 +65,8 @@ answer-at-spec =
     let n = k .before .before .before in
     let h = n .before .before in
     let b = h .before .before in (
-      arrived _ _ (c .reached .ensures)
-          (rw (k .keep-lead .ensures .0 _ _) (goes-under _ _ _ _ inArgument _ (b .result-at .ensures .0) (h .if4 .left) (shut _ _ _ _ _ (n .if5 .left))))
+      arrived-as _ _ (c .reached .ensures) (k .keep-lead .ensures .0 _ _)
+          (goes-under _ _ _ _ inArgument _ (b .result-at .ensures .0) (h .if4 .left) (shut _ _ _ _ _ (n .if5 .left)))
           ∙ led (known b),
       k .keep-lead .ensures .1,
     )))

@@ -1,7 +1,7 @@
 -- Each return by the answers that led to it.
 use Rattle.prelude.proofs.Prelude.{arith, needs, _≡_, refl, _∙_, length, getD}
-use Rattle.coding.{specs.Reader.after, specs.Reader.closed, specs.inner.Shown.shown, proofs.Reading.step, proofs.Reading.stay, proofs.Reading.shut, proofs.Reading.remains}
-use Rattle.read_figures.proofs.Answers.{refused, surplus, arrived, goes}
+use Rattle.coding.{specs.Reader.after, specs.Reader.closed, specs.inner.Shown.shown, proofs.Reading.step, proofs.Reading.stay}
+use Rattle.read_figures.proofs.Answers.{refused, closes}
 use Rattle.trunk_types.specs.Components.{noTrunk, trunkFrame, trunkComponent}
 use Rattle.trunk_read_fields.proofs.Stores.{zero-spare}
 use Rattle.trunk_read.proofs.{Frames.component-read, component_at.Statement.statement}
@@ -29,6 +29,4 @@ component-at-spec =
     let b = c .before .before .before .before in
     let e = b .before .before .before .before in
     ((e .enter .ensures .1 .1, omega (arith, e .enter .ensures .1 .1)), e .before .before .pre .1)) (search needs)
-    (λ c. let f = c .before .before .before in (search (refused, stay) ∙ entered f, f .frame-at .ensures .1)) (search needs)
-    (λ c. let f = c .before .before .before .before .before .before in (search (surplus, goes, remains) ∙ entered f, f .frame-at .ensures .1)) (search needs)
-    (λ c. let f = c .before .before .before .before .before .before in (search (arrived, goes, shut) ∙ entered f, f .frame-at .ensures .1)))
+    (λ c. let f = c .before in (closes _ _ _ _ _ _ (c .closed .ensures) (f .frame-at .ensures .0) ∙ entered f, f .frame-at .ensures .1)))

@@ -11,6 +11,7 @@ pub frame-at-spec : {M : Type 1} → statement M
 unfolding trunkFrame
 frame-at-spec =
     tie.close
-    (tie.spec (λ c κs. search needs) (λ c. (search tags, search)) (λ c κs. search needs) (λ c. (search tags, search)) (λ c κs. search needs)
-    (λ c. (search (uncharged, tags) depth 8, search)) (λ c κs. search needs) (λ c. (search (front-alone, tags) depth 8, search)) (λ c κs. search needs)
-    (λ c. (search (figure-alone, tags) depth 8, search)))
+    (tie.spec (λ c κs. search needs) (λ c κs. search needs) (λ c κs. search needs) (λ c κs. search needs) (λ c κs. search needs) (λ c. (search tags, search))
+    (λ c. (search (tags, c .before .before .before .before .before .before .match .keys2), search))
+    (λ c. (search (uncharged, tags, c .before .before .before .match .keys3) depth 8, search))
+    (λ c. (search (front-alone, tags, c .before .before .match .keys4) depth 8, search)) (λ c. (search (figure-alone, tags) depth 8, search)))

@@ -3,7 +3,7 @@ use Rattle.prelude.proofs.Prelude.{arith, needs, _≡_, refl, _∙_, replicate}
 use Rattle.coding.{specs.Reader.after, specs.Reader.closed, specs.inner.Shown.shown, proofs.Reading.reading, proofs.Reading.step}
 use Rattle.types.specs.Stored.{storedCharge}
 use Rattle.read_lengths.specs.inner.Bounds.{Bounded}
-use Rattle.read_figures.proofs.Answers.{storing, goes}
+use Rattle.read_figures.proofs.Answers.{storing, goes, closes-as}
 use Rattle.trunk_types.specs.{Extensions.anyExtension, Bodies.noBody, Bodies.withExtension, Bodies.extended, Stored.Spare}
 use Rattle.trunk_read_fields.{specs.inner.Fields.innerIn, proofs.Stores.zero-spare}
 use Rattle.trunk_read_bodies.specs.inner.Bodied.{innerOf}
@@ -32,12 +32,7 @@ extended-at-spec =
     tie.close
     (tie.spec (omega arith) (omega arith) (λ c. (rw extended-read (search (storing, reading)), search zero-spare)) (λ c κs. search needs) (omega arith)
     (λ c. (rw extended-read (search (storing, reading) depth 8), search)) (λ c κs. let m = bodied (c .before) in (m .2, m .3)) (omega arith)
-    (λ c. let m = bodied (c .before .before .before .before .before) in (search (storing, reading) ∙ m .0, m .1)) (omega arith)
     (λ c.
-    let x = c .before .before .before .before .before .before in
+    let x = c .before in
     let m = bodied (x .before .before) in
-    (search (storing, reading) ∙ m .0, m .1)) (omega arith)
-    (λ c.
-    let x = c .before .before .before .before .before .before in
-    let m = bodied (x .before .before) in
-    (rw body-stored (search (storing, reading) ∙ m .0), m .1)))
+    (rw body-stored (closes-as _ _ _ _ _ _ (c .closed .ensures) (x .extension-if .ensures) (λ y. withExtension y (innerIn _ (storedCharge _ _ _))) noBody ∙ m .0), m .1)))

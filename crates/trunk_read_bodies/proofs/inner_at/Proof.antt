@@ -12,7 +12,7 @@ pub inner-at-spec : {M : Type 1} → statement M
 unfolding innerOf
 inner-at-spec =
     tie.close
-    (tie.spec (λ c κs. search needs) (λ c. (search (uncharged, forms), search)) (λ c κs. search needs) (λ c. (search (uncharged, forms), search))
-    (λ c κs. search needs) (λ c. (search (uncharged, forms) depth 8, search)) (λ c κs. search needs) (λ c. (search (unlisted, forms) depth 8, search))
-    (λ c κs. search needs) (λ c. (search (unlisted, forms) depth 8, search)) (λ c κs. search needs)
-    (λ c. (search (charge-alone, forms) depth 8, search zero-spare)))
+    (tie.spec (λ c κs. search needs) (λ c κs. search needs) (λ c κs. search needs) (λ c κs. search needs) (λ c κs. search needs) (λ c κs. search needs)
+    (λ c. (search (uncharged, forms), search)) (λ c. (search (uncharged, forms, c .before .before .match .keys2), search))
+    (λ c. (search (uncharged, forms, c .before .before .match .keys3) depth 8, search)) (λ c. (search (unlisted, forms, c .before .before .before .match .keys4) depth 8, search))
+    (λ c. (search (unlisted, forms, c .before .before .before .match .keys5) depth 8, search)) (λ c. (search (charge-alone, forms) depth 8, search zero-spare)))

@@ -1,11 +1,9 @@
 -- Each return by the answers that led to it.
 use Rattle.prelude.proofs.Prelude.{arith}
 use Rattle.coding.proofs.Reading.{reading, step}
-use Rattle.trunk_read_extensions.proofs.{Told.one-is, Told.handed, Told.handed-on, one_at.Statement.statement}
+use Rattle.trunk_read_extensions.proofs.{Told.one-is, one_at.Statement.statement}
 use Rattle.trunk_read_extensions.proofs.one_at.Tie as tie
 
 pub one-at-spec : {M : Type 1} → statement M
 one-at-spec =
-    tie.close
-    (tie.spec (omega arith) (omega arith) (λ c. rw (c .halted .ensures, one-is) (search reading)) (omega arith) (omega arith)
-    (λ c. rw (c .halted2 .ensures, one-is) (search (step, handed))) (omega arith) (λ c. rw (c .reached .ensures, one-is) (search (step, handed-on))))
+    tie.close (tie.spec (omega arith) (omega arith) (λ c. rw (c .halted .ensures, one-is) (search reading)) (omega arith) (λ c. rw one-is (search step)))

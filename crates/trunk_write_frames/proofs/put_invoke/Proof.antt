@@ -4,16 +4,16 @@ use Rattle.trunk_write_frames.proofs.{Frames.{invoke-body, invoke-opera
 use Rattle.trunk_write_frames.proofs.put_invoke.Tie as tie
 
 abbrev start : tie.After-id-of → tie.Start
-start i = i .before .before .before
+start i = i .before .before .before .before
 
 put-small-requires : tie.Need-put-small-requires
 put-small-requires c κs =
-    let w = c .before .before .before .before in let i = w .before in let p = start i .pre in
+    let w = c .before .before .before in let i = w .before in let p = start i .pre in
     (invoke-operation _ (p .valid), room-mid _ (invoke-split _ (p .valid) (i .id-of .ensures)) (p .room) (w .put-id .ensures))
 
 put-body-requires : tie.Need-put-body-requires
 put-body-requires c κs =
-    let v = c .before .before .before .before in let w = v .before .before .before .before .before in let i = w .before in let p = start i .pre in
+    let v = c .before .before .before in let w = v .before .before .before .before in let i = w .before in let p = start i .pre in
     record {
       valid = invoke-body _ (p .valid);
       few = omega (arith, invoke-within _ (p .valid), p .few);
@@ -22,12 +22,12 @@ put-body-requires c κs =
 
 returns : tie.Need-returns
 returns c =
-    let u = c .before .before in let v = u .before .before .before .before .before in let w = v .before .before .before .before .before in let i = w .before in
+    let u = c .before .before in let v = u .before .before .before .before in let w = v .before .before .before .before in let i = w .before in
     wrote-three (invoke-split _ (start i .pre .valid) (i .id-of .ensures)) (w .put-id .ensures) (v .put-small .ensures) (u .put-body .ensures)
 
 pub put-invoke-spec : {M : Type 1} → statement M
 put-invoke-spec =
     tie.close
-    (tie.spec (λ c κs. omega arith)
+    (tie.spec (λ c. omega arith) (λ c κs. omega arith)
     (λ c κs. let p = start c .pre in room-1 _ (invoke-split _ (p .valid) (c .id-of .ensures)) (p .room))
-    (λ c. omega arith) put-small-requires (λ c. omega arith) put-body-requires (λ c. omega arith) returns)
+    put-small-requires put-body-requires (λ c. omega arith) returns)

@@ -19,13 +19,13 @@ put-lead-requires c κs =
 
 put-small-requires : tie.Need-put-small-requires
 put-small-requires c κs =
-    let l = c .before .before .before .before in let i = l .before .before .before .before in let b = sized i in let p = start b .pre in
+    let l = c .before .before .before in let i = l .before .before .before .before in let b = sized i in let p = start b .pre in
     let o = result-split _ (p .valid) (b .before .result-form .ensures) (b .body-size .ensures .0) (i .before .id-of .ensures) in
     (result-operation _ (p .valid), room-head _ (room-tail (l .put-lead .ensures) (room-2 o (p .room) (i .put-id .ensures))))
 
 put-body-requires : tie.Need-put-body-requires
 put-body-requires c κs =
-    let t = c .before .before .before in let l = t .before .before .before .before .before in let i = l .before .before .before .before in
+    let t = c .before .before .before in let l = t .before .before .before .before in let i = l .before .before .before .before in
     let b = sized i in let p = start b .pre in
     let f = b .before .result-form .ensures in
     let n = b .body-size .ensures .0 in
@@ -38,7 +38,7 @@ put-body-requires c κs =
 
 returns : tie.Need-returns
 returns c =
-    let w = c .before .before in let t = w .before .before .before .before in let l = t .before .before .before .before .before in
+    let w = c .before .before in let t = w .before .before .before .before in let l = t .before .before .before .before in
     let i = l .before .before .before .before in
     let b = sized i in
     wrote-two (result-split _ (start b .pre .valid) (b .before .result-form .ensures) (b .body-size .ensures .0) (i .before .id-of .ensures))
@@ -53,4 +53,4 @@ put-result-spec =
     let b = c .before .before in let p = start b .pre in
     room-1 _ (result-split _ (p .valid) (b .before .result-form .ensures) (b .body-size .ensures .0) (c .id-of .ensures)) (p .room))
     (λ c. let i = c .before .before .before in omega (arith, sized i .body-size .ensures .1))
-    put-lead-requires (λ c. omega arith) put-small-requires put-body-requires (λ c. omega arith) returns)
+    put-lead-requires put-small-requires put-body-requires (λ c. omega arith) returns)

@@ -7,5 +7,4 @@ use Rattle.trunk_write_tests.proofs.list_fine.Tie as tie
 
 pub list-fine-spec : {M : Type 1} → statement M
 unfolding listIf figureIn
-list-fine-spec =
-    tie.close (tie.spec (omega arith) (omega arith) (λ c κs. omega arith) (λ c. search tests) (λ c. search tests) (λ c κs. omega arith) (λ c. search tests))
+list-fine-spec = tie.close (tie.spec (omega arith) (omega arith) (λ c κs. omega arith) (λ c. search tests) (λ c κs. omega arith) (λ c. search tests) (λ c. search tests))

@@ -40,9 +40,9 @@ loop-again c =
 
 returns : tie.Need-returns Inv-loop μ-loop
 returns c =
-    let l = c .before .before .before in
+    let l = c .before .before in
     let x = l .before .before .before .before .args in
-    let e : l .loop .i ≡ length (x .rows .now) / 6 = omega (arith, l .loop .inv .0, c .before .before .loop-test .left) in
+    let e : l .loop .i ≡ length (x .rows .now) / 6 = omega (arith, l .loop .inv .0, c .before .loop-test .left) in
     c .concluded .ensures ∙ run-ends (x .rows .now) (x .octets .now) (l .loop .i) (l .loop .state) e (l .loop .inv .2)
 
 pub explained-spec : {M : Type 1} → statement M

@@ -4,4 +4,4 @@ use Rattle.write_heads.proofs.reject_fine.Tie as tie
 pub reject-fine-spec : {M : Type 1} → statement M
 reject-fine-spec =
     tie.close
-    (tie.spec (omega arith) (λ c. search (reject-is, told-no)) (λ c. search (tests, reject-is)) (λ c. search (tests, reject-is)) (omega arith) (λ c. search (tests, reject-is, told-yes)))
+    (tie.spec (omega arith) (omega arith) (λ c. search (tests, reject-is, told-yes)) (λ c. search (tests, reject-is, told-yes)) (λ c. search (tests, reject-is, told-yes)) (λ c. search (reject-is, told-no)))

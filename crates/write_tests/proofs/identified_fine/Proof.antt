@@ -4,7 +4,6 @@ use Rattle.write_tests.proofs.{Tests.identified-is, Tests.zeros-lent, i
 use Rattle.write_tests.proofs.identified_fine.Tie as tie
 
 pub identified-fine-spec : {M : Type 1} → statement M
-identified-fine-spec =
-    tie.close
-    (tie.spec (λ c. search (tests, identified-is)) (λ c. search (tests, identified-is)) (λ c. search (tests, identified-is)) (omega arith)
-    (λ c. search (needs, tests, identified-is, zeros-lent)))
+identified-fine-spec = tie.close
+    (tie.spec (omega arith) (λ c. search (needs, tests, identified-is, zeros-lent)) (λ c. search (tests, identified-is)) (λ c. search (tests, identified-is))
+    (λ c. search (tests, identified-is)))

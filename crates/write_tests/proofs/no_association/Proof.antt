@@ -4,5 +4,4 @@ use Rattle.write_tests.proofs.{Tests.zeros-lent, no_association.Stateme
 use Rattle.write_tests.proofs.no_association.Tie as tie
 
 pub no-association-spec : {M : Type 1} → statement M
-no-association-spec =
-    tie.close (tie.spec (λ c. search tests) (λ c. search tests) (λ c. search tests) (λ c. search tests) (omega arith) (λ c. search (needs, tests, zeros-lent)))
+no-association-spec = tie.close (tie.spec (omega arith) (λ c. search (needs, tests, zeros-lent)) (λ c. search tests) (λ c. search tests) (λ c. search tests) (λ c. search tests))

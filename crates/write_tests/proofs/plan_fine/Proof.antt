@@ -11,7 +11,6 @@ plain : (e : tie.Else1) → isPlanned true (e .before .before .args .kind) ≡ f
 plain e = sym (e .before .is-planned .ensures) ∙ e .if1 .left
 
 pub plan-fine-spec : {M : Type 1} → statement M
-plan-fine-spec =
-    tie.close
-    (tie.spec (omega arith) (λ c. search (tests, planned (c .before))) (λ c. search (tests, planned (c .before))) (λ c. search (tests, plain (c .before)))
-    (λ c. search (tests, zero-first, plain (c .before))))
+plan-fine-spec = tie.close
+    (tie.spec (omega arith) (λ c. search (tests, planned (c .before))) (λ c. search (tests, planned (c .before)))
+    (λ c. search (tests, zero-first, plain (c .before))) (λ c. search (tests, plain (c .before))))

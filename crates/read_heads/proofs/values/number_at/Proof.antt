@@ -10,8 +10,8 @@ pub number-at-spec : {M : Type 1} → statement M
 unfolding value barring lookedUp prim listed primitive
 number-at-spec =
     tie.close
-    (tie.spec (omega arith) (λ c u ks low. rw (unlisted ks low) (picks _ _ _ _ _ _ _ (c .before .is-tag .ensures) (c .if1 .taken) (halts _ _ _))) (omega arith) (omega arith)
-    (λ c u ks low. looked-halted _ _ _ (c .no-value .ensures) (c .before .if2 .taken) (search (skips, stay))) (omega arith) (omega arith)
-    (λ c u ks low. looked-halted _ _ _ (c .no-value2 .ensures) (λ e. omega (arith, e)) (search (skips, step, numbering))) (omega arith) (omega arith)
-    (λ c u ks low. looked-halted _ _ _ (c .no-value3 .ensures) (λ e. omega (arith, e)) (search (skips, step, numbering))) (omega arith) (omega arith)
-    (λ c u ks low. search (skips, step, numbering)) (λ c u ks low. search (skips, step, numbering)))
+    (tie.spec (omega arith) (omega arith) (λ c u ks low. let k = c .before in rw (c .number .ensures, unlisted ks low) (picks _ _ _ _ _ _ _ (k .before .is-tag .ensures) (k .if1 .taken) (halts _ _ _)))
+    (omega arith) (omega arith) (λ c u ks low. looked-halted _ _ _ (c .no-number .ensures) (c .before .if2 .taken) (search (skips, stay))) (omega arith) (omega arith)
+    (λ c u ks low. looked-halted _ _ _ (c .no-number2 .ensures) (λ e. omega (arith, e)) (search (skips, step, numbering))) (omega arith) (omega arith)
+    (λ c u ks low. looked-halted _ _ _ (c .no-number3 .ensures) (λ e. omega (arith, e)) (search (skips, step, numbering))) (omega arith) (omega arith)
+    (λ c u ks low. rw (c .number2 .ensures) (search (skips, step, numbering))) (omega arith) (omega arith) (λ c u ks low. rw (c .number3 .ensures) (search (skips, step, numbering))))

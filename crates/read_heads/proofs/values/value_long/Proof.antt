@@ -15,7 +15,7 @@ value-long-spec =
     (λ c.
     let n = c .before .before .before in
     let looked = n .number-at .ensures (unknownIn (frame n)) (knownIn (frame n)) (known-low (frame n) .0) in
-    rw (c .no-value .ensures) (rw (ne-eqb _ _ (c .before .if1 .taken)) at looked, omega arith)) (omega arith)
+    rw (c .no-number .ensures) (rw (ne-eqb _ _ (c .before .if1 .taken)) at looked, omega arith)) (omega arith)
     (λ c.
     let k = c .before in
     let n = k .before .before .before in
@@ -28,5 +28,5 @@ value-long-spec =
     let n = k .before .before .before in
     let looked = n .number-at .ensures (unknownIn (frame n)) (knownIn (frame n)) (known-low (frame n) .0) in
     let strange = sym (k .is-known .ensures) ∙ e .if2 .left in
-    rw (c .no-value2 .ensures, c .before .unknown .ensures)
+    rw (c .no-number2 .ensures, c .before .unknown .ensures)
     (rw (eq-eqb _ _ (k .before .if1 .left), strange) at looked, omega arith)))

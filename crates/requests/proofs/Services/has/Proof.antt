@@ -1,10 +1,9 @@
-use Rattle.prelude.proofs.Prelude.{arith, ne-eqb}
+use Rattle.prelude.proofs.{Prelude.arith, Ways.ways}
 use Rattle.requests.proofs.Services.has.Statement.{statement}
 use Rattle.requests.proofs.Services.has.Tie as tie
 
 pub has-spec : {M : Type 1} → statement M
 has-spec =
-    tie.close
-    (tie.spec (omega arith) (λ c. rw (c .before .if1 .taken) (c .has-s .ensures)) (omega arith) (λ c. rw (c .before .if2 .taken) (c .has-d .ensures))
-    (omega arith) (λ c. rw (c .before .if3 .taken) (c .has-e .ensures))
-    (λ c. simp (ne-eqb _ _ (c .before .before .if1 .left), ne-eqb _ _ (c .before .if2 .left), ne-eqb _ _ (c .if3 .left))))
+    tie.close (tie.spec
+    (omega arith) (omega arith) (omega arith) (λ c. rw (c .before .match .keys1) (c .has-s .ensures)) (λ c. rw (c .before .match .keys2) (c .has-d .ensures))
+    (λ c. rw (c .before .match .keys3) (c .has-e .ensures)) (λ c. search ways))

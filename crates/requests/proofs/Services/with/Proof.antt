@@ -5,7 +5,6 @@ use Rattle.requests.proofs.Services.with.Tie as tie
 pub with-spec : {M : Type 1} → statement M
 with-spec =
     tie.close (tie.spec
-    (omega arith) (λ c. grown _ _ _ (rw (c .before .if1 .taken) (c .with-s .ensures))) (omega arith)
-    (λ c. grown _ _ _ (rw (c .before .if2 .taken) (c .with-d .ensures))) (omega arith)
-    (λ c. grown _ _ _ (rw (c .before .if3 .taken) (c .with-e .ensures)))
-    (λ c. grown _ _ _ (simp (ne-eqb _ _ (c .before .before .if1 .left), ne-eqb _ _ (c .before .if2 .left), ne-eqb _ _ (c .if3 .left)))))
+    (omega arith) (omega arith) (omega arith) (λ c. grown _ _ _ (rw (c .before .match .keys1) (c .with-s .ensures)))
+    (λ c. grown _ _ _ (rw (c .before .match .keys2) (c .with-d .ensures))) (λ c. grown _ _ _ (rw (c .before .match .keys3) (c .with-e .ensures)))
+    (λ c. grown _ _ _ (simp (ne-eqb _ _ (c .match .rest .0 .0 .1), ne-eqb _ _ (c .match .rest .0 .1), ne-eqb _ _ (c .match .rest .1)))))
