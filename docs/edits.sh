@@ -51,8 +51,8 @@ elif "does not close" in says or "`search`: no proof" in head:
     what = ""  # it is not found
 elif "two ends are equal" in says or "last argument" in head:
     what = "unequal"
-elif "differ" in head or "expected type" in says:
-    what = ""  # two types that differ, too long to tell
+elif "differ" in head or "expected type" in says or " ≟ " in says and "does not hold" in says:
+    what = ""  # two types or values that differ, too long to tell
 else:
     sys.exit(f"{sys.argv[1]}: {place}, {need}: no fact that this script knows: {head}")
 print(f"`{place}`: `{need}`" + (f"; {what}" if what else ""))
