@@ -2,6 +2,8 @@
 //
 // What a host holds is flat structs of numbers: its memory may hold anything, and any value has its answer.
 // Services are numbered 1 S, 2 D, 3 E. Phases: 0 Idle, 1 Establishment, 2 Active, 3 Clearing, 4 Ended, 5 Suspended.
+#![tactic(auto)]
+
 ghost use Rattle.std.specs.Prelude.{◌≡◌, List};
 ghost use Rattle.types.specs.Arguments.{no_charge};
 ghost use Rattle.phases.specs.Phases.{Component, Given};
@@ -16,7 +18,7 @@ use types::{Charge, charge_kind};
 
 // The rate, the running figure and the finals of D and E, as they were received; a figure of kind 0 is none.
 #[repr(C)]
-#[derive(Drop)]
+#[derive(Clone, Copy)]
 pub struct Account {
     pub status: Status,
     pub rate: Charge,

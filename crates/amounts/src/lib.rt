@@ -1,4 +1,6 @@
 // Amounts: in thousandths, and when two are equal. Every value of the structs has its answer: a count past its array counts as the array's length.
+#![tactic(auto)]
+
 ghost use Rattle.std.specs.Prelude.{◌≡◌, ◌*◌, ◌≤◌, ◌<◌, get_or};
 ghost use Rattle.types.specs.Thousandths.{powers};
 ghost use Rattle.amounts.specs.Currency.{counted, equal_currency};

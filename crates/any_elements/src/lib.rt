@@ -2,6 +2,8 @@
 //
 // What calls itself here does so for each element, up to an end that Bounded holds to 257 octets, and a call goes on past two octets
 // or more. It answers one number, so that a call takes little of the stack.
+#![tactic(auto)]
+
 ghost use Rattle.std.specs.Prelude.{◌+◌, ◌-◌, ◌*◌, ◌/◌, ◌%◌, ◌≤◌, ◌<◌, ◌≡◌, true, cond, leb, eqb, length};
 ghost use Rattle.coding.specs.inner.Shown.{shown};
 ghost use Rattle.coding.specs.Normal.{several_at, any_element};

@@ -1,6 +1,8 @@
 // The C library: every function that a host calls. include/aoc.h says each one's promise in words.
 //
 // Each is thin: it hands on what it is handed, and promises what the function that it calls promises.
+#![tactic(auto)]
+
 ghost use Rattle.std.specs.Prelude.{◌≡◌, [], false, ◌&&◌, ◌||◌, ℕ, ◌*◌, ◌≤◌, get_or, length, eqb};
 ghost use Rattle.std.specs.Int.{w16};
 ghost use Rattle.std.proofs.Common.{to_z};

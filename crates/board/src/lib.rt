@@ -1,6 +1,8 @@
 // A switchboard: a table of 64 accounts by call reference in the caller's memory, changed in place.
 //
 // Which slot an operation goes to and what is in it then is found by value, in the crate board_rules.
+#![tactic(auto)]
+
 ghost use Rattle.std.specs.Prelude.{◌≡◌};
 ghost use Rattle.board_rules.specs.Board.{boarded, event_on, emptied, collect_on, view_on};
 

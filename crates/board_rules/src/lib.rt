@@ -2,6 +2,8 @@
 //
 // A slot is free, or held by one reference with one account. A call's slot is freed when what it closed with has been collected.
 // The crate board has the caller's table and changes it by these functions.
+#![tactic(auto)]
+
 ghost use Rattle.std.specs.Prelude.{◌+◌, ◌≡◌};
 ghost use Rattle.account.specs.History.{fresh_status};
 ghost use Rattle.phases.specs.inner.ByNumber.{moving_of};

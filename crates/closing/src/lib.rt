@@ -1,4 +1,6 @@
 // Whether a closing figure is in range. A host hands it over, so that it may hold anything.
+#![tactic(auto)]
+
 ghost use Rattle.std.specs.Prelude.{◌≡◌, ◌≤◌};
 ghost use Rattle.types.specs.Arguments.{charge_of};
 ghost use Rattle.closing.specs.Range.{closing_service, operation_of, in_range};

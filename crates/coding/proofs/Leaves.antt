@@ -1,7 +1,7 @@
 -- The laws of the other leaves: strings, NULL; identifiers by those of Signed.
 use Rattle.prelude.proofs.Prelude.{ℕ, ◌≤◌, ◌<◌, ◌≡◌, refl, sym, List, [], ◌∷◌, Bool, true, false, true≢false, length, ltb, ltb-false, leb-true, le-ltb, le-leb}
 use Rattle.coding.specs.{Contents.every, Contents.text, Contents.null, Leaves.string, Leaves.null_leaf}
-use Rattle.coding.proofs.{Basic.cond_case, Basic.and_left, Basic.and_right, Basic.and_both, Basic.octets_none, Basic.octets_cons, Laws.Octets, Laws.LeafLaws, Digits.fit, Digits.out}
+use Rattle.coding.proofs.{Basic.cond_case, Basic.and_left, Basic.and_right, Basic.and_both, Basic.octets_none, Basic.octets_cons, Laws.Octets, Laws.LeafLaws, Digits.Fit, Digits.fit, Digits.out}
 use Rattle.coding.proofs.{Digits.decide, Digits.leaf_laws}
 pub use Rattle.coding.proofs.Signed.{identifier_laws}
 
@@ -25,6 +25,11 @@ string_laws low high ok small =
     simp (le-ltb, o))
     (λ xs v. every_octet ok small xs (search and_right))
 
+null_fits : (xs : List ℕ) → Fit (λ x. (xs ≡ null_leaf.write x) × (null_leaf.valid x ≡ true)) (null_leaf.judge xs)
+unfolding null_leaf null
+null_fits [] = fit {a = tt} (refl, refl)
+null_fits (y ∷ ys) = out
+
 pub null_laws : LeafLaws null_leaf
 unfolding null_leaf null
-null_laws = leaf_laws (λ xs os. elim xs [ [] ↦ fit (refl, refl) | y ∷ ys ↦ out ]) (λ x v. refl) (λ x v. octets_none)
+null_laws = leaf_laws (λ xs os. null_fits xs) (λ x v. refl) (λ x v. octets_none)

@@ -1,6 +1,7 @@
 // The encoding rules (BER) that the components use: definitions, their laws and the structs.
 //
 // The code that reads elements is in read_elements, the code that writes them in write_elements.
+#![tactic(auto)]
 
 // The contents of an element: from start up to stop.
 #[derive(Drop)]

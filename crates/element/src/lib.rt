@@ -1,4 +1,6 @@
 // The Facility information element: where its components begin.
+#![tactic(auto)]
+
 ghost use Rattle.std.specs.Prelude.{◌≡◌, true, ◌≤◌, length};
 ghost use Rattle.element.specs.Element.{element_of, malformed, starts_found, tiles_in, is_profile, led};
 

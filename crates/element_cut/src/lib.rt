@@ -1,4 +1,6 @@
 // One pass over a Facility element: where its components begin, and the place after the one that begins at a given place.
+#![tactic(auto)]
+
 ghost use Rattle.std.specs.Prelude.{◌≡◌, cond, ◌≤◌, ◌<◌, length, eqb};
 ghost use Rattle.element.specs.Element.{element_of, malformed, starts_found, tiles_in};
 ghost use Rattle.element.specs.Cut.{starts_of};

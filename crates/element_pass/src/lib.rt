@@ -1,4 +1,6 @@
 // One pass over a Facility element: the next component's record or refusal with the place after it, or the end.
+#![tactic(auto)]
+
 ghost use Rattle.std.specs.Prelude.{◌≡◌, ◌≤◌, ◌<◌, length, replicate};
 ghost use Rattle.types.specs.Frames.{refused};
 ghost use Rattle.element_pass.specs.Pass.{found_at, pass_of, whole_next};

@@ -1,4 +1,6 @@
 // A Facility element, written round components.
+#![tactic(auto)]
+
 ghost use Rattle.std.specs.Prelude.{◌≡◌, true, [], ◌∷◌, ◌+◌, ◌≤◌, length};
 ghost use Rattle.coding.specs.inner.Written.{Wrote, Room};
 ghost use Rattle.element.specs.Element.{is_profile};

@@ -1,6 +1,8 @@
 // A call's event list in two slices: rows of six numbers, and the octets of all events end to end.
 //
 // A row: the kind; the services asked for, 1 S, 2 D, 4 E added up; the identifiers of S, D, E; how many of the octets are the event's.
+#![tactic(auto)]
+
 ghost use Rattle.std.specs.Prelude.{◌<◌, ◌/◌, ◌%◌, ◌≡◌, cond, length, eqb};
 ghost use Rattle.coding.specs.inner.Written.{Wrote, Room};
 ghost use Rattle.events.specs.Events.{kind_of, set_of, row_at, count_at, adds_up, rows_fit};

@@ -2,6 +2,8 @@
 //
 // The list is gone over once, with an account beside what was seen. Two currencies are remembered: that of the latest counted amount and the one before it.
 // Only an amount in a third one has the list gone over up to it again.
+#![tactic(auto)]
+
 ghost use Rattle.std.specs.Prelude.{◌+◌, ◌≤◌, ◌/◌, ◌≡◌, true, length};
 ghost use Rattle.types.specs.Thousandths.{thousandths};
 ghost use Rattle.account.specs.History.{judged};
@@ -38,7 +40,7 @@ struct State {
 }
 
 // The latest counted amount of D in any currency; found: 0 for none yet.
-#[derive(Drop)]
+#[derive(Clone, Copy)]
 struct Latest {
     pub found: u64,
     pub money: Money,

@@ -1,4 +1,6 @@
 // Says whether an event breaks a rule that the exchange has to keep, by value, and what is remembered of the events so far.
+#![tactic(auto)]
+
 ghost use Rattle.std.specs.Prelude.{◌≡◌, eqb};
 ghost use Rattle.outcomes.specs.Outcome.{is_refusal};
 ghost use Rattle.fault_rules.specs.Figures.{invokes_d, amount_kind, is_counted, nothing_by, zero_units, is_zero, fault_answer};

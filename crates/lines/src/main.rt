@@ -6,6 +6,8 @@
 // the input comes in parts and however long its lines are.
 // Not proved, since no contract can say what is read or written: that each part of the input is handed on once, that `once`
 // closes a last line, and that the answers go out whole and in order. tests/lines.sh compares that with the second program.
+#![tactic(auto)]
+
 ghost use Rattle.std.specs.Prelude.{◌≡◌, true, ◌+◌, ◌≤◌, ◌<◌, length};
 ghost use Rattle.coding.specs.inner.Written.{Wrote};
 ghost use Rattle.lines_rules.specs.Lines.{text_for};

@@ -1,4 +1,6 @@
 // The parts of the line program: a line's octets from its characters as they come, and an answer's characters put into a buffer.
+#![tactic(auto)]
+
 ghost use Rattle.std.specs.Prelude.{◌≡◌, true, ◌||◌, [], ◌∷◌, ◌+◌, ◌/◌, ◌%◌, ◌≤◌, ◌<◌, length, take, eqb};
 ghost use Rattle.coding.specs.inner.Written.{Wrote};
 ghost use Rattle.lines_rules.specs.Text.{glyph, hex_text, refused_text, bad_text};
@@ -24,7 +26,7 @@ pub mod line_phase {
 }
 
 // What is known of a line that is not ended. count: its octets so far, 255 for 255 or more. high: the first digit's value.
-#[derive(Drop)]
+#[derive(Clone, Copy)]
 pub struct Line {
     pub count: usize,
     pub phase: u8,

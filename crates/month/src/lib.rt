@@ -1,6 +1,8 @@
 // A month's figures per currency: closing figures are added one after another.
 //
 // The month is handed over by value. A host's memory may hold anything: every value has its answer.
+#![tactic(auto)]
+
 ghost use Rattle.std.specs.Prelude.{◌≡◌};
 ghost use Rattle.month.specs.Add.{add_of};
 

@@ -1,6 +1,8 @@
 // The parts of a month's totals, by value: the rows of currencies, the sums of units by type, the table of services and billing identifications.
 //
 // A host's memory may hold anything. A count past its places counts them all, and a sum wraps where no month that began empty has it so: every value has its answer.
+#![tactic(auto)]
+
 ghost use Rattle.std.specs.Prelude.{◌≡◌, ◌<◌, ◌≤◌};
 ghost use Rattle.types.specs.Entries.{unit_at};
 ghost use Rattle.month_rows.specs.Rows.{row_of, new_row, one_more, raise};
@@ -12,7 +14,7 @@ use types::{Currency, Entries, Units};
 
 // currency: as first received. calls: how many figures. sum: in thousandths.
 #[repr(C)]
-#[derive(Drop)]
+#[derive(Clone, Copy)]
 pub struct Row {
     pub currency: Currency,
     pub unused: u8,

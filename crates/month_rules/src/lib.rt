@@ -1,6 +1,8 @@
 // What a month has, an empty one, and a figure that is in range added to it, by value.
 //
 // A host's memory may hold anything: every value has its answer.
+#![tactic(auto)]
+
 ghost use Rattle.std.specs.Prelude.{◌≡◌, ◌<◌};
 ghost use Rattle.same_final.specs.Same.{up_to};
 ghost use Rattle.month_rows.specs.Rows.{row_of};

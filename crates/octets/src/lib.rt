@@ -1,4 +1,6 @@
 // What reading and writing share: an octet as a number, tests of octets, and octets copied.
+#![tactic(auto)]
+
 ghost use Rattle.std.specs.Prelude.{◌≤◌, ◌<◌, ◌≡◌, ◌&&◌, length, take, replicate, eqb, ltb};
 ghost use Rattle.coding.specs.Reader.{part};
 ghost use Rattle.coding.specs.Codec.{same_list};

@@ -1,6 +1,8 @@
 // A component's outcome, and what the component does to a call's status.
 //
 // Services are numbered 1 S, 2 D, 3 E. Phases: 0 Idle, 1 Establishment, 2 Active, 3 Clearing, 4 Ended, 5 Suspended.
+#![tactic(auto)]
+
 ghost use Rattle.std.specs.Prelude.{◌≡◌, not, ◌&&◌, eqb};
 ghost use Rattle.phases.specs.Phases.{outcome};
 ghost use Rattle.outcomes.specs.Outcome.{service_of, holder_of, judge_final, judge_failure, invoke_service, its};

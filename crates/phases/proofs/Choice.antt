@@ -7,8 +7,8 @@ if_same true x = refl
 if_same false x = refl
 
 -- by whether a number is another
-pub by_number_lem : {P : Type 0} (n k : ℕ) → (n ≡ k → P) → (eqb n k ≡ false → P) → P
-by_number_lem n k p q = by_cases (eqb n k) (λ e. p (eqb-true n k e)) q
+pub by_number : {P : Type 0} (n k : ℕ) → (n ≡ k → P) → (eqb n k ≡ false → P) → P
+by_number n k p q = by_cases (eqb n k) (λ e. p (eqb-true n k e)) q
 
 -- a test that fails and passes
 pub never : {P : Type 0} → false ≡ true → P

@@ -2,6 +2,8 @@
 //
 // What a host holds is flat structs of numbers: its memory may hold anything, and any value has its answer.
 // Services are numbered 1 S, 2 D, 3 E. Phases: 0 Idle, 1 Establishment, 2 Active, 3 Clearing, 4 Ended, 5 Suspended.
+#![tactic(auto)]
+
 ghost use Rattle.std.specs.Prelude.{◌≡◌, ◌&&◌, eqb, ℕ};
 ghost use Rattle.requests.specs.Sets.{empty_set};
 ghost use Rattle.phases.specs.Phases.{clash, asking, clashes, moved, outcome, no_service};
@@ -39,7 +41,7 @@ pub const RESUME: u8 = 7;
 
 // number: 20 to 32, a refusal, or 0 for a phase event that is not refused. service: 0 for none.
 #[repr(C)]
-#[derive(Drop)]
+#[derive(Clone, Copy)]
 pub struct Outcome {
     pub number: u8,
     pub service: u8,
@@ -47,7 +49,7 @@ pub struct Outcome {
 
 // kind: 1 Setup, 2 Connect, 3 Clear, 4 Released, 5 Component, 6 Suspend, 7 Resume. A Setup has the set of services asked for, and their requests' identifiers.
 #[repr(C)]
-#[derive(Drop)]
+#[derive(Clone, Copy)]
 pub struct Event {
     pub kind: u8,
     pub asked: Services,
@@ -59,7 +61,7 @@ pub struct Event {
 // asked: the services with a request pending, and the requests' identifiers. absent: the services reported as not available.
 // conflict: the services with a final that differs from the first.
 #[repr(C)]
-#[derive(Drop)]
+#[derive(Clone, Copy)]
 pub struct Status {
     pub phase: u8,
     pub asked: Services,

@@ -1,4 +1,6 @@
 // A plain engine: every answer about a call's event list is found by going over the list again. No account is kept.
+#![tactic(auto)]
+
 ghost use Rattle.std.specs.Prelude.{◌≡◌, length, eqb};
 ghost use Rattle.outcomes.specs.Status.{place_of};
 ghost use Rattle.events.specs.Events.{adds_up};

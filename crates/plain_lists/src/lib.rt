@@ -1,4 +1,6 @@
 // The plain engine's answers about slices that are an event list: the figures that are kept, the marks, the phase, the closing figure, and the outcome of an event by its number.
+#![tactic(auto)]
+
 ghost use Rattle.std.specs.Prelude.{◌≡◌, true, [], length, eqb};
 ghost use Rattle.types.specs.Charges.{flag};
 ghost use Rattle.outcomes.specs.Outcome.{its};

@@ -1,4 +1,6 @@
 // What the plain engine's scans decide by value: the phase after an event, a service's request, and whether an outcome is the one looked for.
+#![tactic(auto)]
+
 ghost use Rattle.std.specs.Prelude.{◌≡◌, true, cond, ltb};
 ghost use Rattle.phases.specs.Phases.{no_request, asking, request_for};
 ghost use Rattle.outcomes.specs.Outcome.{judge_final};
@@ -10,7 +12,7 @@ use requests::service;
 use types::Charge;
 
 // A service's request: mark 0 for none.
-#[derive(Drop)]
+#[derive(Clone, Copy)]
 pub struct Ask {
     pub mark: u8,
     pub id: u16,

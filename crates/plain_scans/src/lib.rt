@@ -1,6 +1,8 @@
 // The plain engine's scans: what comes before an event of a list, and the outcome of the event, found by going over the list. No account is kept.
 //
 // A scan carries the place in the list and the phase that the events gone over lead to, and nothing of what was found before.
+#![tactic(auto)]
+
 ghost use Rattle.std.specs.Prelude.{◌≡◌, true, List, ℕ, ◌≤◌, ◌<◌, ◌/◌, length};
 ghost use Rattle.outcomes.specs.Outcome.{its, judge, judge_final, first_final, charge_in};
 ghost use Rattle.outcomes.specs.Status.{requests_of};

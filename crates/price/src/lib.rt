@@ -1,4 +1,6 @@
 // The price of a call as the front desk's screen takes it: doubles.
+#![tactic(auto)]
+
 ghost use Rattle.std.specs.Prelude.{◌≡◌, ◌≤◌};
 ghost use Rattle.price.specs.Price.{no_amount, priced_money, price_of};
 

@@ -1,4 +1,6 @@
 // The components of an element one after another, read by the element's own profile octet.
+#![tactic(auto)]
+
 ghost use Rattle.std.specs.Prelude.{◌≡◌};
 ghost use Rattle.trunk_types.specs.Stored.{Spare};
 ghost use Rattle.element_pass.specs.Pass.{pass_with};

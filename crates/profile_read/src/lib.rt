@@ -1,4 +1,6 @@
 // Reads a component by the profile octet of its element: hex 91 is a public line, hex 9F a trunk, and any other octet is refused (17) before all else.
+#![tactic(auto)]
+
 ghost use Rattle.std.specs.Prelude.{◌≡◌};
 ghost use Rattle.types.specs.Frames.{no_record};
 ghost use Rattle.trunk_types.specs.Components.{no_trunk};

@@ -1,4 +1,6 @@
 // The reject in reply to a component, by its profile octet.
+#![tactic(auto)]
+
 ghost use Rattle.std.specs.Prelude.{◌≡◌, length};
 ghost use Rattle.profile_reply.specs.Replies.{called_for, reply_profile, left_profile};
 

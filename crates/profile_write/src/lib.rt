@@ -1,4 +1,6 @@
 // Writes a record by its profile octet: hex 91 is a public line, hex 9F a trunk, and any other octet is refused (17) before all else.
+#![tactic(auto)]
+
 ghost use Rattle.std.specs.Prelude.{◌≡◌, length};
 ghost use Rattle.write.specs.Outcome.{write_of, left_of};
 ghost use Rattle.trunk_write.specs.Outcome.{lent_trunk};

@@ -1,6 +1,8 @@
 // Reads a whole component into a record.
 //
 // What is read is stored in the caller's parts of a record: its front of 8 octets, its figure of 48 and its list's two arrays.
+#![tactic(auto)]
+
 ghost use Rattle.std.specs.Prelude.{◌≡◌, ◌%◌, replicate};
 ghost use Rattle.coding.specs.Reader.Ans.{halt};
 ghost use Rattle.coding.specs.inner.Shown.{shown};

@@ -1,6 +1,8 @@
 // Reads the association of a charge, and a number, into a figure.
 //
 // Each reader takes and answers what those of `read_figures` do. The figure has no association yet, and all beside it stays as it was.
+#![tactic(auto)]
+
 ghost use Rattle.std.specs.Prelude.{◌≡◌, ◌≤◌, length};
 ghost use Rattle.coding.specs.Reader.{part, primitive};
 ghost use Rattle.coding.specs.Codec.{cons, sort};

@@ -2,6 +2,8 @@
 //
 // The readers store what they read where it will lie: a list in two arrays and the rest in the figure's 48 octets, all zero before.
 // After a fault what is stored does not count.
+#![tactic(auto)]
+
 ghost use Rattle.std.specs.Prelude.{◌≡◌};
 ghost use Rattle.coding.specs.inner.Shown.{shown};
 ghost use Rattle.types.specs.Arguments.{no_charge, rates, available};

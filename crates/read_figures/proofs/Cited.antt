@@ -1,2 +1,2 @@
 -- What the proofs of this crate cite again and again, passed on.
-pub use Rattle.prelude.proofs.Prelude.{arith, ◌∙◌, needs, refl}
+pub use Rattle.prelude.proofs.Prelude.{arith, ◌∙◌, rules, refl}

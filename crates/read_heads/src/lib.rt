@@ -1,4 +1,6 @@
 // Heads of components: all that comes before an argument or result. Of a return error or a reject, all.
+#![tactic(auto)]
+
 pub mod values;
 
 ghost use Rattle.std.specs.Prelude.{◌≡◌, [], ◌∷◌, ℕ, ◌+◌, ◌≤◌, ◌<◌, length};
@@ -17,7 +19,7 @@ use types::frame;
 // return error or reject, all.
 // The front's frame is 0 where reading stopped, with the fault, whose place is at.
 // The front is the last field, beside other zeros. Elsewhere its zeros would be one word, in which it would then be put together: 16 more instructions for each component.
-#[derive(Drop)]
+#[derive(Clone, Copy)]
 pub struct Head {
     pub fault: u8,
     pub at: usize,

@@ -2,6 +2,8 @@
 //
 // A reader is given all the octets, a place and the end of the enclosing element. Its answer is a struct: a fault's number, or 0;
 // the fault's place; the value; the place after it. After a fault the value and the next place are zero.
+#![tactic(auto)]
+
 ghost use Rattle.std.specs.Prelude.{ℕ, ◌≤◌, ◌<◌, ◌≡◌, List, length, get_or};
 ghost use Rattle.coding.specs.Reader.{tagged, neither, extent, numbered_at, endless, marker, find_end, spanned, length_at, opened};
 ghost use Rattle.coding.specs.inner.Shown.{shown};

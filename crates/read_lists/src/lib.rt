@@ -1,6 +1,8 @@
 // Reads lists of units and of rates into the two arrays of a record, all zero before, and their count into the figure's 48 octets.
 //
 // After a fault what is stored does not count.
+#![tactic(auto)]
+
 ghost use Rattle.std.specs.Prelude.{◌≡◌};
 ghost use Rattle.coding.specs.inner.Shown.{shown};
 ghost use Rattle.types.specs.Arguments.{no_charge, in_units};

@@ -1,4 +1,6 @@
 // Reading an entry of a list of rates, and keeping it in the list's two arrays.
+#![tactic(auto)]
+
 ghost use Rattle.std.specs.Prelude.{◌≡◌, ◌+◌, ◌*◌, ◌≤◌, ◌<◌, take};
 ghost use Rattle.std.proofs.lemmas.List.Edits.{sets};
 ghost use Rattle.coding.specs.Codec.{sort, pad};

@@ -1,6 +1,8 @@
 // Reads and stores one entry of a list of units. Also says what the argument of each operation holds.
 //
 // All is by value but the stored entry.
+#![tactic(auto)]
+
 ghost use Rattle.std.specs.Prelude.{◌≡◌, false, ◌&&◌, ◌||◌, ◌*◌, ◌≤◌, ◌<◌, eqb};
 ghost use Rattle.std.proofs.lemmas.List.Edits.{sets};
 ghost use Rattle.coding.specs.Reader.{tagged};

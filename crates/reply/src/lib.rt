@@ -1,4 +1,6 @@
 // The reject sent in reply to a component that is refused.
+#![tactic(auto)]
+
 ghost use Rattle.std.specs.Prelude.{◌≡◌, length};
 ghost use Rattle.reply.specs.Reply.{reply_given, left_given, reply_of, reply_left};
 

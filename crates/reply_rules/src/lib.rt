@@ -1,4 +1,6 @@
 // Makes the reject that must be sent for a refused component, as a record.
+#![tactic(auto)]
+
 ghost use Rattle.std.specs.Prelude.{◌≡◌};
 ghost use Rattle.types.specs.Frames.{front_by, uncharged};
 ghost use Rattle.reply_rules.specs.Rejects.{first_of, identifier_of, reply_by};

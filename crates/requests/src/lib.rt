@@ -1,6 +1,8 @@
 // Identifiers of requests, and the set of services asked for.
 //
 // Each function answers any value that a host can hand it.
+#![tactic(auto)]
+
 ghost use Rattle.std.specs.Prelude.{◌≡◌, ℕ, false, ◌&&◌, ◌||◌, ◌==◌, ◌≢◌};
 ghost use Rattle.std.specs.Int.{w16};
 ghost use Rattle.std.proofs.Common.{to_z};
@@ -57,7 +59,7 @@ pub mod closing_service {
 
 // A set of services, a mark for each: 0 is out of the set, any other mark is in it.
 #[repr(C)]
-#[derive(Drop)]
+#[derive(Clone, Copy)]
 pub struct Services {
     pub s: u8,
     pub d: u8,

@@ -1,4 +1,6 @@
 // When two finals of a call are the same. Every value of the structs has its answer: a count past its array counts as the array's length.
+#![tactic(auto)]
+
 ghost use Rattle.std.specs.Prelude.{◌≡◌, ◌≤◌, ◌<◌};
 ghost use Rattle.same_final.specs.Same.{up_to, equal_units, same_of};
 

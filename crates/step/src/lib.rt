@@ -1,4 +1,6 @@
 // Takes one event of a call and stores what it changes in the account, in place or in a returned copy.
+#![tactic(auto)]
+
 ghost use Rattle.std.specs.Prelude.{◌≡◌, List};
 ghost use Rattle.phases.specs.Phases.{Given, event};
 ghost use Rattle.account.specs.History.{judged, account_by, stepped, stepped_by};

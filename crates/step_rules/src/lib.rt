@@ -1,4 +1,6 @@
 // Finds what one event of a call changes, by value.
+#![tactic(auto)]
+
 ghost use Rattle.std.specs.Prelude.{◌≡◌, List};
 ghost use Rattle.types.specs.Arguments.{no_charge};
 ghost use Rattle.types.specs.Frames.{read_of};

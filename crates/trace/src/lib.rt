@@ -1,4 +1,6 @@
 // Writes the events of a trace as an event list into two buffers of the caller.
+#![tactic(auto)]
+
 ghost use Rattle.std.specs.Prelude.{◌≡◌, true, false, List, [], ◌∷◌, ℕ, ◌-◌, ◌≤◌, ◌<◌, length};
 ghost use Rattle.coding.specs.inner.Written.{Room};
 ghost use Rattle.phases.specs.Phases.{event};

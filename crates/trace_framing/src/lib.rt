@@ -1,6 +1,8 @@
 // The framing of layer 3 messages, and of a trace of them.
 //
 // A trace is two slices: the octets of all messages end to end, and for each message a pair of length and direction (0 the user, any other the network).
+#![tactic(auto)]
+
 ghost use Rattle.std.specs.Prelude.{◌≡◌, true, ◌≤◌, ◌<◌, ◌/◌, length};
 ghost use Rattle.trace_framing.specs.Framing.{element_end, fit_from, headed, framed, lengths_fit, lengths_add_up, messages_of, first_unframed, verdict_of};
 

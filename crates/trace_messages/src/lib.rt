@@ -1,4 +1,6 @@
 // Says which events a layer 3 message gives, by its type and reference. Also says which elements follow a Shift, and which Facility elements are used.
+#![tactic(auto)]
+
 ghost use Rattle.std.specs.Prelude.{◌≡◌, true, ◌&&◌, get_or, eqb};
 ghost use Rattle.trace_framing.specs.Framing.{type_of, framed};
 ghost use Rattle.trace_messages.specs.Trace.{under_after, is_clearing, reference, gives_by, cleared_by};

@@ -1,4 +1,6 @@
 // The requests of a SETUP: the first ChargingRequest for each service among its components.
+#![tactic(auto)]
+
 ghost use Rattle.std.specs.Prelude.{◌≡◌, ◌≤◌, ◌<◌, length};
 ghost use Rattle.types.specs.Frames.{read_of};
 ghost use Rattle.trace_framing.specs.Framing.{element_end, Elements};

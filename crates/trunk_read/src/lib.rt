@@ -1,6 +1,8 @@
 // Components of a trunk: read whole.
 //
 // What is read is stored in the caller's parts: a front of 48 octets, an extension of 244, a figure of 48 and a list's two arrays.
+#![tactic(auto)]
+
 ghost use Rattle.std.specs.Prelude.{◌≡◌, ◌≤◌, length};
 ghost use Rattle.coding.specs.inner.Shown.{shown};
 ghost use Rattle.types.specs.Stored.{stored_charge};

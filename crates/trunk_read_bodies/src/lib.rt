@@ -1,6 +1,8 @@
 // Reading what a component of a trunk carries, by its form: what comes before its extension, and the extension.
 //
 // What is read is stored in the caller's parts: a front of 48 octets, an extension of 244, a figure of 48 and a list's two arrays.
+#![tactic(auto)]
+
 ghost use Rattle.std.specs.Prelude.{◌≡◌, true, replicate};
 ghost use Rattle.coding.specs.Codec.{one_of};
 ghost use Rattle.coding.specs.inner.Shown.{shown};

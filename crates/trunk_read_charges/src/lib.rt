@@ -1,6 +1,8 @@
 // Reads the charge of a trunk's operation 61 or 62. The readers of document 01's charges are used as they are, with a mark that the charge is a trunk's.
 //
 // What is read is stored in the caller's figure of 48 octets alone.
+#![tactic(auto)]
+
 ghost use Rattle.std.specs.Prelude.{◌≡◌, true, false, ◌≤◌, replicate};
 ghost use Rattle.coding.specs.Leaves.{given};
 ghost use Rattle.coding.specs.inner.Shown.{shown};

@@ -1,4 +1,6 @@
 // Extensions of a manufacturer: their contents are checked at every depth, not interpreted, and stored in their shortest form.
+#![tactic(auto)]
+
 ghost use Rattle.std.specs.Prelude.{◌≡◌, true, ◌&&◌, ◌-◌, ◌≤◌, eqb, length, replicate};
 ghost use Rattle.coding.specs.Reader.{part, primitive};
 ghost use Rattle.coding.specs.inner.Shown.{shown, verdict};

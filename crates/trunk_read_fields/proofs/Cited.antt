@@ -1,3 +1,3 @@
 -- What the proofs of this crate cite again and again, passed on.
-pub use Rattle.prelude.proofs.Prelude.{arith, needs}
+pub use Rattle.prelude.proofs.Prelude.{arith, rules}
 pub use Rattle.read_figures.proofs.Answers.{storing, goes}

@@ -2,6 +2,8 @@
 //
 // What is read is stored in the caller's parts: a front of 48 octets and a figure of 48.
 // In the front the user lies where a figure has its association, so that the reader of a number stores it there.
+#![tactic(auto)]
+
 ghost use Rattle.std.specs.Prelude.{◌≡◌, ◌<◌, replicate};
 ghost use Rattle.coding.specs.inner.Shown.{shown};
 ghost use Rattle.types.specs.Charges.{no_association};

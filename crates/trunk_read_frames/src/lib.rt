@@ -1,6 +1,8 @@
 // Components of a trunk: the lead, and the frames that carry no argument and no result.
 //
 // What is read is stored in the caller's parts. A body is stored first, and the lead last: it is all in the first eight octets of the front, which no body uses.
+#![tactic(auto)]
+
 ghost use Rattle.std.specs.Prelude.{◌≡◌, ℕ, List, replicate};
 ghost use Rattle.coding.specs.inner.Shown.{shown};
 ghost use Rattle.types.specs.declared.Charge.{Charge};

@@ -1,4 +1,6 @@
 // What is at the head of a trunk's component: the component's own element, and its operation or error value.
+#![tactic(auto)]
+
 ghost use Rattle.std.specs.Prelude.{◌≡◌, true, ◌≤◌, ◌<◌, length};
 ghost use Rattle.coding.specs.Reader.{entered_any};
 ghost use Rattle.coding.specs.Reader.Fault.{named};

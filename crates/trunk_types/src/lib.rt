@@ -1,12 +1,13 @@
 // The table of types of ECMA-212 (trunks between private exchanges) as definitions, their theorems, and the structs of a trunk's record as C sees them.
 //
 // No struct has padding, no field is a bool or an enum (a host's memory may hold anything), and what is not used is zero.
+#![tactic(auto)]
 
 // All of a component but what it carries. frame: 1 invoke, 2 return result, 3 return error, 4 reject, 10 network facility extension.
 // id: the identifier's 16 bits, two's complement. unnamed: 1 for a reject with NULL in place of the identifier.
 // problem: the tag of a reject's problem, 80 to 83 (hex).
 #[repr(C)]
-#[derive(Drop)]
+#[derive(Clone, Copy)]
 pub struct Lead {
     pub frame: u8,
     pub unnamed: u8,

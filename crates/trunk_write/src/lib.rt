@@ -1,4 +1,6 @@
 // Components of a trunk: written in their shortest form. All is decided before a single octet is stored.
+#![tactic(auto)]
+
 ghost use Rattle.std.specs.Prelude.{◌≡◌, length};
 ghost use Rattle.write.specs.Outcome.{no};
 ghost use Rattle.trunk_write.specs.Outcome.{spare_zero, lent_trunk, trunk_write_of, trunk_left_of};

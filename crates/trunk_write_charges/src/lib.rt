@@ -1,5 +1,7 @@
 // The charge of a trunk's operation 61, 62 or 63: how many octets it takes, and its octets. Parts of document 01's charges are written by its crates; what its speed
 // wants with one caller is written here a second time, over the same laws (docs/SPEED.md).
+#![tactic(auto)]
+
 ghost use Rattle.std.specs.Prelude.{◌≡◌, true, ◌≤◌, length};
 ghost use Rattle.coding.specs.inner.Written.{Wrote, Room};
 ghost use Rattle.types.specs.Charges.{association};

@@ -2,6 +2,8 @@
 //
 // A component lies in the caller's five parts: a front of 48 octets, an extension of 244, a figure of 48 and a list's two arrays. Each `_size` is the octets of a
 // valid value, which may be too many for a component, and each `put_` stores those octets into the caller's buffer from a place on and gives the place after them.
+#![tactic(auto)]
+
 ghost use Rattle.std.specs.Prelude.{◌≡◌, true, ℕ, ◌+◌, ◌*◌, ◌≤◌, ◌<◌, length};
 ghost use Rattle.coding.specs.Codec.{all, write_all};
 ghost use Rattle.coding.specs.Rows.{table};

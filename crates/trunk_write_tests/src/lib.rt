@@ -1,4 +1,6 @@
 // Components of a trunk: which may be written. Each `_fine` is the writer's test of a part, by the component's form.
+#![tactic(auto)]
+
 ghost use Rattle.std.specs.Prelude.{◌≡◌, true, not, ◌||◌, cond, eqb, length, get_or};
 ghost use Rattle.types.specs.Charges.{association};
 ghost use Rattle.types.specs.Stored.{stored_charge, association_in};

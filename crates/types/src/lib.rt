@@ -1,12 +1,14 @@
 // The table of types of ETS 300 182-1 as definitions, the theorems about whole components, and the structs of a record as C sees them.
 //
 // No struct has padding, no field is a bool or an enum (a host's memory may hold anything), and what is not used is zero.
+#![tactic(auto)]
+
 ghost use Rattle.std.specs.Prelude.{◌≡◌};
 ghost use Rattle.types.specs.Charges.{is_digit};
 
 // 1 to 10 octets, each below 80 (hex).
 #[repr(C)]
-#[derive(Drop)]
+#[derive(Clone, Copy)]
 pub struct Currency {
     pub count: u8,
     pub octets: [u8; 10],
@@ -14,7 +16,7 @@ pub struct Currency {
 
 // An amount in a currency: the number times ten to the multiplier, in thousandths.
 #[repr(C)]
-#[derive(Drop)]
+#[derive(Clone, Copy)]
 pub struct Money {
     pub currency: Currency,
     pub multiplier: u8,
@@ -23,7 +25,7 @@ pub struct Money {
 
 // Which other call a charge belongs to. kind: 0 none, 1 an identifier, 2 a number alone, 3 a number of a kind (plan).
 #[repr(C)]
-#[derive(Drop)]
+#[derive(Clone, Copy)]
 pub struct Association {
     pub id: u16,
     pub count: u16,
@@ -34,7 +36,7 @@ pub struct Association {
 
 // A charge but for its list. kind: 0 not available (or no charge at all), 1 free, 2 money, 3 units, 4 rates, 5 a special arrangement.
 #[repr(C)]
-#[derive(Drop)]
+#[derive(Clone, Copy)]
 pub struct Figure {
     pub money: Money,
     pub association: Association,
@@ -50,21 +52,21 @@ pub struct Figure {
 // Units, entry i: the number at numbers[i]; known and the type at octets[2 * i].
 // Rates, entry i: the amount's number, the time and the step at numbers[3 * i]; the other fields and the currency at octets[18 * i].
 #[repr(C)]
-#[derive(Drop)]
+#[derive(Clone, Copy)]
 pub struct Entries {
     pub numbers: [u32; 32],
     pub octets: [u8; 192],
 }
 
 #[repr(C)]
-#[derive(Drop)]
+#[derive(Clone, Copy)]
 pub struct Charge {
     pub figure: Figure,
     pub entries: Entries,
 }
 
 // An entry of a list of units. known: 0 not available, 1 a number; kind: the type 1 to 16, or 0 for none.
-#[derive(Drop)]
+#[derive(Clone, Copy)]
 pub struct Units {
     pub number: u32,
     pub known: u8,
@@ -73,7 +75,7 @@ pub struct Units {
 
 // An entry of a list of rates. kind: 1 duration, 2 flat, 3 volume, 4 a code, 5 free, 6 unknown.
 // detail: the duration's type, the volume's unit, or the code. stepped: 1 where a step (the time A5) is given.
-#[derive(Drop)]
+#[derive(Clone, Copy)]
 pub struct Rate {
     pub item: u8,
     pub kind: u8,
@@ -99,7 +101,7 @@ pub struct Scaled {
 // unnamed: 1 for a reject with NULL in place of the identifier. problem: the tag of a reject's problem, 80 to 83 (hex).
 // detail: the service that operation 30 asks for, 0 S, 1 D, 2 E; or the value of a reject's problem.
 #[repr(C)]
-#[derive(Drop)]
+#[derive(Clone, Copy)]
 pub struct Front {
     pub frame: u8,
     pub unnamed: u8,

@@ -1,4 +1,6 @@
 // Lays a figure out in the 48 octets that `types_parts` takes it from. Numbers lie low octet first.
+#![tactic(auto)]
+
 ghost use Rattle.std.specs.Prelude.{◌≡◌};
 ghost use Rattle.types.specs.Stored.{figure_in};
 

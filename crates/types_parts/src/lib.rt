@@ -1,4 +1,6 @@
 // Takes a record's octets in the caller's memory apart into its numbers and its figure. Numbers lie low octet first.
+#![tactic(auto)]
+
 ghost use Rattle.std.specs.Prelude.{◌≡◌, ◌+◌, ◌*◌};
 ghost use Rattle.types.specs.Stored.{two, front_in, money_in, association_in, figure_in};
 

@@ -1,6 +1,8 @@
 // Why a call has no price: one reason, and the number of an event, from the call's event list.
 //
 // An account is kept beside the numbers of the events seen, so that each event is checked once.
+#![tactic(auto)]
+
 ghost use Rattle.std.specs.Prelude.{◌≡◌, true, length};
 ghost use Rattle.types.specs.Frames.{read_of};
 ghost use Rattle.events.specs.Events.{adds_up, events_of};

@@ -1,4 +1,6 @@
 // Says why a call has no price, by value: what is remembered of the events so far, and the reason that follows from it.
+#![tactic(auto)]
+
 ghost use Rattle.std.specs.Prelude.{◌≡◌};
 ghost use Rattle.why_rules.specs.Reasons.{told_absent, unread, because, if_found};
 ghost use Rattle.why_rules.specs.inner.Seeing.{concluded, seen_next};

@@ -1,4 +1,6 @@
 // Components: written in their shortest form. All is decided before a single octet is stored.
+#![tactic(auto)]
+
 ghost use Rattle.std.specs.Prelude.{◌≡◌, true, false, ◌||◌, cond, ◌≤◌, ◌<◌, length, eqb};
 ghost use Rattle.coding.specs.inner.Written.{Wrote, Room};
 ghost use Rattle.write_heads.specs.inner.Fronts.{front_fine, charged};

@@ -2,6 +2,8 @@
 //
 // Each `_size` is the octets of a valid value, and each `put_` stores those octets into the caller's buffer from a place on and gives the place
 // after them.
+#![tactic(auto)]
+
 ghost use Rattle.std.specs.Prelude.{◌≡◌, true, ℕ, ◌≤◌, length};
 ghost use Rattle.coding.specs.inner.Written.{Wrote, Room};
 ghost use Rattle.coding.specs.Codec.{cons};

@@ -1,6 +1,8 @@
 // Charges that may hold a list: which may be written, how many octets they take, and their octets.
 //
 // A list lies in two arrays of the caller, which are never copied in a loop.
+#![tactic(auto)]
+
 ghost use Rattle.std.specs.Prelude.{◌≡◌, true, ◌≤◌, ◌<◌, length};
 ghost use Rattle.coding.specs.Codec.{all, write_all};
 ghost use Rattle.coding.specs.inner.Written.{Wrote, Room};

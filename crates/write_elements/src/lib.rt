@@ -2,6 +2,8 @@
 //
 // A writer is given a buffer, a place and what to write. It stores those octets from the place on, changes no other octet, and answers
 // the place after them.
+#![tactic(auto)]
+
 ghost use Rattle.std.specs.Prelude.{ℕ, ◌+◌, ◌≤◌, ◌<◌, ◌≡◌, [], ◌∷◌, ◌++◌, length, take};
 ghost use Rattle.coding.specs.Codec.{prim, length_octets};
 ghost use Rattle.coding.specs.Leaves.{identifier, width, digits};

@@ -1,4 +1,6 @@
 // All of a record but its charge: whether it may be written, how many octets it takes, and its octets.
+#![tactic(auto)]
+
 ghost use Rattle.std.specs.Prelude.{◌≡◌, true, false, cond, [], ◌++◌, ◌+◌, ◌≤◌, ◌<◌, length, eqb};
 ghost use Rattle.coding.specs.Codec.{one_of};
 ghost use Rattle.coding.specs.inner.Written.{Wrote, Room, lead, full_number};

@@ -1,4 +1,6 @@
 // Says which charges without a list may be written: what their kind uses is in range, and all else is zero, by one mask for each kind.
+#![tactic(auto)]
+
 ghost use Rattle.std.specs.Prelude.{◌≡◌, true, false, ◌||◌, cond, get_or, eqb};
 ghost use Rattle.types.specs.Charges.{association};
 ghost use Rattle.types.specs.Stored.{association_in, figure_in};

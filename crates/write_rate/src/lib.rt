@@ -1,6 +1,8 @@
 // One rate: whether it may be written, how many octets it takes, and its octets.
 //
 // Tests are over the mark of the family; octets are those of a trunk, which writes all that document 01 has, and alike.
+#![tactic(auto)]
+
 ghost use Rattle.std.specs.Prelude.{◌≡◌, true, leb, ◌≤◌, length};
 ghost use Rattle.coding.specs.inner.Written.{Wrote, Room};
 ghost use Rattle.types.specs.Rates.{money_of, rate};

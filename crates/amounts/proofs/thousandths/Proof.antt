@@ -8,4 +8,4 @@ thousandths_spec =
     tie.close
     (tie.spec (omega arith) (omega arith) (λ c. omega (arith, product c.before.args.number c.before.args.multiplier))
     (λ c. (refl, bounded c.before.args.number c.before.args.multiplier))
-    (λ c. (rw (List·getD-eq-default powers 0 c.if1.false, mul-zero), λ h. omega arith)))
+    (λ c. (rw (List·getD-eq-default powers 0 c.if-multiplier-lt7.false, mul-zero), λ h. omega arith)))

@@ -5,5 +5,5 @@ use Rattle.any_elements.proofs.lead_size.Tie as tie
 pub lead_size_spec : {M : Type 1} → statement M
 lead_size_spec =
     tie.close
-    (tie.spec (λ c. (lead_2 _ c.if1.true, omega arith)) (λ c. (lead_3 _ (omega arith) (omega arith), omega arith))
+    (tie.spec (λ c. (lead_2 _ c.if-n-lt128.true, omega arith)) (λ c. (lead_3 _ (omega arith) (omega arith), omega arith))
     (λ c. (lead_4 _ (omega arith) (omega arith), omega arith)))

@@ -9,16 +9,16 @@ seat_of_spec =
     tie.close
     (tie.spec (omega arith) (omega arith)
     (λ c. let e = c.before.before in let f = e.before.before in
-    rw (ne_eqb _ 1 e.if1.true, ← f.slot_at.ensures, eq-eqb _ 64 c.before.if2.true) c.seated.ensures)
+    rw (ne_eqb _ 1 e.if-e-ne-SETUP.true, ← f.slot_at-slot.ensures, eq-eqb _ 64 c.before.if-slot-eq64.true) c.seated.ensures)
     (omega arith)
     (λ c. let e = c.before.before in let f = e.before.before in
-    rw (ne_eqb _ 1 e.if1.true, ← f.slot_at.ensures, ne_eqb _ 64 c.before.if2.false) c.seated2.ensures)
+    rw (ne_eqb _ 1 e.if-e-ne-SETUP.true, ← f.slot_at-slot.ensures, ne_eqb _ 64 c.before.if-slot-eq64.false) c.seated-then-e-ne-SETUP.ensures)
     (omega arith)
     (λ c. let e = c.before.before in let f = e.before.before in
-    rw (eq-eqb _ 1 e.if1.false, ← f.slot_at.ensures, ne_eqb _ 64 c.before.if3.true) c.seated3.ensures)
+    rw (eq-eqb _ 1 e.if-e-ne-SETUP.false, ← f.slot_at-slot.ensures, ne_eqb _ 64 c.before.if-slot-ne64.true) c.seated-then-slot-ne64.ensures)
     (omega arith) (omega arith)
     (λ c. let z = c.before.before in let e = z.before.before in let f = e.before.before in
-    rw (eq-eqb _ 1 e.if1.false, ← f.slot_at.ensures, eq-eqb _ 64 z.before.if3.false, ← z.slot_of.ensures, eq-eqb _ 64 c.before.if4.true) c.seated4.ensures)
+    rw (eq-eqb _ 1 e.if-e-ne-SETUP.false, ← f.slot_at-slot.ensures, eq-eqb _ 64 z.before.if-slot-ne64.false, ← z.slot_of-free.ensures, eq-eqb _ 64 c.before.if-free-eq64.true) c.seated-then-free-eq64.ensures)
     (omega arith) (omega arith)
     (λ c. let y = c.before.before in let z = y.before in let e = z.before.before in let f = e.before.before in
-    rw (eq-eqb _ 1 e.if1.false, ← f.slot_at.ensures, eq-eqb _ 64 z.before.if3.false, ← z.slot_of.ensures, ne_eqb _ 64 y.if4.false, ← c.before.begin.ensures) c.seated5.ensures))
+    rw (eq-eqb _ 1 e.if-e-ne-SETUP.false, ← f.slot_at-slot.ensures, eq-eqb _ 64 z.before.if-slot-ne64.false, ← z.slot_of-free.ensures, ne_eqb _ 64 y.if-free-eq64.false, ← c.before.begin-m.ensures) c.seated-2.ensures))

@@ -1,34 +1,34 @@
-use Rattle.prelude.proofs.Prelude.{needs, ◌+◌, ◌-◌, ◌≤◌, ◌≡◌, sym, ◌∙◌, arith, drop, length}
+use Rattle.prelude.proofs.Prelude.{rules, ◌+◌, ◌-◌, ◌≤◌, ◌≡◌, sym, ◌∙◌, arith, drop, length}
 use Rattle.board_rules.specs.Board.{lowest}
 use Rattle.board_rules.proofs.{Slots.{search_begins, search_goes, search_finds, search_ends}, slot_of.Statement.statement}
 use Rattle.board_rules.proofs.slot_of.Tie as tie
 
 -- what is left is searched from here as the whole is from the start
-abbrev invariant-loop : tie.invariant-loop
+abbrev invariant-loop : tie.invariant-loop-i
 invariant-loop key keys i₀ i = (i ≤ 64) × (i + lowest key (drop i keys) ≡ lowest key keys)
 
-abbrev decreases-loop : tie.decreases-loop
+abbrev decreases-loop : tie.decreases-loop-i
 decreases-loop key keys i₀ i = 64 - i
 
-returns : tie.Need-returns invariant-loop decreases-loop
+returns : tie.Need-returns-then-keys-i invariant-loop decreases-loop
 returns c =
     let at = c.before.before in let start = at.before in
-    let n : length start.args.t1 ≡ 64 = search needs in
-    sym (search_finds start.args.key start.args.t1 at.loop.i (omega (arith, n, c.before.loop-test.true)) c.if1.true) ∙ at.loop.invariant.1
+    let n : length start.args.t1 ≡ 64 = search rules in
+    sym (search_finds start.args.key start.args.t1 at.loop-i.i (omega (arith, n, c.before.loop-i-test.true)) c.if-keys-i.true) ∙ at.loop-i.invariant.1
 
-loop-again : tie.Need-loop-preserved invariant-loop decreases-loop
+loop-again : tie.Need-loop-i-preserved invariant-loop decreases-loop
 loop-again c =
     let at = c.before.before in let start = at.before in
-    let n : length start.args.t1 ≡ 64 = search needs in
-    (omega arith, search_goes start.args.key start.args.t1 at.loop.i (omega (arith, n, c.before.loop-test.true)) c.if1.false ∙ at.loop.invariant.1)
+    let n : length start.args.t1 ≡ 64 = search rules in
+    (omega arith, search_goes start.args.key start.args.t1 at.loop-i.i (omega (arith, n, c.before.loop-i-test.true)) c.if-keys-i.false ∙ at.loop-i.invariant.1)
 
-returns-2 : tie.Need-returns-2 invariant-loop decreases-loop
+returns-2 : tie.Need-returns-then-keys-i invariant-loop decreases-loop
 returns-2 c =
     let at = c.before in let start = at.before in
-    let n : length start.args.t1 ≡ 64 = search needs in
-    let z = search_ends start.args.key start.args.t1 at.loop.i (omega (arith, n, c.loop-test.false)) in
-    let e : 64 ≡ at.loop.i + lowest start.args.key (drop at.loop.i start.args.t1) = omega (arith, z, at.loop.invariant.0, c.loop-test.false) in
-    e ∙ at.loop.invariant.1
+    let n : length start.args.t1 ≡ 64 = search rules in
+    let z = search_ends start.args.key start.args.t1 at.loop-i.i (omega (arith, n, c.loop-i-test.false)) in
+    let e : 64 ≡ at.loop-i.i + lowest start.args.key (drop at.loop-i.i start.args.t1) = omega (arith, z, at.loop-i.invariant.0, c.loop-i-test.false) in
+    e ∙ at.loop-i.invariant.1
 
 pub slot_of_spec : {M : Type 1} → statement M
 slot_of_spec =

@@ -6,4 +6,4 @@ use Rattle.board_rules.proofs.taken_up.Tie as tie
 pub taken_up_spec : {M : Type 1} → statement M
 unfolding taken_up
 taken_up_spec = tie.close (tie.spec (omega arith) (omega arith) (omega arith) (λ c. let t = c.before.before in rw
-    (c.key_of.ensures, c.before.fresh.ensures, t.before.before.begin.ensures) refl))
+    (c.key_of-key.ensures, c.before.fresh-account.ensures, t.before.before.begin-m.ensures) refl))

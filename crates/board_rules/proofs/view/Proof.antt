@@ -5,4 +5,4 @@ use Rattle.board_rules.proofs.view.Tie as tie
 
 pub view_spec : {M : Type 1} → statement M
 unfolding viewed_of
-view_spec = tie.close (tie.spec (omega arith) (λ c. rw (eq-eqb _ 64 c.before.if1.true, c.fresh.ensures) refl) (λ c. rw (ne_eqb _ 64 c.if1.false) refl))
+view_spec = tie.close (tie.spec (omega arith) (λ c. rw (eq-eqb _ 64 c.before.if-slot-eq64.true, c.fresh-account.ensures) refl) (λ c. rw (ne_eqb _ 64 c.if-slot-eq64.false) refl))

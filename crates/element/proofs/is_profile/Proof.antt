@@ -5,5 +5,5 @@ use Rattle.element.proofs.is_profile.Tie as tie
 
 pub is_profile_spec : {M : Type 1} → statement M
 is_profile_spec =
-    tie.close (tie.spec (λ c. unfold is_profile in simp (eq-eqb _ 0x91 c.if1.true))
-    (λ c. unfold is_profile in simp (ne_eqb _ 0x91 c.if1.false)))
+    tie.close (tie.spec (λ c. unfold is_profile in simp (eq-eqb _ 0x91 c.if-octet-eq145.true))
+    (λ c. unfold is_profile in simp (ne_eqb _ 0x91 c.if-octet-eq145.false)))

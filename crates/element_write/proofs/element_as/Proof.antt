@@ -1,48 +1,48 @@
-use Rattle.prelude.proofs.Prelude.{needs, arith, ℕ, ◌≤◌, ◌≡◌, sym, ◌∙◌, true, List, length, not-true, not-false}
+use Rattle.prelude.proofs.Prelude.{rules, arith, ℕ, ◌≤◌, ◌≡◌, sym, ◌∙◌, true, List, length, not-true, not-false}
 use Rattle.element_write.specs.Round.{element_holds}
 use Rattle.element_write.proofs.{Left.not_held, Left.no_room, Left.room_behind, Left.wrote_few, Left.wrote_all, element_as.Statement.statement}
 use Rattle.element_write.proofs.element_as.Tie as tie
 
-abbrev start : tie.After-is-held → tie.Start
+abbrev start : tie.After-is_held → tie.Start
 start c = c.before.before.before
 
-held : (c : tie.Else1) → (element_holds (start c.before).args.octets.now ≡ true) × (length (start c.before).args.octets.now ≤ 254)
+held : (c : tie.Else-not-is_held) → (element_holds (start c.before).args.octets.now ≡ true) × (length (start c.before).args.octets.now ≤ 254)
 held c =
-    let t = not-false _ c.if1.false in
-    (sym c.before.is_held_lem.ensures.0 ∙ t, c.before.is_held_lem.ensures.1 t)
+    let t = c.if-not-is_held.false in
+    (sym c.before.is_held.ensures.0 ∙ t, c.before.is_held.ensures.1 t)
 
 -- the three octets are stored
-abbrev headed : tie.After-put-octets-arg → tie.After-put-head
+abbrev headed : tie.After-put_octets-arg-1 → tie.After-put_head-p
 headed c = c.before.before.before
 
-abbrev roomy : tie.After-put-head → tie.Else2
+abbrev roomy : tie.After-put_head-p → tie.Else-buf-n
 roomy c = c.before.before
 
-abbrev given : tie.After-put-head → List ℕ
+abbrev given : tie.After-put_head-p → List ℕ
 given h = (start (roomy h).before.before).args.octets.now
 
-put-octets-requires : tie.Need-put-octets-requires
+put-octets-requires : tie.Need-put_octets-q-requires
 put-octets-requires c κs =
     let h = headed c in
-    (omega arith, room_behind _ (given h) _ (roomy h).if2.left h.put_head.ensures)
+    (omega arith, room_behind _ (given h) _ (roomy h).if-buf-n.false h.put_head-p.ensures)
 
-cast-count : tie.Need-overflow-cast-count
+cast-count : tie.Need-overflow_cast-count
 cast-count c =
     let o = c.before.before in
     let h = headed o.before in
-    omega (arith, wrote_few _ (given h) _ (roomy h).if2.left h.put_head.ensures o.put_octets.ensures (held (roomy h).before).1)
+    omega (arith, wrote_few _ (given h) _ (roomy h).if-buf-n.false h.put_head-p.ensures o.put_octets-q.ensures (held (roomy h).before).1)
 
-returns-3 : tie.Need-returns-3
+returns-3 : tie.Need-returns-then-not-is_held
 returns-3 c =
     let o = c.before.before in
     let h = headed o.before in
-    wrote_all _ (given h) _ (roomy h).if2.left h.put_head.ensures o.put_octets.ensures (held (roomy h).before).0
+    wrote_all _ (given h) _ (roomy h).if-buf-n.false h.put_head-p.ensures o.put_octets-q.ensures (held (roomy h).before).0
 
 pub element_as_spec : {M : Type 1} → statement M
 element_as_spec =
     tie.close
-    (tie.spec (search needs) (search needs)
-    (λ c. let f = c.before.before in not_held _ _ _ (sym f.is_held_lem.ensures.0 ∙ not-true _ c.before.if1.true) c.refuse.ensures)
-    (search needs) (search needs)
-    (λ c. no_room _ _ _ (held c.before.before).0 c.before.if2.true c.refuse2.ensures)
-    (λ c κs. ((held c.before.before).1, record { fits = omega (arith, c.before.if2.false) })) put-octets-requires cast-count (search needs) returns-3)
+    (tie.spec (search rules) (search rules)
+    (λ c. let f = c.before.before in not_held _ _ _ (sym f.is_held.ensures.0 ∙ c.before.if-not-is_held.true) c.refuse.ensures)
+    (search rules) (search rules)
+    (λ c. no_room _ _ _ (held c.before.before).0 c.before.if-buf-n.true c.refuse-then-buf-n.ensures)
+    (λ c κs. ((held c.before.before).1, record { fits = omega (arith, c.before.if-buf-n.false) })) put-octets-requires cast-count (search rules) returns-3)

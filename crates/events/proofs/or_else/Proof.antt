@@ -6,6 +6,6 @@ pub or_else_spec : {M : Type 1} → statement M
 or_else_spec =
     tie.close
     (tie.spec
-    (λ c. rw (ne_eqb _ 0 c.if1.true) refl)
-    (λ c. rw (eq-eqb _ 0 c.before.if1.false, c.if2.true) refl)
-    (λ c. rw (eq-eqb _ 0 c.before.if1.false, c.if2.false) refl))
+    (λ c. rw (ne_eqb _ 0 c.if-found-ne0.true) refl)
+    (λ c. rw (eq-eqb _ 0 c.before.if-found-ne0.false, c.if-passes.true) refl)
+    (λ c. rw (eq-eqb _ 0 c.before.if-found-ne0.false, c.if-passes.false) refl))

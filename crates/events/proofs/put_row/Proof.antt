@@ -1,4 +1,4 @@
-use Rattle.prelude.proofs.Prelude.{needs, arith, refl, ℕ, ◌+◌, List, [], ◌∷◌, length-set, set, towards_suc}
+use Rattle.prelude.proofs.Prelude.{rules, arith, refl, ℕ, ◌+◌, List, [], ◌∷◌, length-set, set, towards_suc}
 use Rattle.coding.specs.inner.Written.{Wrote}
 use Rattle.events.proofs.put_row.Statement.{statement}
 use Rattle.events.proofs.put_row.Tie as tie
@@ -16,4 +16,4 @@ put_row_spec =
     (omega arith) (omega arith) (λ c. simp length-set (omega arith))
     (omega arith) (omega arith) (λ c. simp length-set (omega arith))
     (omega arith) (omega arith) (λ c. simp length-set (omega arith))
-    (omega arith) (search needs) (λ c. rw c.bits_of.ensures (wrote_6 _ _ _ _ _ _ _ _)))
+    (omega arith) (search rules) (λ c. rw c.bits_of.ensures (wrote_6 _ _ _ _ _ _ _ _)))

@@ -11,4 +11,4 @@ row_at_spec =
     (omega arith) (omega arith) (omega arith) (omega arith)
     (omega arith) (omega arith) (omega arith) (omega arith)
     (omega arith) (omega arith) (omega arith) (omega arith)
-    (λ c. let set = c.before.before.before in rw (set.before.before.kind_of.ensures, set.set_of.ensures)))
+    (λ c. let set = c.before.before.before in rw (set.before.before.kind_of-kind.ensures, set.set_of-asked.ensures)))

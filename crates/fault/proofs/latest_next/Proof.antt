@@ -7,5 +7,5 @@ latest_next_spec =
     tie.close
     (tie.spec
     (omega arith)
-    (λ c. rw (sym c.before.counted_money.ensures ∙ c.if1.true) refl)
-    (λ c. rw (sym c.before.counted_money.ensures ∙ c.if1.false) refl))
+    (λ c. rw (sym c.before.counted_money.ensures ∙ c.if-counted_money.true) refl)
+    (λ c. rw (sym c.before.counted_money.ensures ∙ c.if-counted_money.false) refl))

@@ -3,10 +3,10 @@ use Rattle.prelude.proofs.Prelude.{arith}
 use Rattle.lines.proofs.all.Statement.{statement}
 use Rattle.lines.proofs.all.Tie as tie
 
-abbrev invariant-loop : tie.invariant-loop
+abbrev invariant-loop : tie.invariant-loop-turns
 invariant-loop octets₀ buf₀ out₀ line₀ turns₀ octets buf out line turns = Unit {0}
 
-abbrev decreases-loop : tie.decreases-loop
+abbrev decreases-loop : tie.decreases-loop-turns
 decreases-loop octets₀ buf₀ out₀ line₀ turns₀ octets buf out line turns = turns
 
 pub all_spec : {M : Type 1} → statement M

@@ -5,4 +5,4 @@ use Rattle.lines_rules.proofs.spaced.Tie as tie
 pub spaced_spec : {M : Type 1} → statement M
 spaced_spec =
     tie.close
-    (tie.spec (λ c. rw c.if1.true) (λ c. omega arith) (λ c κs. omega arith) (λ c. rw (ne_eqb _ 0 c.before.before.if1.false) c.line_of.ensures))
+    (tie.spec (λ c. rw c.if-k-eq0.true) (λ c. omega arith) (λ c κs. omega arith) (λ c. rw (ne_eqb _ 0 c.before.before.if-k-eq0.false) c.line_of.ensures))

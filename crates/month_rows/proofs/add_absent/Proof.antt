@@ -4,4 +4,4 @@ use Rattle.month_rows.proofs.add_absent.Tie as tie
 
 pub add_absent_spec : {M : Type 1} → statement M
 add_absent_spec =
-    tie.close (tie.spec (λ c. rw (eq-eqb _ 1 c.if1.true) refl) (omega arith) (λ c. rw (ne_eqb _ 1 c.before.if1.false) c.wrapping-add-u32.ensures))
+    tie.close (tie.spec (λ c. rw (eq-eqb _ 1 c.if-u-eq1.true) refl) (omega arith) (λ c. rw (ne_eqb _ 1 c.before.if-u-eq1.false) c.wrapping_add_u32.ensures))

@@ -4,15 +4,15 @@ use Rattle.month_rows.specs.Rows.{plus}
 use Rattle.month_rows.proofs.add_unit.Statement.{statement}
 use Rattle.month_rows.proofs.add_unit.Tie as tie
 
-returns-2 : tie.Need-returns-2
+returns-2 : tie.Need-returns-then-u-ne1
 returns-2 c =
     let k = c.before.before in let left = k.before.before in let s = left.before.before in
-    ap (set s.args.t1 k.places.result) c.wrapping-add-u64.ensures
-    ∙ ap (λ (j : ℕ). set s.args.t1 j (plus 64 (get_or s.args.t1 j 0) s.args.u.number)) k.places.ensures.0
-    ∙ sym (picked _ _ (eq-eqb _ 1 left.if1.false))
+    ap (set s.args.t1 k.places-k.result) c.wrapping_add_u64.ensures
+    ∙ ap (λ (j : ℕ). set s.args.t1 j (plus 64 (get_or s.args.t1 j 0) s.args.u.number)) k.places-k.ensures.0
+    ∙ sym (picked _ _ (eq-eqb _ 1 left.if-u-ne1.false))
 
 pub add_unit_spec : {M : Type 1} → statement M
 add_unit_spec =
     tie.close
-    (tie.spec (λ c. rw (ne_eqb _ 1 c.if1.true) refl) (omega arith) (omega arith) (omega arith) (omega arith) (omega arith) (omega arith) (omega arith)
+    (tie.spec (λ c. rw (ne_eqb _ 1 c.if-u-ne1.true) refl) (omega arith) (omega arith) (omega arith) (omega arith) (omega arith) (omega arith) (omega arith)
     (omega arith) returns-2)

@@ -5,4 +5,4 @@ use Rattle.month_rows.proofs.raised_at.Tie as tie
 pub raised_at_spec : {M : Type 1} → statement M
 raised_at_spec =
     tie.close
-    (tie.spec (omega arith) (omega arith) (omega arith) (omega arith) (omega arith) (omega arith) (omega arith) (omega arith) (omega arith) (λ c. rw c.wrapping-add-u32.ensures refl))
+    (tie.spec (omega arith) (omega arith) (omega arith) (omega arith) (omega arith) (omega arith) (omega arith) (omega arith) (omega arith) (λ c. rw c.wrapping_add_u32.ensures refl))

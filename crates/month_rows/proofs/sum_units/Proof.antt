@@ -5,11 +5,11 @@ use Rattle.month_rows.proofs.{Entries.{sum_goes, sum_ends, count_goes, count_end
 use Rattle.month_rows.proofs.sum_units.Tie as tie
 
 -- what is left gives from here what the whole gives from the start
-abbrev invariant-loop : tie.invariant-loop
+abbrev invariant-loop : tie.invariant-loop-i
 invariant-loop absent e n sums₀ none₀ i₀ sums none i =
     (i ≤ n) × (sum_units e i (n - i) sums ≡ sum_units e 0 n sums₀) × (count_absent e i (n - i) none ≡ count_absent e 0 n none₀)
 
-abbrev decreases-loop : tie.decreases-loop
+abbrev decreases-loop : tie.decreases-loop-i
 decreases-loop absent e n sums₀ none₀ i₀ sums none i = n - i
 
 pub sum_units_spec : {M : Type 1} → statement M
@@ -25,13 +25,13 @@ sum_units_spec =
     (omega arith)
     (omega arith)
     (λ c. let a = c.before in let u = a.before in let l = u.before in let at = l.before in let s = at.before in
-    let e = s.args.e in let n = s.args.n in let i = at.loop.i in let here = l.loop-test.true in (
+    let e = s.args.e in let n = s.args.n in let i = at.loop-i.i in let here = l.loop-i-test.true in (
       omega arith,
-      ap (sum_units e (i + 1) (n - (i + 1))) (a.add_unit.ensures ∙ ap (λ (v : Units). add_unit v at.loop.sums) u.unit_at.ensures)
-          ∙ sum_goes e n i here at.loop.sums ∙ at.loop.invariant.1,
-      ap (count_absent e (i + 1) (n - (i + 1))) (c.add_absent.ensures ∙ ap (λ (v : Units). add_absent v at.loop.none) u.unit_at.ensures)
-          ∙ count_goes e n i here at.loop.none ∙ at.loop.invariant.2,
+      ap (sum_units e (i + 1) (n - (i + 1))) (a.add_unit-next.ensures ∙ ap (λ (v : Units). add_unit v at.loop-i.sums) u.unit_at-u.ensures)
+          ∙ sum_goes e n i here at.loop-i.sums ∙ at.loop-i.invariant.1,
+      ap (count_absent e (i + 1) (n - (i + 1))) (c.add_absent-none.ensures ∙ ap (λ (v : Units). add_absent v at.loop-i.none) u.unit_at-u.ensures)
+          ∙ count_goes e n i here at.loop-i.none ∙ at.loop-i.invariant.2,
     ))
-    (λ c. let at = c.before in let s = at.before in let e = s.args.e in let n = s.args.n in let i = at.loop.i in let past = c.loop-test.false in
+    (λ c. let at = c.before in let s = at.before in let e = s.args.e in let n = s.args.n in let i = at.loop-i.i in let past = c.loop-i-test.false in
     ap₂ (λ (x : List ℕ) (y : ℕ). record { units = x; absent = y })
-    (sum_ends e n i past at.loop.sums ∙ at.loop.invariant.1) (count_ends e n i past at.loop.none ∙ at.loop.invariant.2)))
+    (sum_ends e n i past at.loop-i.sums ∙ at.loop-i.invariant.1) (count_ends e n i past at.loop-i.none ∙ at.loop-i.invariant.2)))

@@ -4,10 +4,10 @@ use Rattle.coding.{specs.Reader.part, specs.Contents.every, proofs.Writing.every
 use Rattle.octets.proofs.below.Statement.{statement}
 use Rattle.octets.proofs.below.Tie as tie
 
-abbrev invariant-loop : tie.invariant-loop
+abbrev invariant-loop : tie.invariant-loop-i
 invariant-loop s from to limit i₀ i = (from ≤ i) × (i ≤ to) × (every (λ x. ltb x limit) (part s from to) ≡ every (λ x. ltb x limit) (part s i to))
 
-abbrev decreases-loop : tie.decreases-loop
+abbrev decreases-loop : tie.decreases-loop-i
 decreases-loop s from to limit i₀ i = to - i
 
 pub below_spec : {M : Type 1} → statement M
@@ -17,15 +17,15 @@ below_spec =
     (λ c.
     let c3 = c.before.before.before in
     let a = c3.before.args in
-    let l = c3.loop in
+    let l = c3.loop-i in
     sym (l.invariant.2 ∙ every_stop (λ x. ltb x a.limit) a.s.now l.i a.to (omega arith) (omega arith) (le-ltb _ a.limit (omega arith))))
     (λ c. omega arith) (λ c. omega arith)
     (λ c.
     let c3 = c.before.before.before in
     let a = c3.before.args in
-    let l = c3.loop in
+    let l = c3.loop-i in
     (omega arith, omega arith, l.invariant.2 ∙ every_step (λ x. ltb x a.limit) a.s.now l.i a.to (omega arith) (omega arith) (lt-ltb _ a.limit (omega arith))))
     (λ c.
     let a = c.before.before.args in
-    let l = c.before.loop in
+    let l = c.before.loop-i in
     sym (l.invariant.2 ∙ every_end (λ x. ltb x a.limit) a.s.now l.i a.to (omega arith))))

@@ -5,6 +5,6 @@ pub invoke_outcome_spec : {M : Type 1} → statement M
 invoke_outcome_spec =
     tie.close (tie.spec
     (omega arith) (λ c. search ways) (omega arith) (omega arith) (omega arith)
-    (λ c. rw (← c.before.before.before.service_of.ensures) (search ways)) (omega arith)
-    (λ c. rw (← c.before.before.before.before.service_of.ensures) (search ways)) (omega arith)
-    (λ c. rw (← c.before.before.before.before.service_of.ensures) (search ways)))
+    (λ c. rw (← c.before.before.before.service_of-service.ensures) (search ways)) (omega arith)
+    (λ c. rw (← c.before.before.before.before.service_of-service.ensures) (search ways)) (omega arith)
+    (λ c. rw (← c.before.before.before.before.service_of-service.ensures) (search ways)))

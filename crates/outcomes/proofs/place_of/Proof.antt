@@ -4,6 +4,6 @@ use Rattle.outcomes.proofs.place_of.Tie as tie
 pub place_of_spec : {M : Type 1} → statement M
 place_of_spec =
     tie.close
-    (tie.spec (λ c. rw c.match.keys1) (λ c. rw c.match.keys2) (λ c. rw (c.before.match.keys3, c.match2.keys1))
-    (λ c. rw (c.before.match.keys3, c.match2.keys2)) (λ c. rw c.before.match.keys3 (search tests)) (λ c. rw (c.before.match.keys4, c.match3.keys1))
-    (λ c. rw c.before.match.keys4 (search tests)) (λ c. search tests))
+    (tie.spec (λ c. rw c.in-20.is) (λ c. rw c.in-21.is) (λ c. rw (c.before.in-22.is, c.in-2.is))
+    (λ c. rw (c.before.in-22.is, c.in-3.is)) (λ c. rw c.before.in-22.is (search tests)) (λ c. rw (c.before.in-24.is, c.in-1.is))
+    (λ c. rw c.before.in-24.is (search tests)) (λ c. search tests))

@@ -3,4 +3,4 @@ use Rattle.phases.proofs.going.Statement.{statement}
 use Rattle.phases.proofs.going.Tie as tie
 
 pub going_spec : {M : Type 1} → statement M
-going_spec = tie.close (tie.spec (omega arith) (λ c. rw c.no_service.ensures))
+going_spec = tie.close (tie.spec (omega arith) (λ c. rw c.no_service-outcome.ensures))

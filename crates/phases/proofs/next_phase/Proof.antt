@@ -4,13 +4,13 @@ use Rattle.phases.proofs.{Transitions.past_kind, Transitions.past_phase, Transit
 use Rattle.phases.proofs.next_phase.Tie as tie
 
 -- the code's table is the one computed from the transitions
-returns-3 : tie.Need-returns-3
+returns-3 : tie.Need-returns-then-kind-gt7
 unfolding allowed leads_to
-returns-3 c = look_up c.before.before.args.kind c.before.before.args.phase c.before.if1.false c.if2.false
+returns-3 c = look_up c.before.before.args.kind c.before.before.args.phase c.before.if-kind-gt7.false c.if-phase-gt7.false
 
 pub next_phase_spec : {M : Type 1} → statement M
 next_phase_spec =
     tie.close
-    (tie.spec (λ c. sym (past_kind c.before.args.kind c.before.args.phase c.if1.true))
-    (λ c. sym (past_phase c.before.before.args.kind c.before.before.args.phase c.if2.true)) (omega arith) (omega arith) (omega arith)
+    (tie.spec (λ c. sym (past_kind c.before.args.kind c.before.args.phase c.if-kind-gt7.true))
+    (λ c. sym (past_phase c.before.before.args.kind c.before.before.args.phase c.if-phase-gt7.true)) (omega arith) (omega arith) (omega arith)
     (omega arith) (omega arith) returns-3)

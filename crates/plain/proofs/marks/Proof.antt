@@ -6,8 +6,8 @@ pub marks_spec : {M : Type 1} → statement M
 unfolding plain_marks
 marks_spec =
     tie.close
-    (tie.spec (omega arith) (λ c. rw (no_list_lem c.before.is_list.ensures c.if1.true) refl)
-    (λ c κs. a_list c.before.is_list.ensures c.if1.false)
-    (λ c κs. let i = c.before in a_list i.before.is_list.ensures i.if1.false)
+    (tie.spec (omega arith) (λ c. rw (no_list_lem c.before.is_list.ensures c.if-not-is_list.true) refl)
+    (λ c κs. a_list c.before.is_list.ensures c.if-not-is_list.false)
+    (λ c κs. let i = c.before in a_list i.before.is_list.ensures i.if-not-is_list.false)
     (λ c. let t = c.before in let i = t.before in
-    rw (t.told_set.ensures, c.told_set2.ensures, a_list i.before.is_list.ensures i.if1.false) refl))
+    rw (t.told_set-absent.ensures, c.told_set-conflict.ensures, a_list i.before.is_list.ensures i.if-not-is_list.false) refl))

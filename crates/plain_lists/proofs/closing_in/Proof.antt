@@ -4,40 +4,40 @@ use Rattle.events.specs.Events.{events_of}
 use Rattle.plain_lists.proofs.{Figures.closing_kept, closing_in.Statement.statement}
 use Rattle.plain_lists.proofs.closing_in.Tie as tie
 
-module _ (p : tie.After-phase-in) where
+module _ (p : tie.After-phase_in) where
   abbrev start : tie.Start
   start = p.before.before.before
 
   abbrev events : List Given
   events = reverse (events_of start.args.rows.now start.args.octets.now)
 
-returns : tie.Need-returns
+returns : tie.Need-returns-then-phase_in-ne-ENDED
 returns c =
     let p = c.before.before in
-    c.no_closing.ensures ∙ sym (rw (ne_eqb _ 4 c.before.if1.true)) ∙ closing_kept (events p) p.phase_in.ensures refl refl
+    c.no_closing.ensures ∙ sym (rw (ne_eqb _ 4 c.before.if-phase_in-ne-ENDED.true)) ∙ closing_kept (events p) p.phase_in.ensures refl refl
 
-returns-2 : tie.Need-returns-2
+returns-2 : tie.Need-returns-then-e-ne-NONE
 returns-2 c =
     let e = c.before.before in
     let p = e.before.before in
-    sym (rw (eq-eqb _ 4 e.before.if1.false, ne_eqb _ 0 c.if2.true)) ∙ closing_kept (events p) p.phase_in.ensures e.last_kept.ensures refl
+    sym (rw (eq-eqb _ 4 e.before.if-phase_in-ne-ENDED.false, ne_eqb _ 0 c.if-e-ne-NONE.true)) ∙ closing_kept (events p) p.phase_in.ensures e.last_kept-e.ensures refl
 
-returns-3 : tie.Need-returns-3
+returns-3 : tie.Need-returns-then-d-ne-NONE
 returns-3 c =
     let d = c.before.before in
     let e = d.before.before.before in
     let p = e.before.before in
-    sym (rw (eq-eqb _ 4 e.before.if1.false, eq-eqb _ 0 d.before.if2.false, ne_eqb _ 0 c.if3.true))
-    ∙ closing_kept (events p) p.phase_in.ensures e.last_kept.ensures d.last_kept2.ensures
+    sym (rw (eq-eqb _ 4 e.before.if-phase_in-ne-ENDED.false, eq-eqb _ 0 d.before.if-e-ne-NONE.false, ne_eqb _ 0 c.if-d-ne-NONE.true))
+    ∙ closing_kept (events p) p.phase_in.ensures e.last_kept-e.ensures d.last_kept-d.ensures
 
-returns-4 : tie.Need-returns-4
+returns-4 : tie.Need-returns-then-phase_in-ne-ENDED
 returns-4 c =
     let d = c.before.before.before in
     let e = d.before.before.before in
     let p = e.before.before in
-    c.no_closing2.ensures
-    ∙ sym (rw (eq-eqb _ 4 e.before.if1.false, eq-eqb _ 0 d.before.if2.false, eq-eqb _ 0 c.before.if3.false))
-    ∙ closing_kept (events p) p.phase_in.ensures e.last_kept.ensures d.last_kept2.ensures
+    c.no_closing-2.ensures
+    ∙ sym (rw (eq-eqb _ 4 e.before.if-phase_in-ne-ENDED.false, eq-eqb _ 0 d.before.if-e-ne-NONE.false, eq-eqb _ 0 c.before.if-d-ne-NONE.false))
+    ∙ closing_kept (events p) p.phase_in.ensures e.last_kept-e.ensures d.last_kept-d.ensures
 
 pub closing_in_spec : {M : Type 1} → statement M
 closing_in_spec =

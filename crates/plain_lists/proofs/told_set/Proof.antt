@@ -5,4 +5,4 @@ pub told_set_spec : {M : Type 1} → statement M
 told_set_spec =
     tie.close
     (tie.spec (λ c κs. c.before.before.requires) (λ c κs. c.before.before.before.requires) (λ c κs. c.before.before.before.before.requires)
-    (λ c. rw (c.told3.ensures, c.before.told2.ensures, c.before.before.told.ensures)))
+    (λ c. rw (c.told-e.ensures, c.before.told-d.ensures, c.before.before.told-s.ensures)))

@@ -7,8 +7,8 @@ alone_spec =
     tie.close
     (tie.spec
     (omega arith)
-    (λ c. rw (c.before.before.bare.ensures, c.before.if1.true) (refl, refl))
-    (λ c. let o = c.before.before in rw (o.before.bare.ensures, c.before.if2.true) (refl, refl))
-    (λ c. let o = c.before.before.before in rw (o.before.bare.ensures, c.before.if3.true) (refl, refl))
+    (λ c. rw (c.before.before.bare-t.ensures, c.before.if-service-eq-S.true) (refl, refl))
+    (λ c. let o = c.before.before in rw (o.before.bare-t.ensures, c.before.if-service-eq-D.true) (refl, refl))
+    (λ c. let o = c.before.before.before in rw (o.before.bare-t.ensures, c.before.if-service-eq-E.true) (refl, refl))
     (λ c. let o = c.before.before in
-    rw (o.before.bare.ensures, ne_eqb _ _ o.if1.false, ne_eqb _ _ c.before.if2.false, ne_eqb _ _ c.if3.false) (refl, refl)))
+    rw (o.before.bare-t.ensures, ne_eqb _ _ o.if-service-eq-S.false, ne_eqb _ _ c.before.if-service-eq-D.false, ne_eqb _ _ c.if-service-eq-E.false) (refl, refl)))

@@ -4,6 +4,6 @@ use Rattle.plain_rules.proofs.asked_for.Tie as tie
 
 pub asked_for_spec : {M : Type 1} → statement M
 asked_for_spec =
-    tie.close (tie.spec (omega arith) (omega arith) (omega arith) (λ c. c.asking.ensures ∙ sym (rw c.before.match.keys1))
-    (λ c. c.asking2.ensures ∙ sym (rw c.before.match.keys2))
-    (λ c. c.asking3.ensures ∙ sym (rw (ne_eqb _ _ c.before.match.rest.0.1, ne_eqb _ _ c.before.match.rest.1))))
+    tie.close (tie.spec (omega arith) (omega arith) (omega arith) (λ c. c.asking.ensures ∙ sym (rw c.before.in-1.is))
+    (λ c. c.asking-in-2.ensures ∙ sym (rw c.before.in-2.is))
+    (λ c. c.asking-in_default.ensures ∙ sym (rw (ne_eqb _ _ c.before.in_default.in_default-own.rest.0.1, ne_eqb _ _ c.before.in_default.in_default-own.rest.1))))

@@ -4,5 +4,5 @@ use Rattle.plain_rules.proofs.beside.Tie as tie
 
 pub beside_spec : {M : Type 1} → statement M
 beside_spec =
-    tie.close (tie.spec (omega arith) (omega arith) (λ c. c.outcome_of.ensures ∙ sym (rw (← c.before.before.same.ensures, c.before.if1.true) refl))
-    (omega arith) (λ c. c.outcome_of2.ensures ∙ sym (rw (← c.before.before.same.ensures, c.before.if1.false) refl)))
+    tie.close (tie.spec (omega arith) (omega arith) (λ c. c.outcome_of.ensures ∙ sym (rw (← c.before.before.same.ensures, c.before.if-same.true) refl))
+    (omega arith) (λ c. c.outcome_of-2.ensures ∙ sym (rw (← c.before.before.same.ensures, c.before.if-same.false) refl)))

@@ -15,7 +15,7 @@ moving_phase p e =
 returns : tie.Need-returns
 returns c =
     let x = c.before.before.args in
-    ap (λ (m : Moving). m.status.phase) c.phase_step.ensures ∙ rw c.before.bare.ensures (moving_phase x.phase x.e)
+    ap (λ (m : Moving). m.status.phase) c.phase_step-m.ensures ∙ rw c.before.bare.ensures (moving_phase x.phase x.e)
 
 pub passed_spec : {M : Type 1} → statement M
 passed_spec = tie.close (tie.spec (omega arith) (omega arith) returns)

@@ -4,21 +4,21 @@ use Rattle.plain_scans.proofs.{Cited.{◌+◌, ◌≤◌, ◌∙◌, ap, arith, 
 use Rattle.plain_scans.proofs.charge_at.Tie as tie
 
 -- the octets of the event end inside
-module _ (n : tie.After-count-at) where
+module _ (n : tie.After-count_at) where
   abbrev start : tie.Start
   start = n.before.before.before.before
 
-  ends : n.before.place_of.result + n.count_at.result ≤ length start.args.octets.now
+  ends : n.before.place_of-at.result-1 + n.count_at.result-1 ≤ length start.args.octets.now
   ends =
-      turn_inside start.args.rows.now start.args.octets.now start.args.k n.before.place_of.ensures n.count_at.ensures
+      turn_inside start.args.rows.now start.args.octets.now start.args.k n.before.place_of-at.ensures n.count_at.ensures
       start.pre.0 start.pre.1
 
 returns : tie.Need-returns
 returns c =
     let n = c.before.before.before in
     ap (λ (a : Answer). a.value.charge)
-    (c.before.read.ensures
-    ∙ ap read_of (part_at (start n).args.rows.now (start n).args.octets.now (start n).args.k n.before.place_of.ensures n.count_at.ensures))
+    (c.before.read-a.ensures
+    ∙ ap read_of (part_at (start n).args.rows.now (start n).args.octets.now (start n).args.k n.before.place_of-at.ensures n.count_at.ensures))
 
 pub charge_at_spec : {M : Type 1} → statement M
 charge_at_spec =

@@ -4,17 +4,17 @@ use Rattle.plain_scans.proofs.{Cited.{sym, ◌∙◌, ap, arith, false}, Scans.{
 use Rattle.plain_scans.proofs.pending_before.Tie as tie
 
 -- the function's start, from where it is known what was asked for
-module _ (g : tie.After-asked-for) where
+module _ (g : tie.After-asked_for-q) where
   abbrev start : tie.Start
   start = g.before.before.before.before
 
-  asked : let x = start.args in Requested false x.rows.now x.octets.now x.k x.service g.asked_for.result x.k
-  asked = for_answer _ _ _ start.args.k (g.before.setup_before.ensures start.args.octets.now) g.asked_for.ensures
+  asked : let x = start.args in Requested false x.rows.now x.octets.now x.k x.service g.asked_for-q.result x.k
+  asked = for_answer _ _ _ start.args.k (g.before.setup_before-setup.ensures start.args.octets.now) g.asked_for-q.ensures
 
 returns : tie.Need-returns
 returns c =
     let f = c.before in
-    c.until.ensures ∙ ap ask_of (sym (pending_last _ _ _ (start f.before).args.k _ (asked f.before).names _ f.first_before.ensures))
+    c.until.ensures ∙ ap ask_of (sym (pending_last _ _ _ (start f.before).args.k _ (asked f.before).names _ f.first_before-place.ensures))
 
 pub pending_before_spec : {M : Type 1} → statement M
 pending_before_spec =

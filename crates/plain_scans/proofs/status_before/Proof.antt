@@ -7,7 +7,7 @@ returns c =
     let s = d.before.before in
     let p = s.before.before in
     let x = p.before.before.before.args in
-    rw (s.before.bare.ensures, s.pending_before.ensures, d.pending_before2.ensures, c.before.pending_before3.ensures)
+    rw (s.before.bare-t.ensures, s.pending_before-s.ensures, d.pending_before-d.ensures, c.before.pending_before-e.ensures)
     (p.phase_before.ensures x.octets.now, refl)
 
 pub status_before_spec : {M : Type 1} → statement M

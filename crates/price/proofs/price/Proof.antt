@@ -4,10 +4,10 @@ use Rattle.price.specs.Price.{price_of}
 use Rattle.price.proofs.price.Statement.{statement}
 use Rattle.price.proofs.price.Tie as tie
 
-priced-money-requires : tie.Need-priced-money-requires
+priced-money-requires : tie.Need-priced_money-requires
 priced-money-requires c κs =
     let two = c.before in
-    small _ _ (sym two.before.in_range.ensures ∙ not-false _ two.if2.false)
+    small _ _ (sym two.before.in_range.ensures ∙ two.if-not-in_range.false)
 
 pub price_spec : {M : Type 1} → statement M
 unfolding price_of

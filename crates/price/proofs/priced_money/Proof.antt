@@ -4,12 +4,12 @@ use Rattle.price.proofs.{Exact.in_range_lem, Exact.one_division, priced_money.St
 use Rattle.price.proofs.priced_money.Tie as tie
 
 -- the thousandths are small enough to be exact
-bounded : (c : tie.After-row-known) → c.before.thousandths.result ≤ 16777215000000
-bounded c = c.before.thousandths.ensures.1 c.before.before.before.requires
+bounded : (c : tie.After-row_known-1) → c.before.thousandths-x.result ≤ 16777215000000
+bounded c = c.before.thousandths-x.ensures.1 c.before.before.before.requires
 
 returns : tie.Need-returns
 unfolding as_double
-returns c = rw (one_division c.before.thousandths.result (bounded c), c.before.thousandths.ensures.0) refl
+returns c = rw (one_division c.before.thousandths-x.result (bounded c), c.before.thousandths-x.ensures.0) refl
 
 pub priced_money_spec : {M : Type 1} → statement M
 priced_money_spec = tie.close (tie.spec (omega arith) (λ c. in_range_lem _ (bounded c)) returns)

@@ -2,20 +2,20 @@ use Rattle.prelude.proofs.Prelude.{arith}
 use Rattle.profile_read.proofs.{Reading.by_line, Reading.beside, read_by.Statement.statement}
 use Rattle.profile_read.proofs.read_by.Tie as tie
 
-returns : tie.Need-returns
+returns : tie.Need-returns-then-profile-eq145
 returns c =
     let r = c.before in
     let t = r.before.before.before.before.before in
     let i = t.before.before.before.before.before.before in
-    rw c.judged_as.ensures (by_line _ _ i.if1.true r.read_into.ensures t.no_trunk.ensures.0, t.no_trunk.ensures.1)
+    rw c.judged_as.ensures (by_line _ _ i.if-profile-eq145.true r.read_into-a.ensures t.no_trunk.ensures.0, t.no_trunk.ensures.1)
 
-trunk-by-requires : tie.Need-trunk-by-requires
+trunk-by-requires : tie.Need-trunk_by-requires
 trunk-by-requires c κs =
     let l = c.before.before.before.before.before in
     let i = l.before.before.before.before.before in
-    i.if1.false
+    i.if-profile-eq145.false
 
-returns-2 : tie.Need-returns-2
+returns-2 : tie.Need-returns-then-profile-eq145
 returns-2 c =
     let l = c.before.before.before.before.before.before in
     (beside l.no_line.ensures c.trunk_by.ensures.0, c.trunk_by.ensures.1)

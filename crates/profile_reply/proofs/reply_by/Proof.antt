@@ -4,28 +4,28 @@ use Rattle.profile_reply.specs.Replies.{called_for, reply_profile, left_profile}
 use Rattle.profile_reply.proofs.reply_by.Statement.{statement}
 use Rattle.profile_reply.proofs.reply_by.Tie as tie
 
-returns : tie.Need-returns
+returns : tie.Need-returns-then-profile-eq145
 unfolding reply_profile left_profile
 returns c =
     let r = c.before.before in
     let i = r.before.before in
-    rw (eq-eqb _ 0x91 i.if1.true) (r.reply.ensures.0, r.reply.ensures.1)
+    rw (eq-eqb _ 0x91 i.if-profile-eq145.true) (r.reply.ensures.0, r.reply.ensures.1)
 
-returns-2 : tie.Need-returns-2
+returns-2 : tie.Need-returns-then-profile-ne159
 unfolding reply_profile left_profile
-returns-2 c = rw (ne_eqb _ 0x91 c.before.if1.false, ne_eqb _ 0x9f c.if2.true) (refl, refl)
+returns-2 c = rw (ne_eqb _ 0x91 c.before.if-profile-eq145.false, ne_eqb _ 0x9f c.if-profile-ne159.true) (refl, refl)
 
-returns-3 : tie.Need-returns-3
+returns-3 : tie.Need-returns-then-profile-eq145
 unfolding reply_profile left_profile
 returns-3 c =
     let r = c.before.before in
     let n = r.before.before in
     let a = n.before.before in
     let e = a.before.before.before.before.before.before in
-    let number = ap (λ (x : TrunkAnswer). x.number) a.read_into.ensures.0 in
+    let number = ap (λ (x : TrunkAnswer). x.number) a.read_into-a.ensures.0 in
     let first = n.before.first_of.ensures in
-    let called = n.called_for.ensures ∙ (λ k. called_for (number k) (first k)) in
-    rw (ne_eqb _ 0x91 e.before.if1.false, eq-eqb _ 0x9f e.if2.false, ← called) (r.reply_to.ensures.0, r.reply_to.ensures.1)
+    let called = n.called_for-number.ensures ∙ (λ k. called_for (number k) (first k)) in
+    rw (ne_eqb _ 0x91 e.before.if-profile-eq145.false, eq-eqb _ 0x9f e.if-profile-ne159.false, ← called) (r.reply_to.ensures.0, r.reply_to.ensures.1)
 
 pub reply_by_spec : {M : Type 1} → statement M
 reply_by_spec =

@@ -9,18 +9,18 @@ pub ended_spec : {M : Type 1} → statement M
 unfolding end_of
 ended_spec =
     close (spec (omega arith) (omega arith)
-    (λ c. record { same = λ v m. rw (ne_eqb _ 0 c.before.before.if1.taken, ← c.before.inner.ensures) c.refused.ensures })
+    (λ c. record { same = λ v m. rw (ne_eqb _ 0 c.before.before.if-fault-ne0.true, ← c.before.inner.ensures) c.refused.ensures })
     (omega arith)
     (λ c. let over = c.before in record {
-      same = λ v m. rw (eq-eqb _ _ over.before.before.if1.left)
-          (left_over _ v c.refused2.ensures (over_in _ _ _ _ _ _ over.if2.taken));
+      same = λ v m. rw (eq-eqb _ _ over.before.before.if-fault-ne0.false)
+          (left_over _ v c.refused-then-next-h.ensures (over_in _ _ _ _ _ _ over.if-next-h.true));
     })
     (omega arith)
     (λ c. let whole = c.before.before.before in record {
-      same = λ v m. rw (eq-eqb _ _ whole.before.before.if1.left)
-          (left_over _ v c.refused3.ensures (twice _ _ _ _ _ _ whole.if2.left (leaves _ _ _ _ c.before.if3.taken)));
+      same = λ v m. rw (eq-eqb _ _ whole.before.before.if-fault-ne0.false)
+          (left_over _ v c.refused-then-h.ensures (twice _ _ _ _ _ _ whole.if-next-h.false (leaves _ _ _ _ c.before.if-h.true)));
     })
     (λ c. let whole = c.before.before in record {
-      same = λ v m. rw (eq-eqb _ _ whole.before.before.if1.left)
-          (ap (λ x. held (answered x)) (twice _ _ _ _ _ _ whole.if2.left (ends _ _ _ _ c.if3.left)));
+      same = λ v m. rw (eq-eqb _ _ whole.before.before.if-fault-ne0.false)
+          (ap (λ x. held (answered x)) (twice _ _ _ _ _ _ whole.if-next-h.false (ends _ _ _ _ c.if-h.false)));
     }))

@@ -13,5 +13,5 @@ identified_at_spec =
     (λ c.
     let c5 = c.before.before.before.before.before in
     let c7 = c5.before.before in
-    let kept = identified_kept c5.identifier_long.result.value c7.args.figure.now c7.requires.1 in
+    let kept = identified_kept c5.identifier_long-i.result.value c7.args.figure.now c7.requires.1 in
     (rw kept.0 (search (storing, reading)), kept.1)))

@@ -1,5 +1,5 @@
 -- Each return by the answers that led to it.
-use Rattle.prelude.proofs.Prelude.{needs, arith}
+use Rattle.prelude.proofs.Prelude.{rules, arith}
 use Rattle.coding.{specs.Codec.canonical, specs.Codec.over, proofs.Reading.reading}
 use Rattle.types.specs.Arguments.{in_money}
 use Rattle.read_figures.proofs.Answers.{storing}
@@ -13,6 +13,6 @@ pub price_in_spec : {M : Type 1} → statement M
 unfolding amount_by in_money canonical over
 price_in_spec =
     tie.close
-    (tie.spec (λ c. omega arith) (λ c κs. search needs) (λ c. (rw pick_read (search when), search)) (λ c κs. search needs) (λ c. omega arith)
+    (tie.spec (λ c. omega arith) (λ c κs. search rules) (λ c. (rw pick_read (search when), search)) (λ c κs. search rules) (λ c. omega arith)
     (λ c. (rw pick_read (search (storing, when, reading)), search clear)) (λ c. omega arith) (λ c. omega arith)
     (λ c. (rw pick_read (search (money_stored, storing, when, reading)), search clear)))

@@ -1,5 +1,5 @@
 -- Each return by the answers that led to it.
-use Rattle.prelude.proofs.Prelude.{needs, arith, ◌≡◌, refl, ◌∙◌}
+use Rattle.prelude.proofs.Prelude.{rules, arith, ◌≡◌, refl, ◌∙◌}
 use Rattle.coding.{specs.Reader.constructed, specs.inner.Shown.shown, proofs.Reading.{reading, step, stay, assoc, shut, remains}}
 use Rattle.types.specs.{Arguments.no_charge, Stored.stored_charge}
 use Rattle.read_lengths.specs.inner.Bounds.{Bounded}
@@ -11,14 +11,14 @@ use Rattle.read_charges.proofs.{Stores.totals_stored, Steps.{totals, priced_read
 use Rattle.read_charges.proofs.priced_at.Tie as tie
 
 -- what is left to read where A1 is read, and what is known there
-amount : (c : tie.Else3) →
+amount : (c : tie.Else-p-ne0) →
     let p = c.before.before.before in
     let q = p.before.before.before in
     let e = q.before.before.before.before.before.before in
     let g = e.before.before.args in
-    let w = p.price_in.new.1.1.1.1 in
-    let o = e.open_at.result in
-    (shown no_charge (totals (is_subtotal g.operation) (stored_charge w.0 w.1.0 w.1.1.0) g.s.now c.before.before.closed.result.next o.value.stop o.next)
+    let w = p.price_in-contents.new.1.1.1.1 in
+    let o = e.open_at-e.result in
+    (shown no_charge (totals (is_subtotal g.operation) (stored_charge w.0 w.1.0 w.1.1.0) g.s.now c.before.before.closed-p.result.next o.value.stop o.next)
     ≡ shown no_charge ((priced_of g.operation).read g.s.now g.at g.end))
     × Clear w.0 × Bounded g.s.now o.value.stop
 unfolding constructed
@@ -29,18 +29,18 @@ amount c =
     let a = q.before.before.before in
     let e = a.before.before.before in
     let b = e.before.before.requires.0 in
-    let contents = closes _ _ _ _ _ _ z.closed.ensures p.price_in.ensures.0 in (
-      rw priced_read (step _ _ _ _ e.open_at.ensures.0 a.before.if1.false
-          (assoc _ _ _ _ (step _ _ _ _ a.open_at2.ensures.0 q.before.if2.false (goes _ _ _ _ _ contents c.if3.false refl)))),
-      p.price_in.ensures.1,
+    let contents = closes _ _ _ _ _ _ z.closed-p.ensures p.price_in-contents.ensures.0 in (
+      rw priced_read (step _ _ _ _ e.open_at-e.ensures.0 a.before.if-e-ne0.false
+          (assoc _ _ _ _ (step _ _ _ _ a.open_at-a.ensures.0 q.before.if-a-ne0.false (goes _ _ _ _ _ contents c.if-p-ne0.false refl)))),
+      p.price_in-contents.ensures.1,
       (omega (arith, b.0), omega (arith, b.1)),
     )
 
 -- where A1 is read, from where the type is and from where the billing is
-abbrev typed : tie.Else4 → tie.Else3
+abbrev typed : tie.Else-t-ne0 → tie.Else-p-ne0
 typed c = c.before.before.before
 
-abbrev billed : tie.Else5 → tie.Else3
+abbrev billed : tie.Else-b-ne0 → tie.Else-p-ne0
 billed c = typed c.before.before.before
 
 pub priced_at_spec : {M : Type 1} → statement M
@@ -48,14 +48,14 @@ unfolding constructed
 priced_at_spec =
     tie.close
     (tie.spec (λ c. omega arith) (λ c. omega arith) (λ c. (rw priced_read (search (storing, reading)), search clear)) (λ c. omega arith) (λ c. omega arith)
-    (λ c. (rw priced_read (search (storing, reading)), search clear)) (λ c κs. search needs) (λ c. omega arith) (λ c. omega arith)
+    (λ c. (rw priced_read (search (storing, reading)), search clear)) (λ c κs. search rules) (λ c. omega arith) (λ c. omega arith)
     (λ c.
     let z = c.before.before.before in
     let q = z.before.before.before.before in
     let a = q.before.before.before in
-    let contents = closes _ _ _ _ _ _ z.closed.ensures z.before.price_in.ensures.0 in (
-      rw priced_read (refused _ _ c.halted3.ensures c.before.if3.true (step _ _ _ _ a.before.before.before.open_at.ensures.0 a.before.if1.false
-          (assoc _ _ _ _ (step _ _ _ _ a.open_at2.ensures.0 q.before.if2.false (stay _ _ _ _ contents c.before.if3.true))))),
+    let contents = closes _ _ _ _ _ _ z.closed-p.ensures z.before.price_in-contents.ensures.0 in (
+      rw priced_read (refused _ _ c.halted-then-p-ne0.ensures c.before.if-p-ne0.true (step _ _ _ _ a.before.before.before.open_at-e.ensures.0 a.before.if-e-ne0.false
+          (assoc _ _ _ _ (step _ _ _ _ a.open_at-a.ensures.0 q.before.if-a-ne0.false (stay _ _ _ _ contents c.before.if-p-ne0.true))))),
       search,
     ))
     (λ c κs. (amount c).2) (λ c. omega arith)
@@ -68,7 +68,7 @@ priced_at_spec =
     let f = c.before.before.before.before in
     let l = f.before.before.before in
     let m = amount (billed l) in (
-      totals_stored _ _ _ c.reached.ensures l.before.before.billing_at.result.value.given _ _ _ m.1 c.before.before.flag.ensures
+      totals_stored _ _ _ c.reached.ensures l.before.before.billing_at-b.result.value.given _ _ _ m.1 c.before.before.flag.ensures
           (search (step, shut) depth 8 fits 4000) ∙ m.0,
       search clear,
     )))

@@ -8,4 +8,4 @@ unfolding given maybe over optional
 chosen_at_spec =
     tie.close
     (tie.spec (omega arith) (omega arith) (λ c κs. tt) (λ c. rw c.no_chosen.ensures (search reading, omega arith)) (λ c κs. tt)
-    (λ c. rw c.chosen.ensures (search reading, omega arith)) (λ c κs. tt) (λ c. rw c.chosen2.ensures (search reading, omega arith)))
+    (λ c. rw c.chosen.ensures (search reading, omega arith)) (λ c κs. tt) (λ c. rw c.chosen-2.ensures (search reading, omega arith)))

@@ -7,6 +7,6 @@ pub closed_spec : {M : Type 1} → statement M
 unfolding closed_by
 closed_spec =
     tie.close
-    (tie.spec (λ c κs. tt) (λ c. c.halted.ensures ∙ simp (ne_eqb _ _ c.before.if1.true)) (λ c κs. tt)
-    (λ c. let t = c.before in c.halted2.ensures ∙ simp (eq-eqb _ _ t.before.before.if1.false, ne_eqb _ _ t.if2.true)) (λ c κs. tt)
-    (λ c. let t = c.before in c.reached.ensures ∙ simp (eq-eqb _ _ t.before.before.if1.false, eq-eqb _ _ t.if2.false)))
+    (tie.spec (λ c κs. tt) (λ c. c.halted.ensures ∙ simp (ne_eqb _ _ c.before.if-contents-ne0.true)) (λ c κs. tt)
+    (λ c. let t = c.before in c.halted-then-contents-stop.ensures ∙ simp (eq-eqb _ _ t.before.before.if-contents-ne0.false, ne_eqb _ _ t.if-contents-stop.true)) (λ c κs. tt)
+    (λ c. let t = c.before in c.reached.ensures ∙ simp (eq-eqb _ _ t.before.before.if-contents-ne0.false, eq-eqb _ _ t.if-contents-stop.false)))

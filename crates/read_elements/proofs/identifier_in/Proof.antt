@@ -11,9 +11,9 @@ identifier_in_spec =
     (λ c.
     let e = c.before.before.before in
     let d = e.before.before in
-    let octets : Octets d.before.args.s.now = λ i. omega (arith, d.shared-slice-known.given i) in
-    id_two _ _ _ d.before.requires.1 e.before.is_shortest.ensures e.if1.false octets c.before.if3.true c.magnitude.ensures)
+    let octets : Octets d.before.args.s.now = λ i. omega (arith, d.shared_slice_known-1.given i) in
+    id_two _ _ _ d.before.requires.1 e.before.is_shortest.ensures e.if-not-is_shortest.false octets c.before.if-stop-start-2.true c.magnitude-value.ensures)
     (λ c.
     let d = c.before.before.before.before in
-    let octets : Octets d.before.args.s.now = λ i. omega (arith, d.shared-slice-known.given i) in
+    let octets : Octets d.before.args.s.now = λ i. omega (arith, d.shared_slice_known-1.given i) in
     (search id_many, omega arith)))

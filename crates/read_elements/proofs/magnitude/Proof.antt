@@ -4,10 +4,10 @@ use Rattle.coding.{specs.Reader.part, specs.Contents.number_from, proofs.Parts.p
 use Rattle.read_elements.proofs.magnitude.Statement.{statement}
 use Rattle.read_elements.proofs.magnitude.Tie as tie
 
-abbrev invariant-loop : tie.invariant-loop
+abbrev invariant-loop : tie.invariant-loop-i
 invariant-loop s start stop n₀ i₀ n i = (start ≤ i) × (i ≤ stop) × (n ≡ min (number_from 0 (part s start i)) 16777216)
 
-abbrev decreases-loop : tie.decreases-loop
+abbrev decreases-loop : tie.decreases-loop-i
 decreases-loop s start stop n₀ i₀ n i = stop - i
 
 pub magnitude_spec : {M : Type 1} → statement M
@@ -22,10 +22,10 @@ magnitude_spec =
     (λ c. omega arith) (λ c κs. tt) (λ c. omega arith) (λ c. omega arith)
     (λ c.
     let c3 = c.before.before.before in
-    let l = c3.loop in
+    let l = c3.loop-i in
     let a = c3.before.before.args in
     let p = part_more a.s.now a.start l.i l.invariant.0 (omega arith) in
     (omega arith, omega arith, rw (p, number_more) (omega arith)))
     (λ c.
-    let e : c.before.loop.i ≡ c.before.before.before.args.stop = omega arith in
-    rw (← e) c.before.loop.invariant.2))
+    let e : c.before.loop-i.i ≡ c.before.before.before.args.stop = omega arith in
+    rw (← e) c.before.loop-i.invariant.2))

@@ -5,10 +5,10 @@ use Rattle.read_elements.proofs.natural_at.Tie as tie
 pub natural_at_spec : {M : Type 1} → statement M
 natural_at_spec =
     tie.close
-    (tie.spec (omega arith) (omega arith) (λ c. omega (arith, (c.before.before.before.tiny.ensures.1.1 (omega arith)).inside))
+    (tie.spec (omega arith) (omega arith) (λ c. omega (arith, (c.before.before.before.tiny-x.ensures.1.1 (omega arith)).inside))
     (λ c κs. tt)
     (λ c.
-    let t = c.before.before.before.before.tiny.ensures.1.1 (omega arith) in
+    let t = c.before.before.before.before.tiny-x.ensures.1.1 (omega arith) in
     rw c.number.ensures (tiny_natural _ _ _ _ _ _ (omega arith) t (omega arith) (omega arith) (omega arith), omega arith))
     (omega arith) (λ c. omega arith) (λ c. omega arith)
     (λ c κs. simp (length-take) (omega (arith, c.before.before.before.before.requires)))

@@ -8,4 +8,4 @@ unfolding prim number primitive
 natural_long_spec =
     tie.close
     (tie.spec (omega arith) (λ c κs. tt) (λ c. rw c.no_number.ensures (search reading, omega arith)) (omega arith) (λ c κs. tt)
-    (λ c. rw c.no_number2.ensures (search reading, omega arith)) (λ c κs. tt) (λ c. rw c.number.ensures (search reading, omega arith)))
+    (λ c. rw c.no_number-then-v-ne0.ensures (search reading, omega arith)) (λ c κs. tt) (λ c. rw c.number.ensures (search reading, omega arith)))

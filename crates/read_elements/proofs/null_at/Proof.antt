@@ -9,7 +9,7 @@ null_at_spec =
     (λ c κs. tt)
     (λ c.
     let t = c.before in
-    rw c.reached.ensures (bare_null _ _ _ _ _ (t.before.short_length.ensures.1.1 (omega arith)) t.if1.true))
+    rw c.reached.ensures (bare_null _ _ _ _ _ (t.before.short_length.ensures.1.1 (omega arith)) t.if-short_length-eq0.true))
     (omega arith) (λ c. omega arith) (λ c. omega arith)
     (λ c κs. simp (length-take) (omega (arith, c.before.before.before.before.requires)))
     (λ c. let xs = c.before.before.before.before.before.args.s.now in rw (take_all (length xs - 0) xs (omega arith)) at c.null_long.ensures))

@@ -12,12 +12,12 @@ null_long_spec =
     (λ c.
     let f = c.before.before.before in
     let o = f.before.before in
-    let v = o.open_long.result.value in
+    let v = o.open_long-e.result.value in
     let e = null_some o.before.before.args.s.now v.start v.stop (omega arith) (omega arith) in
-    rw c.halted2.ensures (step _ _ _ _ o.open_long.ensures.0 f.if1.false (fails _ _ _ _ e (λ h. omega arith))))
+    rw c.halted-then-e.ensures (step _ _ _ _ o.open_long-e.ensures.0 f.if-e-ne0.false (fails _ _ _ _ e (λ h. omega arith))))
     (λ c κs. tt)
     (λ c.
     let o = c.before.before.before.before.before in
-    let v = o.open_long.result.value in
+    let v = o.open_long-e.result.value in
     let e = null_none o.before.before.args.s.now v.start v.stop (omega arith) in
     rw c.reached.ensures (search reading)))

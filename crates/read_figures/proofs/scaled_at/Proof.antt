@@ -9,10 +9,10 @@ unfolding scaled cons shape over pair constructed
 scaled_at_spec =
     tie.close
     (tie.spec (omega arith) (omega arith) (λ c. (simp flat (c.no_scaled.ensures.0 ∙ (search reading depth 8)), omega arith)) (omega arith)
-    (omega arith) (λ c. (simp flat (c.no_scaled2.ensures.0 ∙ (search reading depth 8)), omega arith)) (omega arith) (omega arith)
-    (λ c. (simp flat (c.no_scaled3.ensures.0 ∙ (search reading depth 8)), omega arith)) (omega arith)
+    (omega arith) (λ c. (simp flat (c.no_scaled-then-n-ne0.ensures.0 ∙ (search reading depth 8)), omega arith)) (omega arith) (omega arith)
+    (λ c. (simp flat (c.no_scaled-then-m-ne0.ensures.0 ∙ (search reading depth 8)), omega arith)) (omega arith)
     (λ c.
     let c6 = c.before.before.before.before.before.before in
-    let opened = c6.before.before.before.before.before.before.open_at.ensures.0 in
-    (simp flat (c.no_scaled4.ensures.0 ∙ (search (step, remains) depth 8)), omega arith))
+    let opened = c6.before.before.before.before.before.before.open_at-e.ensures.0 in
+    (simp flat (c.no_scaled-then-m-e.ensures.0 ∙ (search (step, remains) depth 8)), omega arith))
     (omega arith) (λ c. (simp flat (search (step, shut) depth 8), omega arith)))

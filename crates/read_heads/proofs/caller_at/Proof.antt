@@ -9,6 +9,6 @@ unfolding caller alt
 caller_at_spec =
     tie.close
     (tie.spec (omega arith) (omega arith) (omega arith) (λ c. rw c.caller_read.ensures (search reading, λ tag detail. refl)) (omega arith)
-    (λ c. rw c.caller_read2.ensures (search reading, λ tag detail. refl)) (omega arith) (omega arith)
-    (λ c. rw c.caller_read3.ensures (search reading, λ tag detail. refl)) (omega arith) (omega arith)
-    (λ c. rw c.caller_read4.ensures (search reading, λ tag detail. refl)))
+    (λ c. rw c.caller_read-then-is_tag.ensures (search reading, λ tag detail. refl)) (omega arith) (omega arith)
+    (λ c. rw c.caller_read-then-i-ne0.ensures (search reading, λ tag detail. refl)) (omega arith) (omega arith)
+    (λ c. rw c.caller_read-2.ensures (search reading, λ tag detail. refl)))

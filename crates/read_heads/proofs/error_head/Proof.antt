@@ -9,6 +9,6 @@ unfolding rest_of contents_of return_error failed leads canonical over
 error_head_spec =
     tie.close (tie.spec
     (omega arith) (omega arith) (λ c. (rw c.no_head.ensures (simp flat (search heading)), rw c.no_head.ensures (omega arith))) (omega arith) (omega arith)
-    (λ c. (rw c.no_head2.ensures (simp flat (search heading)), rw c.no_head2.ensures (omega arith)))
-    (omega arith) (λ c. (rw c.no_head3.ensures (simp flat (search heading)), rw c.no_head3.ensures (omega arith))) (omega arith) (omega arith) (omega arith)
+    (λ c. (rw c.no_head-then-o-ne0.ensures (simp flat (search heading)), rw c.no_head-then-o-ne0.ensures (omega arith)))
+    (omega arith) (λ c. (rw c.no_head-then-o-n.ensures (simp flat (search heading)), rw c.no_head-then-o-n.ensures (omega arith))) (omega arith) (omega arith) (omega arith)
     (λ c. rw c.alone.ensures (simp flat (search heading), omega arith)))

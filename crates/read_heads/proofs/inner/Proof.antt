@@ -3,4 +3,4 @@ use Rattle.read_heads.proofs.inner.Statement.{statement}
 use Rattle.read_heads.proofs.inner.Tie as tie
 
 pub inner_spec : {M : Type 1} → statement M
-inner_spec = tie.close (tie.spec (omega arith) (λ c. simp (lt-ltb _ _ c.if1.true)) (λ c. simp (le-ltb _ _ c.if1.false)))
+inner_spec = tie.close (tie.spec (omega arith) (λ c. simp (lt-ltb _ _ c.if-fault-lt-BASE.true)) (λ c. simp (le-ltb _ _ c.if-fault-lt-BASE.false)))

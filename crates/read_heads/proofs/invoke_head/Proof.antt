@@ -9,5 +9,5 @@ unfolding rest_of contents_of invoke leads
 invoke_head_spec =
     tie.close (tie.spec
     (omega arith) (omega arith) (λ c. (rw c.no_head.ensures (simp flat (search heading)), rw c.no_head.ensures (omega arith))) (omega arith) (omega arith)
-    (λ c. (rw c.no_head2.ensures (simp flat (search heading)), rw c.no_head2.ensures (omega arith))) (omega arith) (omega arith) (omega arith)
+    (λ c. (rw c.no_head-then-o-ne0.ensures (simp flat (search heading)), rw c.no_head-then-o-ne0.ensures (omega arith))) (omega arith) (omega arith) (omega arith)
     (λ c. rw c.lead.ensures (simp flat (search (heading, tail_one)), omega arith)))

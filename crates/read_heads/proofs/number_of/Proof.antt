@@ -5,5 +5,5 @@ use Rattle.read_heads.proofs.number_of.Tie as tie
 pub number_of_spec : {M : Type 1} → statement M
 number_of_spec =
     tie.close (tie.spec
-    (λ c. simp (le-leb _ _ c.if1.true)) (λ c. simp (lt-leb _ _ c.before.if1.false, eq-eqb _ _ c.if2.true))
-    (λ c. number_low _ c.before.if1.false c.if2.false))
+    (λ c. simp (le-leb _ _ c.if-fault-ge-BASE.true)) (λ c. simp (lt-leb _ _ c.before.if-fault-ge-BASE.false, eq-eqb _ _ c.if-fault-eq-LENGTH_FORM.true))
+    (λ c. number_low _ c.before.if-fault-ge-BASE.false c.if-fault-eq-LENGTH_FORM.false))

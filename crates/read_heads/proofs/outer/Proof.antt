@@ -4,4 +4,4 @@ use Rattle.read_heads.proofs.outer.Tie as tie
 pub outer_spec : {M : Type 1} → statement M
 outer_spec =
     tie.close (tie.spec
-    (λ c. search tests) (λ c. rw c.match.keys1) (λ c. rw c.match.keys2) (λ c. rw c.match.keys3) (λ c. rw c.match.keys4) (λ c. search tests))
+    (λ c. search tests) (λ c. rw c.in-40.is) (λ c. rw c.in-41.is) (λ c. rw c.in-42.is) (λ c. rw c.in-2.is) (λ c. search tests))

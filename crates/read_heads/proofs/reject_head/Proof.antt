@@ -16,8 +16,8 @@ unfolding rest_of
 reject_head_spec =
     tie.close (tie.spec
     (omega arith) (omega arith) (λ c. (rw (c.no_head.ensures, reject_by_lem _ _ _) (search heading), rw c.no_head.ensures (omega arith))) (omega arith) (omega arith)
-    (λ c. (rw (c.no_head2.ensures, reject_by_lem _ _ _) (search heading), rw c.no_head2.ensures (omega arith))) (omega arith)
-    (λ c. (rw (c.no_head3.ensures, reject_by_lem _ _ _) (search heading), rw c.no_head3.ensures (omega arith)))
+    (λ c. (rw (c.no_head-then-p-ne0.ensures, reject_by_lem _ _ _) (search heading), rw c.no_head-then-p-ne0.ensures (omega arith))) (omega arith)
+    (λ c. (rw (c.no_head-then-p-n.ensures, reject_by_lem _ _ _) (search heading), rw c.no_head-then-p-n.ensures (omega arith)))
     (omega arith) (λ c. let problem = c.before.before.before.before.before.before in
     let answered = problem.before.before.before in
-    rw c.alone.ensures (rw (reject_by_lem _ _ _) (search (heading, ends_with, answered.before.caller_at.ensures.1)), omega arith)))
+    rw c.alone.ensures (rw (reject_by_lem _ _ _) (search (heading, ends_with, answered.before.caller_at-i.ensures.1)), omega arith)))

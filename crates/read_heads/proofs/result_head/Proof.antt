@@ -10,8 +10,8 @@ unfolding rest_of tail_of contents_of return_result leads cons constructed
 result_head_spec =
     tie.close (tie.spec
     (omega arith) (omega arith) (λ c. (rw c.no_head.ensures (simp flat (search heading)), rw c.no_head.ensures (omega arith))) (omega arith) (omega arith)
-    (λ c. (rw c.no_head2.ensures (simp flat (search heading)), rw c.no_head2.ensures (omega arith))) (omega arith) (omega arith)
-    (λ c. (rw c.no_head3.ensures (simp flat (search heading)), rw c.no_head3.ensures (omega arith))) (omega arith) (omega arith) (omega arith)
+    (λ c. (rw c.no_head-then-e-ne0.ensures (simp flat (search heading)), rw c.no_head-then-e-ne0.ensures (omega arith))) (omega arith) (omega arith)
+    (λ c. (rw c.no_head-then-o-ne0.ensures (simp flat (search heading)), rw c.no_head-then-o-ne0.ensures (omega arith))) (omega arith) (omega arith) (omega arith)
     (λ c. let k = c.before.before.before in
     let value = k.before.before in
     let e = value.before in
@@ -19,6 +19,6 @@ result_head_spec =
     let i = opened.before in
     let id = i.before.before in
     rw c.lead.ensures (
-      simp flat (search (heading, id.identifier_at.ensures.0, i.if1.false, opened.open_at.ensures.0, e.if2.false, value.value_long.ensures.0, k.if3.false)),
-      omega (arith, opened.open_at.ensures.1.1, id.before.before.requires.0),
+      simp flat (search (heading, id.identifier_at-i.ensures.0, i.if-i-ne0.false, opened.open_at-e.ensures.0, e.if-e-ne0.false, value.value_long-o.ensures.0, k.if-o-ne0.false)),
+      omega (arith, opened.open_at-e.ensures.1.1, id.before.before.requires.0),
     )))

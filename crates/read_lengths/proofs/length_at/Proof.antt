@@ -7,5 +7,5 @@ pub length_at_spec : {M : Type 1} → statement M
 unfolding length_at
 length_at_spec =
     tie.close
-    (tie.spec (omega arith) (λ c. omega (arith, (endless_is _ _ _ _ (sym c.before.is_endless.ensures ∙ c.if1.true)).0)) (omega arith)
+    (tie.spec (omega arith) (λ c. omega (arith, (endless_is _ _ _ _ (sym c.before.is_endless.ensures ∙ c.if-is_endless.true)).0)) (omega arith)
     (λ c. (search when, c.span_at.ensures.1)) (omega arith) (λ c. (search when, c.numbered_at.ensures.1)))

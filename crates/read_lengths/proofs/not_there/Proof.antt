@@ -7,4 +7,4 @@ pub not_there_spec : {M : Type 1} → statement M
 not_there_spec =
     tie.close
     (tie.spec (omega arith) (λ c. rw c.halted.ensures ((λ s. search lacks), omega arith)) (omega arith)
-    (λ c. rw c.halted2.ensures ((λ s. search strange), omega arith)))
+    (λ c. rw c.halted-2.ensures ((λ s. search strange), omega arith)))

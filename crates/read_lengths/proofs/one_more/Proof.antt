@@ -8,9 +8,9 @@ unfolding numbered_at shown
 one_more_spec =
     tie.close
     (tie.spec (omega arith) (omega arith)
-    (λ c. let p = c.before.before.before.requires in rw c.halted.ensures (simp (lt-leb _ _ p.0, p.2, lt-ltb _ _ c.before.if1.true), omega arith))
+    (λ c. let p = c.before.before.before.requires in rw c.halted.ensures (simp (lt-leb _ _ p.0, p.2, lt-ltb _ _ c.before.if-end-at.true), omega arith))
     (omega arith) (omega arith) (omega arith) (omega arith) (omega arith)
     (λ c.
     let e = c.before.before.before in
     let p = e.before.before.requires in
-    (simp (lt-leb _ _ p.0, p.2, le-ltb _ _ e.if1.false) (rw (← c.before.wide.ensures.0) c.within.ensures.0), c.within.ensures.1)))
+    (simp (lt-leb _ _ p.0, p.2, le-ltb _ _ e.if-end-at.false) (rw (← c.before.wide-n.ensures.0) c.within.ensures.0), c.within.ensures.1)))

@@ -7,5 +7,5 @@ pub open_long_spec : {M : Type 1} → statement M
 unfolding opened
 open_long_spec =
     tie.close
-    (tie.spec (omega arith) (λ c. omega (arith, (tagged_is _ _ _ _ (sym c.before.is_tag.ensures ∙ c.if1.true)).0)) (omega arith)
+    (tie.spec (omega arith) (λ c. omega (arith, (tagged_is _ _ _ _ (sym c.before.is_tag.ensures ∙ c.if-is_tag.true)).0)) (omega arith)
     (λ c. (search picks, c.length_at.ensures.1)) (omega arith) (λ c. (search (skips, c.not_there.ensures.0), c.not_there.ensures.1)))

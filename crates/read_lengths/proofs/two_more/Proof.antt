@@ -8,10 +8,10 @@ unfolding numbered_at shown
 two_more_spec =
     tie.close
     (tie.spec (omega arith) (omega arith)
-    (λ c. let p = c.before.before.before.requires in rw c.halted.ensures (simp (lt-leb _ _ p.0, p.2, lt-ltb _ _ c.before.if1.true), omega arith))
+    (λ c. let p = c.before.before.before.requires in rw c.halted.ensures (simp (lt-leb _ _ p.0, p.2, lt-ltb _ _ c.before.if-end-at.true), omega arith))
     (omega arith) (omega arith) (omega arith) (λ c. omega arith) (omega arith) (omega arith) (omega arith) (λ c. omega arith) (omega arith) (omega arith)
     (λ c.
     let w = c.before.before.before in
     let e = w.before.before in
     let p = e.before.before.requires in
-    (simp (lt-leb _ _ p.0, p.2, le-ltb _ _ e.if1.false) (rw (← w.wide.ensures.0, ← c.before.wide2.ensures.0) c.within.ensures.0), c.within.ensures.1)))
+    (simp (lt-leb _ _ p.0, p.2, le-ltb _ _ e.if-end-at.false) (rw (← w.wide.ensures.0, ← c.before.wide-2.ensures.0) c.within.ensures.0), c.within.ensures.1)))

@@ -11,6 +11,6 @@ unfolding flat_rate cons canonical over constructed
 flat_at_spec =
     tie.close
     (tie.spec (omega arith) (omega arith) (λ c. simp flat (c.no_rate.ensures ∙ (search reading))) (omega arith) (omega arith)
-    (λ c. simp flat (c.no_rate2.ensures ∙ (search reading depth 8))) (omega arith)
-    (λ c. simp flat (c.no_rate3.ensures ∙ (search (step, remains) depth 8))) (omega arith)
+    (λ c. simp flat (c.no_rate-then-m-ne0.ensures ∙ (search reading depth 8))) (omega arith)
+    (λ c. simp flat (c.no_rate-then-m-e.ensures ∙ (search (step, remains) depth 8))) (omega arith)
     (λ c. simp flat (c.untimed.ensures ∙ (search (step, shut) depth 8))))

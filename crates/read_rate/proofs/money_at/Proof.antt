@@ -1,5 +1,5 @@
 -- The money that was stored, taken out again.
-use Rattle.prelude.proofs.Prelude.{ap, ◌∙◌, needs}
+use Rattle.prelude.proofs.Prelude.{ap, ◌∙◌, rules}
 use Rattle.coding.{specs.Reader.Ans.got, specs.inner.Shown.shown, proofs.Reading.stay, proofs.Reading.gives}
 use Rattle.types.specs.Charges.{no_money}
 use Rattle.read_figures.proofs.Answers.{goes, after_same}
@@ -9,9 +9,9 @@ use Rattle.read_rate.proofs.money_at.Tie as tie
 pub money_at_spec : {M : Type 1} → statement M
 money_at_spec =
     tie.close
-    (tie.spec (λ c κs. search needs)
-    (λ c. let m = c.before.before.money_at in stay _ got _ _ m.ensures.0 c.if1.true ∙ ap (shown no_money) (after_same _)) (λ c κs. search needs)
+    (tie.spec (λ c κs. search rules)
+    (λ c. let m = c.before.before.money_at-m in stay _ got _ _ m.ensures.0 c.if-m-ne0.true ∙ ap (shown no_money) (after_same _)) (λ c κs. search rules)
     (λ c.
     let d = c.before.before in
-    let m = d.before.before.money_at in
-    goes _ got _ _ _ m.ensures.0 d.if1.false (rw c.money_of.ensures (gives _ _ _)) ∙ ap (shown no_money) (after_same _)))
+    let m = d.before.before.money_at-m in
+    goes _ got _ _ _ m.ensures.0 d.if-m-ne0.false (rw c.money_of-value.ensures (gives _ _ _)) ∙ ap (shown no_money) (after_same _)))

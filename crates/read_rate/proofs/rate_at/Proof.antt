@@ -7,7 +7,7 @@ use Rattle.read_rate.proofs.rate_at.Statement.{statement}
 use Rattle.read_rate.proofs.rate_at.Tie as tie
 
 -- where the element is opened, from where its price is read
-abbrev opened : tie.Else3 → tie.After-open-at
+abbrev opened : tie.Else-p-ne0 → tie.After-open_at-e
 opened c = c.before.before.before.before.before.before.before.before
 
 pub rate_at_spec : {M : Type 1} → statement M
@@ -15,12 +15,12 @@ unfolding rate cons canonical over pair constructed
 rate_at_spec =
     tie.close
     (tie.spec (omega arith) (omega arith) (λ c. simp flat (c.no_rate.ensures ∙ (search reading))) (omega arith) (omega arith)
-    (λ c. simp flat (c.no_rate2.ensures ∙ (search reading depth 8))) (omega arith) (omega arith)
-    (λ c. simp flat (c.no_rate3.ensures ∙ (search (step, stay) depth 8))) (omega arith)
+    (λ c. simp flat (c.no_rate-then-n-ne0.ensures ∙ (search reading depth 8))) (omega arith) (omega arith)
+    (λ c. simp flat (c.no_rate-then-p-ne0.ensures ∙ (search (step, stay) depth 8))) (omega arith)
     (λ c.
-    let o = (opened c.before.before.before.before).open_at.ensures.0 in
-    simp flat (c.no_rate4.ensures ∙ (search (step, remains) depth 8)))
+    let o = (opened c.before.before.before.before).open_at-e.ensures.0 in
+    simp flat (c.no_rate-then-p-e.ensures ∙ (search (step, remains) depth 8)))
     (omega arith)
     (λ c.
-    let o = (opened c.before.before.before.before.before).open_at.ensures.0 in
+    let o = (opened c.before.before.before.before.before).open_at-e.ensures.0 in
     simp flat (search (step, shut) depth 8)))

@@ -1,5 +1,5 @@
 -- Each return by the answers that led to it.
-use Rattle.prelude.proofs.Prelude.{needs, ◌∙◌}
+use Rattle.prelude.proofs.Prelude.{rules, ◌∙◌}
 use Rattle.coding.proofs.Reading.{reading}
 use Rattle.read_unit.specs.inner.Readers.{unit_number}
 use Rattle.read_unit.proofs.unit_number_at.Statement.{statement}
@@ -9,5 +9,5 @@ pub unit_number_at_spec : {M : Type 1} → statement M
 unfolding unit_number
 unit_number_at_spec =
     tie.close
-    (tie.spec (search needs) (search needs) (search needs) (λ c. c.no_units.ensures ∙ search reading) (search needs)
-    (λ c. rw c.units.ensures (search reading)) (search needs) (search needs) (λ c. c.no_units2.ensures ∙ search reading) (search needs) (λ c. rw c.units2.ensures (search reading)))
+    (tie.spec (search rules) (search rules) (search rules) (λ c. c.no_units.ensures ∙ search reading) (search rules)
+    (λ c. rw c.units.ensures (search reading)) (search rules) (search rules) (λ c. c.no_units-then-n-ne0.ensures ∙ search reading) (search rules) (λ c. rw c.units-2.ensures (search reading)))

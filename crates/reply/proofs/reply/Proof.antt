@@ -8,7 +8,7 @@ returns : tie.Need-returns
 unfolding reply_of reply_left
 returns c =
     let r = c.before.before in
-    let number = ap (λ (a : Answer). a.number) r.before.before.read_into.ensures in
+    let number = ap (λ (a : Answer). a.number) r.before.before.read_into-a.ensures in
     rw (← number) (r.reply_to.ensures.0, r.reply_to.ensures.1)
 
 pub reply_spec : {M : Type 1} → statement M

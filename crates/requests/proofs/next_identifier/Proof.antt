@@ -5,4 +5,4 @@ use Rattle.requests.proofs.next_identifier.Tie as tie
 pub next_identifier_spec : {M : Type 1} → statement M
 next_identifier_spec =
     tie.close (tie.spec
-    (omega arith) (λ c. (c.wrapping-add-u16.ensures, rw c.wrapping-add-u16.ensures (signed_next c.before.args.id (omega arith)))))
+    (omega arith) (λ c. (c.wrapping_add_u16.ensures, rw c.wrapping_add_u16.ensures (signed_next c.before.args.id (omega arith)))))

@@ -10,32 +10,32 @@ use Rattle.same_final.proofs.same_entries.Tie as tie
 abbrev test : Entries → Entries → ℕ → Bool
 test a b k = same_units (unit_at a k) (unit_at b k)
 
-abbrev invariant-loop : tie.invariant-loop
+abbrev invariant-loop : tie.invariant-loop-i
 invariant-loop count a b n i₀ i = (i ≤ n) × (each i (test a b) ≡ true)
 
-abbrev decreases-loop : tie.decreases-loop
+abbrev decreases-loop : tie.decreases-loop-i
 decreases-loop count a b n i₀ i = n - i
 
 -- from a turn's tests
-module _ (turn : tie.In-loop invariant-loop decreases-loop) where
+module _ (turn : tie.In-loop-i invariant-loop decreases-loop) where
   abbrev same : ℕ → Bool
   same = test turn.before.before.before.args.t1 turn.before.before.before.args.t2
 
-  stops : same turn.before.loop.i ≡ false → false ≡ equal_units turn.before.before.before.args.t1 turn.before.before.before.args.t2
+  stops : same turn.before.loop-i.i ≡ false → false ≡ equal_units turn.before.before.before.args.t1 turn.before.before.before.args.t2
       turn.before.before.before.args.count
   unfolding equal_units
   stops f =
-      let all : up_to 32 turn.before.before.before.args.count ≡ turn.before.before.places.result = sym turn.before.before.places.ensures.0 in
-      sym (rw all (each_fails _ same _ turn.loop-test.taken f))
+      let all : up_to 32 turn.before.before.before.args.count ≡ turn.before.before.places-n.result = sym turn.before.before.places-n.ensures.0 in
+      sym (rw all (each_fails _ same _ turn.loop-i-test.true f))
 
-  goes_on : same turn.before.loop.i ≡ true → each (turn.before.loop.i + 1) same ≡ true
-  goes_on = each_more _ same turn.before.loop.inv.1
+  goes_on : same turn.before.loop-i.i ≡ true → each (turn.before.loop-i.i + 1) same ≡ true
+  goes_on = each_more _ same turn.before.loop-i.invariant.1
 
-returns-4 : tie.Need-returns-4 invariant-loop decreases-loop
+returns-4 : tie.Need-returns-then-a-i invariant-loop decreases-loop
 unfolding equal_units
 returns-4 c =
-    let done : c.before.loop.i ≡ c.before.before.places.result = omega arith in
-    sym (rw (← c.before.before.places.ensures.0, ← done) c.before.loop.invariant.1)
+    let done : c.before.loop-i.i ≡ c.before.before.places-n.result = omega arith in
+    sym (rw (← c.before.before.places-n.ensures.0, ← done) c.before.loop-i.invariant.1)
 
 pub same_entries_spec : {M : Type 1} → statement M
 same_entries_spec =

@@ -2,18 +2,18 @@ use Rattle.prelude.proofs.Prelude.{refl, ◌∙◌, arith}
 use Rattle.step_rules.proofs.{Changes.change_promised, Changes.phase_change, Changes.not_allowed, Changes.heard, step.Statement.statement}
 use Rattle.step_rules.proofs.step.Tie as tie
 
-returns-2 : tie.Need-returns-2
-returns-2 c = change_promised _ _ _ _ (not_allowed _ _ _ _ _ c.before.before.next_phase.ensures c.plain.ensures refl c.before.if2.true)
+returns-2 : tie.Need-returns-then-phase-eq-IDLE
+returns-2 c = change_promised _ _ _ _ (not_allowed _ _ _ _ _ c.before.before.next_phase-phase.ensures c.plain.ensures refl c.before.if-phase-eq-IDLE.true)
 
-returns : tie.Need-returns
+returns : tie.Need-returns-then-e-ne-COMPONENT
 returns c =
     let m = c.before.before in
-    change_promised _ _ _ _ (c.still.ensures ∙ rw m.phase_step.ensures (phase_change _ _ _ m.before.if1.true))
+    change_promised _ _ _ _ (c.still.ensures ∙ rw m.phase_step-m.ensures (phase_change _ _ _ m.before.if-e-ne-COMPONENT.true))
 
-returns-3 : tie.Need-returns-3
+returns-3 : tie.Need-returns-then-e-ne-COMPONENT
 returns-3 c =
     let n = c.before.before in
-    change_promised _ _ _ _ (heard _ _ _ _ _ n.next_phase.ensures c.before.if2.false n.before.if1.false c.taken.ensures)
+    change_promised _ _ _ _ (heard _ _ _ _ _ n.next_phase-phase.ensures c.before.if-phase-eq-IDLE.false n.before.if-e-ne-COMPONENT.false c.taken.ensures)
 
 pub step_spec : {M : Type 1} → statement M
 step_spec =

@@ -18,18 +18,18 @@ read_apart lent stored o {r} {numbers} {rows} e i f = (λ k. apart r (i k) (f k)
 
 cast-plain : tie.Need-overflow-cast-plain
 cast-plain c =
-    let m = c.before.before.before.before.read_into in
+    let m = c.before.before.before.before.read_into-answer in
     let h : m.result.number ≤ 255 = rw (ap (λ (x : Answer). x.number) m.ensures) (number_fits _) in
     omega arith
 
-returns : tie.Need-returns
+returns : tie.Need-returns-then-answer-ne0
 returns c =
     let i = c.before.before in
     let m = i.before.before.before in
     let x = m.before.before.before.before.before.before.args in
-    taken_refused x.a x.octets.now m.read_into.ensures c.plain.result i.if1.true c.plain.ensures
+    taken_refused x.a x.octets.now m.read_into-answer.ensures c.plain.result i.if-answer-ne0.true c.plain.ensures
 
-returns-2 : tie.Need-returns-2
+returns-2 : tie.Need-returns-then-place-eq-NONE
 returns-2 c =
     let p = c.before.before in
     let r = p.before.before in
@@ -39,12 +39,12 @@ returns-2 c =
     let i = g.before.before in
     let m = i.before.before.before in
     let x = m.before.before.before.before.before.before.args in
-    let l = m.read_into.new.1 in
-    let read = read_apart l.0 l.1.0 x.octets.now m.read_into.ensures n.front_of.ensures g.figure_of.ensures in
-    taken_unkept x.a x.octets.now read i.if1.false k.claimed.result r.resolved.result p.before.noted.result
-    k.claimed.ensures r.resolved.ensures p.before.noted.ensures c.still.result (sym p.place_of.ensures ∙ c.before.if2.true) c.still.ensures
+    let l = m.read_into-answer.new.1 in
+    let read = read_apart l.0 l.1.0 x.octets.now m.read_into-answer.ensures n.front_of-front.ensures g.figure_of-figure.ensures in
+    taken_unkept x.a x.octets.now read i.if-answer-ne0.false k.claimed-claim.result r.resolved-outcome.result p.before.noted-status.result
+    k.claimed-claim.ensures r.resolved-outcome.ensures p.before.noted-status.ensures c.still.result (sym p.place_of-place.ensures ∙ c.before.if-place-eq-NONE.true) c.still.ensures
 
-returns-3 : tie.Need-returns-3
+returns-3 : tie.Need-returns-then-answer-ne0
 returns-3 c =
     let p = c.before in
     let r = p.before.before in
@@ -54,10 +54,10 @@ returns-3 c =
     let i = g.before.before in
     let m = i.before.before.before in
     let x = m.before.before.before.before.before.before.args in
-    let l = m.read_into.new.1 in
-    let read = read_apart l.0 l.1.0 x.octets.now m.read_into.ensures n.front_of.ensures g.figure_of.ensures in
-    taken_kept x.a x.octets.now read i.if1.false k.claimed.result r.resolved.result p.before.noted.result
-    k.claimed.ensures r.resolved.ensures p.before.noted.ensures p.place_of.result p.place_of.ensures c.if2.false
+    let l = m.read_into-answer.new.1 in
+    let read = read_apart l.0 l.1.0 x.octets.now m.read_into-answer.ensures n.front_of-front.ensures g.figure_of-figure.ensures in
+    taken_kept x.a x.octets.now read i.if-answer-ne0.false k.claimed-claim.result r.resolved-outcome.result p.before.noted-status.result
+    k.claimed-claim.ensures r.resolved-outcome.ensures p.before.noted-status.ensures p.place_of-place.result p.place_of-place.ensures c.if-place-eq-NONE.false
 
 pub taken_spec : {M : Type 1} → statement M
 taken_spec =

@@ -5,28 +5,28 @@ use Rattle.trace.proofs.{Whole.refused, Whole.accepted, events_into.Statement.st
 use Rattle.trace.proofs.events_into.Tie as tie
 
 -- the function's start, from where the trace is judged
-abbrev start : tie.After-judge → tie.Start
+abbrev start : tie.After-judge-v → tie.Start
 start j = j.before.before.before.before.before
 
-returns : tie.Need-returns
+returns : tie.Need-returns-then-v-ne0
 returns c =
     let j = c.before.before in
     let x = (start j).args in
-    refused x.pairs.now x.octets.now x.rows.now x.out.now j.judge.ensures c.if1.true
+    refused x.pairs.now x.octets.now x.rows-1.now x.out-1.now j.judge-v.ensures c.if-v-ne0.true
 
 lay-requires : tie.Need-lay-requires
 lay-requires c κs =
     let i = c.before.before in
     let j = i.before.before in
-    not_refused (start j).args.pairs.now (start j).args.octets.now (sym (ap (λ (v : TraceVerdict). v.number) j.judge.ensures) ∙ i.if1.false)
+    not_refused (start j).args.pairs.now (start j).args.octets.now (sym (ap (λ (v : TraceVerdict). v.number) j.judge-v.ensures) ∙ i.if-v-ne0.false)
 
-returns-2 : tie.Need-returns-2
+returns-2 : tie.Need-returns-then-v-ne0
 returns-2 c =
     let p = c.before.before.before.before in
     let i = p.before.before.before in
     let j = i.before.before in
     let x = (start j).args in
-    accepted x.pairs.now x.octets.now x.rows.now x.out.now j.judge.ensures i.if1.false p.lay.ensures
+    accepted x.pairs.now x.octets.now x.rows-1.now x.out-1.now j.judge-v.ensures i.if-v-ne0.false p.lay.ensures
 
 pub events_into_spec : {M : Type 1} → statement M
 events_into_spec = tie.close (tie.spec (omega arith) returns lay-requires (omega arith) (omega arith) returns-2)

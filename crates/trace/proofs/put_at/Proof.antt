@@ -5,33 +5,33 @@ use Rattle.trace.proofs.{Laying.puts_none, Laying.puts_as, Laying.rooms_as, put_
 use Rattle.trace.proofs.put_at.Tie as tie
 
 -- the function's start, from where it is a Facility element, whose components those at the place are
-abbrev start : tie.Else2 → tie.Start
+abbrev start : tie.Else-s-at-ne28 → tie.Start
 start f = f.before.before.before.before.before.before
 
-facility : (f : tie.Else2) → let x = (start f).args in
+facility : (f : tie.Else-s-at-ne28) → let x = (start f).args in
     component_events (components_at x.s.now x.at x.under) ≡ component_events (components_in (part x.s.now x.at x.next))
 facility f =
     let x = (start f).args in
-    ap component_events (at_facility x.s.now x.at x.under x.next f.before.before.if1.false f.if2.false (start f).requires.2)
+    ap component_events (at_facility x.s.now x.at x.under x.next f.before.before.if-under-ne0.false f.if-s-at-ne28.false (start f).requires.2)
 
-returns : tie.Need-returns
+returns : tie.Need-returns-then-under-ne0
 returns c =
     let x = c.before.before.before.before.args in
-    puts_as (sym (ap component_events (at_under x.s.now x.at x.under c.if1.true))) (puts_none _ _ _)
+    puts_as (sym (ap component_events (at_under x.s.now x.at x.under c.if-under-ne0.true))) (puts_none _ _ _)
 
-returns-2 : tie.Need-returns-2
+returns-2 : tie.Need-returns-then-s-at-ne28
 returns-2 c =
     let x = c.before.before.before.before.before.before.args in
-    puts_as (sym (ap component_events (at_other x.s.now x.at x.under c.before.before.if1.false c.if2.true))) (puts_none _ _ _)
+    puts_as (sym (ap component_events (at_other x.s.now x.at x.under c.before.before.if-under-ne0.false c.if-s-at-ne28.true))) (puts_none _ _ _)
 
-put-tiles-requires : tie.Need-put-tiles-requires
+put-tiles-requires : tie.Need-put_tiles-requires
 unfolding part
 put-tiles-requires c κs =
     let f = c.before.before.before in
     let s = start f in
     (omega (arith, s.pre.3, part_length s.args.s.now s.args.at s.args.next s.pre.1), rooms_as (facility f) s.pre.4)
 
-returns-3 : tie.Need-returns-3
+returns-3 : tie.Need-returns-then-under-ne0
 unfolding part
 returns-3 c =
     let p = c.before.before.before.before in

@@ -4,7 +4,7 @@ use Rattle.trace.proofs.{Cited.{arith, refl}, Laying.{row_room, run_room, event_
 use Rattle.trace.proofs.put_component.Tie as tie
 
 -- the function's start, from where the row is put; the event
-abbrev start : tie.After-put-row → tie.Start
+abbrev start : tie.After-put_row-row → tie.Start
 start r = r.before.before.before.before.before.before
 
 abbrev its : tie.Start → Event
@@ -14,12 +14,12 @@ returns : tie.Need-returns
 returns c =
     let o = c.before.before in
     let r = o.before.before.before.before in
-    event_put (its (start r)) (start r).args.octets.now _ _ _ _ (start r).args.p _ _ refl (rw r.before.before.bare_event.ensures at r.put_row.ensures) o.put_octets.ensures
+    event_put (its (start r)) (start r).args.octets.now _ _ _ _ (start r).args.p _ _ refl (rw r.before.before.bare_event-e.ensures at r.put_row-row.ensures) o.put_octets-end.ensures
 
 pub put_component_spec : {M : Type 1} → statement M
 put_component_spec =
     tie.close
     (tie.spec (omega arith) (λ c. let s = c.before.before.before.before.before in omega (arith, s.requires.0))
-    (λ c κs. let b = c.before in let s = b.before.before.before.before in rw b.bare_event.ensures (row_room (its s) s.args.octets.now _ refl s.requires.1))
+    (λ c κs. let b = c.before in let s = b.before.before.before.before in rw b.bare_event-e.ensures (row_room (its s) s.args.octets.now _ refl s.requires.1))
     (λ c κs. let s = start c.before.before.before in (omega arith, run_room (its s) s.args.octets.now s.pre.1))
     (omega arith) (omega arith) returns)

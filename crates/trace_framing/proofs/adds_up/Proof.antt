@@ -5,4 +5,4 @@ use Rattle.trace_framing.proofs.adds_up.Tie as tie
 
 pub adds_up_spec : {M : Type 1} → statement M
 unfolding lengths_add_up
-adds_up_spec = tie.close (tie.spec (omega arith) (λ c. rw (eq-eqb _ _ c.before.if1.true) c.lengths_fit.ensures) (λ c. rw (ne_eqb _ _ c.if1.false) refl))
+adds_up_spec = tie.close (tie.spec (omega arith) (λ c. rw (eq-eqb _ _ c.before.if-pairs-eq0.true) c.lengths_fit.ensures) (λ c. rw (ne_eqb _ _ c.if-pairs-eq0.false) refl))

@@ -4,10 +4,10 @@ use Rattle.trace_framing.proofs.{Laws.headed_long, is_framed.Statement.statement
 use Rattle.trace_framing.proofs.is_framed.Tie as tie
 
 -- the head is right
-is_headed : (c : tie.Then1) → headed c.before.before.before.args.s.now ≡ true
-is_headed c = sym c.before.is_headed.ensures ∙ c.if1.true
+is_headed : (c : tie.Then-is_headed) → headed c.before.before.before.args.s.now ≡ true
+is_headed c = sym c.before.is_headed.ensures ∙ c.if-is_headed.true
 
-returns : tie.Need-returns
+returns : tie.Need-returns-then-is_headed
 unfolding framed
 returns c =
     let w = c.before in
@@ -21,4 +21,4 @@ is_framed_spec =
     (tie.spec (omega arith)
     (λ c. let h = c.before in omega (arith, (headed_long h.before.before.before.args.s.now (is_headed h)).0)) (omega arith) (omega arith)
     (λ c κs. let h = c.before.before in omega (arith, c.wide.ensures.0, (headed_long h.before.before.before.args.s.now (is_headed h)).1)) returns
-    (λ c. unfold framed in rw (← c.before.is_headed.ensures, c.if1.false) refl))
+    (λ c. unfold framed in rw (← c.before.is_headed.ensures, c.if-is_headed.false) refl))

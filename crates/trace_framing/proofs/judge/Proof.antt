@@ -4,13 +4,13 @@ use Rattle.trace_framing.proofs.judge.Statement.{statement}
 use Rattle.trace_framing.proofs.judge.Tie as tie
 
 -- the lengths add up
-adds : (c : tie.Else1) → let x = c.before.before.before.before.args in lengths_add_up x.pairs.now (length x.octets.now) ≡ true
-adds c = sym c.before.adds_up.ensures ∙ not-false _ c.if1.false
+adds : (c : tie.Else-not-adds_up) → let x = c.before.before.before.before.args in lengths_add_up x.pairs.now (length x.octets.now) ≡ true
+adds c = sym c.before.adds_up.ensures ∙ c.if-not-adds_up.false
 
 pub judge_spec : {M : Type 1} → statement M
 unfolding verdict_of
 judge_spec =
     tie.close
-    (tie.spec (omega arith) (λ c. sym (rw (sym c.before.adds_up.ensures ∙ not-true _ c.if1.true))) (λ c κs. adds c)
-    (λ c. let f = c.before in sym (rw (adds f.before, ← f.first_unframed.ensures, eq-eqb _ _ c.if2.true)))
-    (λ c. let f = c.before in sym (rw (adds f.before, ← f.first_unframed.ensures, ne_eqb _ _ c.if2.false))))
+    (tie.spec (omega arith) (λ c. sym (rw (sym c.before.adds_up.ensures ∙ c.if-not-adds_up.true))) (λ c κs. adds c)
+    (λ c. let f = c.before in sym (rw (adds f.before, ← f.first_unframed-n.ensures, eq-eqb _ _ c.if-n-eq0.true)))
+    (λ c. let f = c.before in sym (rw (adds f.before, ← f.first_unframed-n.ensures, ne_eqb _ _ c.if-n-eq0.false))))

@@ -7,4 +7,4 @@ setup_of_spec =
     tie.close
     (tie.spec (λ c κs. c.before.requires) (λ c κs. c.before.before.requires) (λ c κs. c.before.before.before.requires)
     (omega arith)
-    (λ c. let d = c.before.before in c.event_of.ensures ∙ rw (c.before.asked_from3.ensures, d.asked_from2.ensures, d.before.asked_from.ensures)))
+    (λ c. let d = c.before.before in c.event_of.ensures ∙ rw (c.before.asked_from-e0.ensures, d.asked_from-d0.ensures, d.before.asked_from-s0.ensures)))

@@ -1,5 +1,5 @@
 -- The length, then the component, then its answer.
-use Rattle.prelude.proofs.Prelude.{arith, needs, refl, ap, sym, ◌∙◌}
+use Rattle.prelude.proofs.Prelude.{arith, rules, refl, ap, sym, ◌∙◌}
 use Rattle.coding.specs.Reader.{part}
 use Rattle.types.specs.Stored.{figure_in}
 use Rattle.trunk_types.specs.{Stored.body_in, Stored.trunk_in, Components.no_trunk, Components.trunk_accepted}
@@ -11,17 +11,17 @@ pub read_into_spec : {M : Type 1} → statement M
 unfolding trunk_in body_in figure_in part
 read_into_spec =
     tie.close
-    (tie.spec (λ c. (too_long _ c.if1.true, refl))
+    (tie.spec (λ c. (too_long _ c.if-octets-gt254.true, refl))
     (λ c κs. (omega arith, record { front_bare = refl; extension_bare = refl; charge_bare = record { figure_blank = refl; numbers_blank = refl; rows_blank = refl } }))
     (λ c.
     let r = c.before.before in
     let short = r.before.before.before.before.before.before in
-    let e = r.component_at.ensures in
-    (ap trunk_accepted (sym (is_stored no_trunk _ c.if2.true)) ∙ accepts _ short.if1.false e.0 c.if2.true, e.1))
-    (search needs) (search needs) (search needs)
+    let e = r.component_at-r.ensures in
+    (ap trunk_accepted (sym (is_stored no_trunk _ c.if-r-eq0.true)) ∙ accepts _ short.if-octets-gt254.false e.0 c.if-r-eq0.true, e.1))
+    (search rules) (search rules) (search rules)
     (λ c.
     let n = c.before in
     let bad = n.before.before.before.before.before.before in
     let r = bad.before.before in
     let short = r.before.before.before.before.before.before in
-    (rw (c.offset_of.ensures, one_octet _ _ (placed _ short.if1.false r.component_at.ensures.0), n.number_of_lem.ensures) (refuses _ short.if1.false r.component_at.ensures.0 bad.if2.false), refl)))
+    (rw (c.offset_of-offset.ensures, one_octet _ _ (placed _ short.if-octets-gt254.false r.component_at-r.ensures.0), n.number_of-number.ensures) (refuses _ short.if-octets-gt254.false r.component_at-r.ensures.0 bad.if-r-eq0.false), refl)))

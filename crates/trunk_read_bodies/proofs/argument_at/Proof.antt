@@ -1,5 +1,5 @@
 -- By the operation.
-use Rattle.prelude.proofs.Prelude.{needs}
+use Rattle.prelude.proofs.Prelude.{rules}
 use Rattle.trunk_read_fields.proofs.Stores.{bare_body, zero_spare}
 use Rattle.trunk_read_bodies.proofs.{Stores.argument_form, Stores.argument_dummy, Stores.blank_none, argument_at.Statement.statement}
 use Rattle.trunk_read_bodies.proofs.argument_at.Tie as tie
@@ -11,9 +11,9 @@ argument_at_spec =
     (λ c.
     let t = c.before.before in
     let p = t.before.before.requires.1 in
-    (rw (argument_dummy _ t.if1.true, blank_none p.charge_bare, bare_body _ p.front_bare) c.dummy_at.ensures, zero_spare p.front_bare))
-    (λ c κs. search needs)
+    (rw (argument_dummy _ t.if-operation-eq-GET_FINAL_CHARGE.true, blank_none p.charge_bare, bare_body _ p.front_bare) c.dummy_at.ensures, zero_spare p.front_bare))
+    (λ c κs. search rules)
     (λ c.
     let e = c.before.before.before.before.before.before in
     let p = e.before.before.requires.0 in
-    (rw (argument_form _ p.1 e.if1.false) c.extended_at.ensures.0, c.extended_at.ensures.1)))
+    (rw (argument_form _ p.1 e.if-operation-eq-GET_FINAL_CHARGE.false) c.extended_at.ensures.0, c.extended_at.ensures.1)))

@@ -1,5 +1,5 @@
 -- By the form.
-use Rattle.prelude.proofs.Prelude.{needs, eq-eqb, ne_eqb}
+use Rattle.prelude.proofs.Prelude.{rules, eq-eqb, ne_eqb}
 use Rattle.coding.proofs.Reading.{picks_run, skips_run}
 use Rattle.trunk_read_bodies.specs.inner.Bodied.{inner_of}
 use Rattle.trunk_read_fields.proofs.Stores.{zero_spare}
@@ -12,7 +12,7 @@ pub inner_at_spec : {M : Type 1} → statement M
 unfolding inner_of
 inner_at_spec =
     tie.close
-    (tie.spec (λ c κs. search needs) (λ c κs. search needs) (λ c κs. search needs) (λ c κs. search needs) (λ c κs. search needs) (λ c κs. search needs)
-    (λ c. (search (uncharged, forms), search)) (λ c. (search (uncharged, forms, c.before.before.match.keys2), search))
-    (λ c. (search (uncharged, forms, c.before.before.match.keys3) depth 8, search)) (λ c. (search (unlisted, forms, c.before.before.before.match.keys4) depth 8, search))
-    (λ c. (search (unlisted, forms, c.before.before.before.match.keys5) depth 8, search)) (λ c. (search (charge_alone, forms) depth 8, search zero_spare)))
+    (tie.spec (λ c κs. search rules) (λ c κs. search rules) (λ c κs. search rules) (λ c κs. search rules) (λ c κs. search rules) (λ c κs. search rules)
+    (λ c. (search (uncharged, forms), search)) (λ c. (search (uncharged, forms, c.before.before.in-2.is), search))
+    (λ c. (search (uncharged, forms, c.before.before.in-59.is) depth 8, search)) (λ c. (search (unlisted, forms, c.before.before.before.in-64.is) depth 8, search))
+    (λ c. (search (unlisted, forms, c.before.before.before.in-65.is) depth 8, search)) (λ c. (search (charge_alone, forms) depth 8, search zero_spare)))

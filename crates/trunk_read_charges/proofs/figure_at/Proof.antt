@@ -1,5 +1,5 @@
 -- Each return by the answers that led to it.
-use Rattle.prelude.proofs.Prelude.{arith, needs}
+use Rattle.prelude.proofs.Prelude.{arith, rules}
 use Rattle.coding.{specs.Codec.sort, proofs.Reading.reading}
 use Rattle.types.specs.Arguments.{settled}
 use Rattle.trunk_types.specs.Bodies.{figures}
@@ -10,5 +10,5 @@ pub figure_at_spec : {M : Type 1} → statement M
 unfolding figures settled sort
 figure_at_spec =
     tie.close
-    (tie.spec (omega arith) (λ c κs. search needs) (λ c. (search reading, search)) (omega arith) (λ c κs. search needs) (λ c. (search reading, search)) (λ c κs. search needs)
+    (tie.spec (omega arith) (λ c κs. search rules) (λ c. (search reading, search)) (omega arith) (λ c κs. search rules) (λ c. (search reading, search)) (λ c κs. search rules)
     (λ c. (search reading, search)))

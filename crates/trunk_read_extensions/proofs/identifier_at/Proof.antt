@@ -9,4 +9,4 @@ unfolding primitive
 identifier_at_spec =
     tie.close
     (tie.spec (omega arith) (omega arith) (λ c. rw c.halted.ensures (search reading)) (omega arith) (omega arith)
-    (λ c. rw c.halted2.ensures (search (step, fails (tt {0})))) (omega arith) (λ c. rw c.reached.ensures (search (step, passes (tt {0})))))
+    (λ c. rw c.halted-then-fault-ne0.ensures (search (step, fails (tt {0})))) (omega arith) (λ c. rw c.reached.ensures (search (step, passes (tt {0})))))

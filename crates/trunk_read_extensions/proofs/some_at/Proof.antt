@@ -1,5 +1,5 @@
 -- By the next tag.
-use Rattle.prelude.proofs.Prelude.{arith, needs}
+use Rattle.prelude.proofs.Prelude.{arith, rules}
 use Rattle.coding.{specs.Codec.sort, proofs.Reading.picks, proofs.Reading.skips}
 use Rattle.trunk_types.specs.Extensions.{some_extension}
 use Rattle.trunk_read_extensions.proofs.some_at.Statement.{statement}
@@ -9,4 +9,4 @@ pub some_at_spec : {M : Type 1} → statement M
 unfolding some_extension sort
 some_at_spec =
     tie.close
-    (tie.spec (omega arith) (λ c κs. search needs) (λ c. search (picks, skips)) (λ c κs. search needs) (λ c. search (picks, skips)))
+    (tie.spec (omega arith) (λ c κs. search rules) (λ c. search (picks, skips)) (λ c κs. search rules) (λ c. search (picks, skips)))

@@ -12,4 +12,4 @@ detail_at_spec =
     (λ c.
     let n = c.before.before.before.before in
     let z = n.before.before.requires.1 in
-    (rw (z, detail_stored) (search (storing, reading)), rw z (detail_spare n.natural_at.result.value))))
+    (rw (z, detail_stored) (search (storing, reading)), rw z (detail_spare n.natural_at-n.result.value))))

@@ -3,10 +3,10 @@ use Rattle.prelude.proofs.Prelude.{◌-◌, arith}
 use Rattle.trunk_read_fields.proofs.{Asked.Asked, Asked.asked_none, Asked.asked_start, Asked.asked_more, Asked.asked_spare, Asked.done_spare, Asked.asking, Stores.zero_spare, modes_in.Statement.statement}
 use Rattle.trunk_read_fields.proofs.modes_in.Tie as tie
 
-abbrev invariant-loop : tie.invariant-loop
+abbrev invariant-loop : tie.invariant-loop-i
 invariant-loop s at end front₀ count₀ i₀ front count i = Asked s at end front count i
 
-abbrev decreases-loop : tie.decreases-loop
+abbrev decreases-loop : tie.decreases-loop-i
 decreases-loop s at end front₀ count₀ i₀ front count i = 7 - count
 
 pub modes_in_spec : {M : Type 1} → statement M

@@ -1,5 +1,5 @@
 -- Each return by the answers that led to it.
-use Rattle.prelude.proofs.Prelude.{arith, needs, ◌≡◌, refl, ◌∙◌, replicate}
+use Rattle.prelude.proofs.Prelude.{arith, rules, ◌≡◌, refl, ◌∙◌, replicate}
 use Rattle.coding.{specs.Reader.after, specs.Reader.Ans.got, specs.Codec.prim, specs.Leaves.number, specs.inner.Shown.shown, proofs.Reading.reading, proofs.Reading.step, proofs.Reading.gives}
 use Rattle.types.specs.Stored.{association_in}
 use Rattle.read_lengths.specs.inner.Bounds.{Bounded}
@@ -9,27 +9,27 @@ use Rattle.trunk_read_fields.proofs.{Stores.zero_clear, Stores.zero_spare, Store
 use Rattle.trunk_read_fields.proofs.network_at.Tie as tie
 
 -- what is left to read where the first address is read, and what is known there
-addressed : (c : tie.Else2) →
+addressed : (c : tie.Else-u-ne0) →
     let u = c.before.before in
     let n = u.before.before.before.before.before in
     let g = n.before.before.args in
-    let front = u.address_at.new.1.1.1.1.0 in
-    (shown no_body (after ((prim 0x82 (number 0 1)).read g.s.now u.address_at.result.next g.end) (λ i l.
-    after ((address 0xa3).read g.s.now l g.end) (λ a last. got (naming n.natural_at.result.value i (association_in front) a) last)))
+    let front = u.address_at-u.new.1.1.1.1.0 in
+    (shown no_body (after ((prim 0x82 (number 0 1)).read g.s.now u.address_at-u.result.next g.end) (λ i l.
+    after ((address 0xa3).read g.s.now l g.end) (λ a last. got (naming n.natural_at-d.result.value i (association_in front) a) last)))
     ≡ shown no_body (network.read g.s.now g.at g.end))
     × (g.front.now ≡ replicate 48 0) × SameBeside g.front.now front × (g.figure.now ≡ replicate 48 0) × Bounded g.s.now g.end × Spare front
 addressed c =
     let u = c.before.before in
     let n = u.before.before.before.before.before in
     let p = n.before.before.requires in
-    let k = u.address_at.ensures.1 in
-    (rw network_read (search (goes, step, refl) depth 8), p.1.0, k, p.1.1, p.0, user_spare _ u.address_at.new.1.1.1.1.0 p.1.0 k)
+    let k = u.address_at-u.ensures.1 in
+    (rw network_read (search (goes, step, refl) depth 8), p.1.0, k, p.1.1, p.0, user_spare _ u.address_at-u.new.1.1.1.1.0 p.1.0 k)
 
 pub network_at_spec : {M : Type 1} → statement M
 network_at_spec =
     tie.close
     (tie.spec (omega arith) (omega arith) (λ c. (rw network_read (search (storing, reading)), search zero_spare)) (omega arith)
-    (λ c κs. search (needs, zero_clear)) (omega arith) (λ c. (rw network_read (search (storing, reading)), search user_spare)) (omega arith) (omega arith)
+    (λ c κs. search (rules, zero_clear)) (omega arith) (λ c. (rw network_read (search (storing, reading)), search user_spare)) (omega arith) (omega arith)
     (λ c. let m = addressed c.before.before.before.before in (search (storing, reading) ∙ m.0, m.5)) (omega arith)
     (λ c κs. let m = addressed c.before.before.before.before.before in (m.4, zero_clear _ m.3)) (omega arith)
     (λ c.
@@ -41,12 +41,12 @@ network_at_spec =
     let e = a.before.before.before.before.before in
     let u = e.before.before.before in
     let n = u.before.before.before.before.before in
-    let front = u.address_at.new.1.1.1.1.0 in
-    let figure = a.address_at2.new.1.1.1.1.0 in
-    let source = n.natural_at.result.value in
-    let destination = e.natural_at2.result.value in
+    let front = u.address_at-u.new.1.1.1.1.0 in
+    let figure = a.address_at-a.new.1.1.1.1.0 in
+    let source = n.natural_at-d.result.value in
+    let destination = e.natural_at-e.result.value in
     let m = addressed e.before in (
-      network_arrived _ _ front _ figure m.1 m.2 m.3 a.address_at2.ensures.1 c.reached.ensures source destination
+      network_arrived _ _ front _ figure m.1 m.2 m.3 a.address_at-a.ensures.1 c.reached.ensures source destination
           (search (goes, step, gives) ∙ m.0),
       entities_spare _ front m.1 m.2 source destination,
     )))

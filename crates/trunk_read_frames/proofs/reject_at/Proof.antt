@@ -18,7 +18,7 @@ reject_at_spec =
     let p = g.before.before in
     let i = p.before.before.before in (
       rw (rejected_read, k.keep_lead.ensures.0 _ _, i.before.before.requires.1, detail_body) (arrived _ _ c.reached.ensures
-          (step _ _ _ _ i.caller_at.ensures.0 p.before.if1.false (step _ _ _ _ p.problems_at.ensures g.if2.false
-          (rw (i.caller_at.ensures.1 _ _) (gives _ _ _))))),
+          (step _ _ _ _ i.caller_at-i.ensures.0 p.before.if-i-ne0.false (step _ _ _ _ p.problems_at-p.ensures g.if-p-ne0.false
+          (rw (i.caller_at-i.ensures.1 _ _) (gives _ _ _))))),
       k.keep_lead.ensures.1,
     )))

@@ -4,4 +4,4 @@ use Rattle.trunk_read_heads.proofs.known_error.Tie as tie
 
 pub known_error_spec : {M : Type 1} → statement M
 unfolding one_of
-known_error_spec = tie.close (tie.spec (λ c. rw c.match.keys1) (λ c. rw c.match.keys2) (λ c. rw c.match.keys3) (λ c. rw c.match.keys4) (λ c. search tests))
+known_error_spec = tie.close (tie.spec (λ c. rw c.in-3.is) (λ c. rw c.in-10.is) (λ c. rw c.in-1008.is) (λ c. rw c.in-1016.is) (λ c. search tests))

@@ -9,5 +9,5 @@ pub known_operation_spec : {M : Type 1} → statement M
 unfolding count
 known_operation_spec =
     tie.close (tie.spec
-    (λ c. sym (counted 59 7 _ c.before.if1.false c.if2.true)) (λ c. sym (none_of (leb 59) trunk_operations _ refl (lt-leb _ _ c.if1.true)))
-    (λ c. sym (none_of (λ k. ltb k 66) trunk_operations _ refl (le-ltb _ _ c.if2.false))))
+    (λ c. sym (counted 59 7 _ c.before.if-n-lt59.false c.if-n-lt66.true)) (λ c. sym (none_of (leb 59) trunk_operations _ refl (lt-leb _ _ c.if-n-lt59.true)))
+    (λ c. sym (none_of (λ k. ltb k 66) trunk_operations _ refl (le-ltb _ _ c.if-n-lt66.false))))

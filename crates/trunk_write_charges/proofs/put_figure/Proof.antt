@@ -9,4 +9,4 @@ put_figure_spec =
     tie.close
     (tie.spec (λ c κs. search (room_as, none_octets)) (omega arith) (λ c. search (wrote_is, none_octets)) (λ c κs. search (room_as, free_octets)) (omega arith)
     (λ c. search (wrote_is, free_octets)) (λ c κs. let d = c.before.before.before in let s = d.before.before.before in
-    (s.requires.0 d.if1.false c.before.if2.false, search (room_as, money_octets_lem))) (omega arith) (λ c. search (wrote_is, money_octets_lem)))
+    (s.requires.0 d.if-f-eq-NONE.false c.before.if-f-eq-FREE.false, search (room_as, money_octets_lem))) (omega arith) (λ c. search (wrote_is, money_octets_lem)))

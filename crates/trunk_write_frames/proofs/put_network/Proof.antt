@@ -4,23 +4,23 @@ use Rattle.trunk_write_frames.proofs.{Cited.{arith, room_head, wrote_both, room_
 use Rattle.trunk_write_frames.proofs.put_network.Tie as tie
 
 -- the first address is put
-abbrev source : tie.After-put-address → tie.After-put-small
+abbrev source : tie.After-put_address-q → tie.After-put_small-p
 source b = b.before.before.before.before
 
-abbrev start : tie.After-put-small → tie.Start
+abbrev start : tie.After-put_small-p → tie.Start
 start a = a.before.before.before.before
 
-put-address-requires-2 : tie.Need-put-address-requires-2
+put-address-requires-2 : tie.Need-put_address-q-requires
 unfolding network_octets
 put-address-requires-2 c κs =
     let d = c.before.before.before in let b = d.before.before.before.before.before in let a = source b in let p = (start a).pre in
-    (p.0.destination_address, room_tail d.put_small2.ensures (room_third b.put_address.ensures a.put_small.ensures p.1))
+    (p.0.destination_address, room_tail d.put_small-t.ensures (room_third b.put_address-q.ensures a.put_small-p.ensures p.1))
 
 returns : tie.Need-returns
 unfolding network_octets
 returns c =
     let e = c.before.before in let d = e.before.before.before.before in let b = d.before.before.before.before.before in
-    wrote_both (source b).put_small.ensures (wrote_both b.put_address.ensures (wrote_both d.put_small2.ensures e.put_address2.ensures))
+    wrote_both (source b).put_small-p.ensures (wrote_both b.put_address-q.ensures (wrote_both d.put_small-t.ensures e.put_address.ensures))
 
 pub put_network_spec : {M : Type 1} → statement M
 unfolding network_octets
@@ -30,5 +30,5 @@ put_network_spec =
     (λ c κs. ((start c.before.before.before).requires.0.source_address, search room)) (λ c. omega arith)
     (λ c κs.
     let b = c.before.before.before.before in let a = source b in let p = (start a).pre in
-    (omega (arith, p.0.destination), room_head _ (room_third b.put_address.ensures a.put_small.ensures p.1)))
+    (omega (arith, p.0.destination), room_head _ (room_third b.put_address-q.ensures a.put_small-p.ensures p.1)))
     put-address-requires-2 (λ c. omega arith) returns)

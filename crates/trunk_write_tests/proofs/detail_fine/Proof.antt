@@ -8,5 +8,5 @@ pub detail_fine_spec : {M : Type 1} → statement M
 unfolding detail_fine
 detail_fine_spec =
     tie.close
-    (tie.spec (omega arith) (λ c. rw c.match.keys1) (λ c. rw c.match.keys2) (λ c. rw c.match.keys3) (λ c. rw c.match.keys4)
-    (λ c. rw c.before.match.keys5 c.problem_fine.ensures) (λ c. search (tests, zero_eqb)))
+    (tie.spec (omega arith) (λ c. rw c.in-1.is) (λ c. rw c.in-2.is) (λ c. rw c.in-65.is) (λ c. rw c.in-10.is)
+    (λ c. rw c.before.in-4.is c.problem_fine.ensures) (λ c. search (tests, zero_eqb)))

@@ -1,4 +1,4 @@
-use Rattle.prelude.proofs.Prelude.{arith, needs}
+use Rattle.prelude.proofs.Prelude.{arith, rules}
 use Rattle.coding.specs.Reader.{part}
 use Rattle.write_tests.proofs.Truth.{answered}
 use Rattle.trunk_write_tests.specs.inner.Fine.{front_fits}
@@ -11,4 +11,4 @@ front_fine_spec =
     tie.close
     (tie.spec (omega arith) (λ c κs. omega arith) (λ c. search answered) (omega arith) (λ c κs. omega arith) (λ c. search answered) (omega arith)
     (omega arith) (omega arith) (λ c κs. omega arith) (λ c κs. omega arith) (λ c. search (answered, no_people)) (λ c κs. omega arith)
-    (λ c. search answered) (λ c κs. omega arith) (λ c κs. search needs) (λ c. search (answered, as_front)))
+    (λ c. search answered) (λ c κs. omega arith) (λ c κs. search rules) (λ c. search (answered, as_front)))

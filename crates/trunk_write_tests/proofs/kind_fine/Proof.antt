@@ -8,6 +8,6 @@ pub kind_fine_spec : {M : Type 1} → statement M
 unfolding kind_fine
 kind_fine_spec =
     tie.close
-    (tie.spec (λ c. rw c.match.keys1) (λ c. rw c.before.match.keys2 (search (tests, or-false))) (λ c. rw c.before.match.keys2 (search (tests, or-false)))
-    (λ c. rw c.before.match.keys3 (search (tests, or-false))) (λ c. rw c.before.match.keys3 (search (tests, or-false))) (λ c. rw c.match.keys4)
+    (tie.spec (λ c. rw c.in-0.is) (λ c. rw c.before.in-1.is (search (tests, or-false))) (λ c. rw c.before.in-1.is (search (tests, or-false)))
+    (λ c. rw c.before.in-2.is (search (tests, or-false))) (λ c. rw c.before.in-2.is (search (tests, or-false))) (λ c. rw c.in-4.is)
     (λ c. rw (lt-leb c.before.args.kind 2 (omega arith)) (search tests)))

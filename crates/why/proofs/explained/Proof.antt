@@ -6,44 +6,44 @@ use Rattle.why.proofs.{Seeing.run_next, Seeing.run_ends, explained.Statement.sta
 use Rattle.why.proofs.explained.Tie as tie
 
 -- the state is that of the first i events
-abbrev invariant-loop : tie.invariant-loop
+abbrev invariant-loop : tie.invariant-loop-i
 invariant-loop rows octets n state₀ at₀ i₀ state at i = (i ≤ length rows / 6) × (at ≡ place_at rows i) × (state ≡ state_by (judged (before rows octets i)))
 
-abbrev decreases-loop : tie.decreases-loop
+abbrev decreases-loop : tie.decreases-loop-i
 decreases-loop rows octets n state₀ at₀ i₀ state at i = n - i
 
-begin : tie.Need-loop-init invariant-loop decreases-loop
+begin : tie.Need-loop-i-init invariant-loop decreases-loop
 unfolding before place_at
-begin c = (omega arith, refl, rw c.fresh.ensures refl)
+begin c = (omega arith, refl, rw c.fresh-account.ensures refl)
 
 -- event i is counted: the loop's place, the function's arguments; its octets end inside
-module _ (n : tie.After-count-at invariant-loop decreases-loop) where
-  abbrev loop : tie.At-loop invariant-loop decreases-loop
+module _ (n : tie.After-count_at invariant-loop decreases-loop) where
+  abbrev loop : tie.At-loop-i invariant-loop decreases-loop
   loop = n.before.before
 
   abbrev start : tie.Start invariant-loop decreases-loop
   start = loop.before.before.before.before
 
-  ends : loop.loop.at + n.count_at.result ≤ length start.args.octets.now
-  ends = turn_inside start.args.rows.now start.args.octets.now loop.loop.i loop.loop.inv.1 n.count_at.ensures start.pre n.before.loop-test.taken
+  ends : loop.loop-i.at + n.count_at.result ≤ length start.args.octets.now
+  ends = turn_inside start.args.rows.now start.args.octets.now loop.loop-i.i loop.loop-i.invariant.1 n.count_at.ensures start.pre n.before.loop-i-test.true
 
-loop-again : tie.Need-loop-preserved invariant-loop decreases-loop
+loop-again : tie.Need-loop-i-preserved invariant-loop decreases-loop
 loop-again c =
     let rowed = c.before.before in
     let n = rowed.before in
     let x = (start n).args in
-    let l = (loop n).loop in (
-      omega (arith, n.before.loop-test.true),
-      next_place x.rows.now x.octets.now l.i l.inv.1 n.count_at.ensures,
-      run_next x.rows.now x.octets.now l.i l.inv.1 n.count_at.ensures rowed.row_at.ensures l.inv.2 c.turn.ensures,
+    let l = (loop n).loop-i in (
+      omega (arith, n.before.loop-i-test.true),
+      next_place x.rows.now x.octets.now l.i l.invariant.1 n.count_at.ensures,
+      run_next x.rows.now x.octets.now l.i l.invariant.1 n.count_at.ensures rowed.row_at-e.ensures l.invariant.2 c.turn-state.ensures,
     )
 
 returns : tie.Need-returns invariant-loop decreases-loop
 returns c =
     let l = c.before.before in
     let x = l.before.before.before.before.args in
-    let e : l.loop.i ≡ length x.rows.now / 6 = omega (arith, l.loop.invariant.0, c.before.loop-test.false) in
-    c.concluded.ensures ∙ run_ends x.rows.now x.octets.now l.loop.i l.loop.state e l.loop.invariant.2
+    let e : l.loop-i.i ≡ length x.rows.now / 6 = omega (arith, l.loop-i.invariant.0, c.before.loop-i-test.false) in
+    c.concluded.ensures ∙ run_ends x.rows.now x.octets.now l.loop-i.i l.loop-i.state e l.loop-i.invariant.2
 
 pub explained_spec : {M : Type 1} → statement M
 explained_spec =

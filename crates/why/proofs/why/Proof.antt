@@ -6,4 +6,4 @@ use Rattle.why.proofs.why.Tie as tie
 
 pub why_spec : {M : Type 1} → statement M
 unfolding why_of
-why_spec = tie.close (tie.spec (omega arith) (λ c. search ways) (λ c κs. sym c.before.adds_up.ensures ∙ not-false _ c.if1.false) (λ c. search ways))
+why_spec = tie.close (tie.spec (omega arith) (λ c. search ways) (λ c κs. sym c.before.adds_up.ensures ∙ c.if-not-adds_up.false) (λ c. search ways))

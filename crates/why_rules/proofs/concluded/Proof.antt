@@ -3,20 +3,20 @@ use Rattle.phases.proofs.Choice.{tests}
 use Rattle.why_rules.proofs.concluded.Statement.{statement}
 use Rattle.why_rules.proofs.concluded.Tie as tie
 
-returns-2 : tie.Need-returns-2
+returns-2 : tie.Need-returns-then-phase-ne-ENDED
 returns-2 c =
     let figure = c.before.before in
     let running = figure.before.before in
     let nothing = running.before.before in
     rw (
-      eq-eqb _ _ nothing.before.if1.false,
-      c.if_found6.ensures,
-      c.before.if_found5.ensures,
-      figure.if_found4.ensures,
-      figure.before.if_found3.ensures,
-      running.if_found2.ensures,
-      running.before.if_found.ensures,
-      nothing.because2.ensures,
+      eq-eqb _ _ nothing.before.if-phase-ne-ENDED.false,
+      c.if_found.ensures,
+      c.before.if_found-dfinal.ensures,
+      figure.if_found-figure.ensures,
+      figure.before.if_found-absent.ensures,
+      running.if_found-running.ensures,
+      running.before.if_found-refused.ensures,
+      nothing.because-nothing.ensures,
     )
 
 pub concluded_spec : {M : Type 1} → statement M

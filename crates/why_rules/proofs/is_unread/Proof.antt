@@ -7,4 +7,4 @@ pub is_unread_spec : {M : Type 1} → statement M
 is_unread_spec =
     tie.close
     (tie.spec (omega arith) (omega arith) (λ c. let n = c.before.before.args.o.number in
-    c.if1.true ∙ sym (ap (λ (b : Bool). b || within 40 n 45) (sym c.before.within.ensures ∙ c.if1.true))) (λ c. cc))
+    c.if-within.true ∙ sym (ap (λ (b : Bool). b || within 40 n 45) (sym c.before.within.ensures ∙ c.if-within.true))) (λ c. cc))

@@ -4,5 +4,5 @@ use Rattle.why_rules.proofs.told_absent.Tie as tie
 
 pub told_absent_spec : {M : Type 1} → statement M
 told_absent_spec = tie.close (tie.spec (omega arith) (omega arith)
-    (λ c. rw (← c.before.is_its.ensures, c.if1.true) refl)
-    (λ c. rw (← c.before.before.is_its.ensures, c.before.if1.false, ← c.is_its2.ensures) refl))
+    (λ c. rw (← c.before.is_its.ensures, c.if-is_its.true) refl)
+    (λ c. rw (← c.before.before.is_its.ensures, c.before.if-is_its.false, ← c.is_its-else-is_its.ensures) refl))

@@ -6,19 +6,19 @@ use Rattle.write.proofs.{Octets.put_body_1, Octets.put_body_2, Octets.put_body_3
 use Rattle.write.proofs.{put_body.Statement.statement}
 use Rattle.write.proofs.put_body.Tie as tie
 
-put-front-requires : tie.Need-put-front-requires
+put-front-requires : tie.Need-put_front-p-requires
 put-front-requires c κs =
     let s = c.before.before in
     let a = s.args in
     (its_front a.f (with_list a.figure a.numbers.now a.rows.now) s.requires.0.0, s.requires.1.0.1, search put_body_1)
 
-put-charge-requires : tie.Need-put-charge-requires
+put-charge-requires : tie.Need-put_charge-requires
 put-charge-requires c κs =
     let c3 = c.before.before.before in let c6 = c3.before.before.before in
     let s = c6.before.before in
     let a = s.args in
     let x = with_list a.figure a.numbers.now a.rows.now in
-    let q = sym c.before.before.is_charged.ensures ∙ c.before.if1.true in
+    let q = sym c.before.before.is_charged.ensures ∙ c.before.if-is_charged.true in
     let v = s.requires.0.0 in
     let e : charge_octets a.f x ≡ (charge_of a.f.operation).write x = picked _ _ q in
     (operation_range a.f (its_front a.f x v) q, (s.requires.0.1, (its_charge a.f x v q, (omega (arith, ap length e, s.requires.1.0), search put_body_2))))

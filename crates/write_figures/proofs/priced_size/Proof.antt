@@ -2,18 +2,18 @@ use Rattle.write_figures.proofs.{Cited.arith, Frames.{fine_total, fine_billing, 
 use Rattle.write_figures.proofs.priced_size.Statement.{statement}
 use Rattle.write_figures.proofs.priced_size.Tie as tie
 
-returns : tie.Need-returns
+returns : tie.Need-returns-then-operation-lt-E_CURRENCY
 returns c = (
-  priced_during_length _ _ _ _ _ c.before.before.before.sized.ensures.0 c.before.before.marks_size.ensures.0 _ c.before.sized2.ensures.0
-      c.if1.true,
+  priced_during_length _ _ _ _ _ c.before.before.before.sized.ensures.0 c.before.before.marks_size.ensures.0 _ c.before.sized-k.ensures.0
+      c.if-operation-lt-E_CURRENCY.true,
   omega arith,
 )
 
-returns-2 : tie.Need-returns-2
+returns-2 : tie.Need-returns-then-operation-lt-E_CURRENCY
 returns-2 c =
     let d = c.before.before.before in (
-      priced_ending_length _ _ _ _ _ d.before.before.sized.ensures.0 d.before.marks_size.ensures.0 _ d.sized2.ensures.0 _
-          c.before.association_size.ensures.0 c.before.before.if1.false _ c.sized3.ensures.0,
+      priced_ending_length _ _ _ _ _ d.before.before.sized.ensures.0 d.before.marks_size.ensures.0 _ d.sized-k.ensures.0 _
+          c.before.association_size.ensures.0 c.before.before.if-operation-lt-E_CURRENCY.false _ c.sized-2.ensures.0,
       omega arith,
     )
 

@@ -3,4 +3,4 @@ use Rattle.write_heads.proofs.problem_fine.Tie as tie
 
 pub problem_fine_spec : {M : Type 1} → statement M
 problem_fine_spec =
-    tie.close (tie.spec (λ c. rw c.match.keys1) (λ c. rw c.match.keys2) (λ c. rw c.match.keys3) (λ c. rw c.match.keys4) (λ c. search tests))
+    tie.close (tie.spec (λ c. rw c.in-128.is) (λ c. rw c.in-129.is) (λ c. rw c.in-130.is) (λ c. rw c.in-131.is) (λ c. search tests))

@@ -5,4 +5,4 @@ use Rattle.write_masks.proofs.bare_kind.Tie as tie
 
 pub bare_kind_spec : {M : Type 1} → statement M
 unfolding bare_kind
-bare_kind_spec = tie.close (tie.spec (λ c. rw c.match.keys1) (λ c. rw c.match.keys2) (λ c. rw c.match.keys3) (λ c. search tests))
+bare_kind_spec = tie.close (tie.spec (λ c. rw c.in-0.is) (λ c. rw c.in-1.is) (λ c. rw c.in-4.is) (λ c. search tests))

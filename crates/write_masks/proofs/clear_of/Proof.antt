@@ -1,4 +1,4 @@
-use Rattle.prelude.proofs.Prelude.{needs}
+use Rattle.prelude.proofs.Prelude.{rules}
 use Rattle.coding.proofs.Tests.{tests}
 use Rattle.write_masks.specs.inner.Masks.{mask_of}
 use Rattle.write_masks.proofs.clear_of.Statement.{statement}
@@ -7,6 +7,6 @@ use Rattle.write_masks.proofs.clear_of.Tie as tie
 pub clear_of_spec : {M : Type 1} → statement M
 unfolding mask_of
 clear_of_spec = tie.close
-    (tie.spec (λ c κs. search needs) (λ c κs. search needs) (λ c κs. search needs) (λ c κs. search needs)
-    (λ c. rw c.before.before.before.match.keys1 c.clear_by.ensures) (λ c. rw c.before.before.before.match.keys2 c.clear_by2.ensures)
-    (λ c. rw c.before.before.before.match.keys3 c.clear_by3.ensures) (λ c. search tests))
+    (tie.spec (λ c κs. search rules) (λ c κs. search rules) (λ c κs. search rules) (λ c κs. search rules)
+    (λ c. rw c.before.before.before.in-2.is c.clear_by.ensures) (λ c. rw c.before.before.before.in-3.is c.clear_by-in-3.ensures)
+    (λ c. rw c.before.before.before.in-5.is c.clear_by-in-5.ensures) (λ c. search tests))

@@ -12,5 +12,5 @@ rate_of_spec =
     (λ c.
     let t = c.before.before.before.before.before.before.before.before.before.before in
     let a = t.before.args in
-    let e = t.currency_of in
+    let e = t.currency_of-currency in
     row_rate a.numbers.now a.rows.now a.i e.result e.ensures.0 e.ensures.1))

@@ -1,25 +1,25 @@
-use Rattle.prelude.proofs.Prelude.{arith, needs, sym, ◌∙◌}
+use Rattle.prelude.proofs.Prelude.{arith, rules, sym, ◌∙◌}
 use Rattle.coding.proofs.Tests.{tests}
 use Rattle.write_tests.proofs.Truth.{told_no, told_yes}
 use Rattle.write_rates.proofs.{Places.rates_is, Places.rates_are, rates_fine.Statement.statement}
 use Rattle.write_rates.proofs.rates_fine.Tie as tie
 
-returns : tie.Need-returns
+returns : tie.Need-returns-then-unused_zero
 returns c =
     let z = c.before in
     let e = z.before.before.before.before in
     let p = e.before.before.requires in
-    told_yes _ _ _ _ z.before.unused_zero.ensures z.if3.true c.rates_valid.ensures
-    ∙ sym (rates_are _ _ _ _ p.0 p.1 e.before.if1.true (omega arith))
+    told_yes _ _ _ _ z.before.unused_zero.ensures z.if-unused_zero.true c.rates_valid.ensures
+    ∙ sym (rates_are _ _ _ _ p.0 p.1 e.before.if-n-ne0.true (omega arith))
 
-returns-2 : tie.Need-returns-2
+returns-2 : tie.Need-returns-else-unused_zero
 returns-2 c =
     let e = c.before.before.before.before in
     let p = e.before.before.requires in
-    told_no _ _ _ c.before.unused_zero.ensures c.if3.false ∙ sym (rates_are _ _ _ _ p.0 p.1 e.before.if1.true (omega arith))
+    told_no _ _ _ c.before.unused_zero.ensures c.if-unused_zero.false ∙ sym (rates_are _ _ _ _ p.0 p.1 e.before.if-n-ne0.true (omega arith))
 
 pub rates_fine_spec : {M : Type 1} → statement M
 rates_fine_spec =
     tie.close
-    (tie.spec (λ c. search needs) (λ c. search needs) (λ c κs. search needs) (λ c κs. search needs) returns returns-2 (λ c. search (tests, arith, rates_is))
+    (tie.spec (λ c. search rules) (λ c. search rules) (λ c κs. search rules) (λ c κs. search rules) returns returns-2 (λ c. search (tests, arith, rates_is))
     (λ c. search (tests, arith, rates_is)))

@@ -4,11 +4,11 @@ use Rattle.write_tests.specs.inner.Fine.{is_planned}
 use Rattle.write_tests.proofs.{Truth.zero_first, plan_fine.Statement.statement}
 use Rattle.write_tests.proofs.plan_fine.Tie as tie
 
-planned : (t : tie.Then1) → is_planned true t.before.before.args.kind ≡ true
-planned t = sym t.before.is_planned.ensures ∙ t.if1.true
+planned : (t : tie.Then-is_planned) → is_planned true t.before.before.args.kind ≡ true
+planned t = sym t.before.is_planned.ensures ∙ t.if-is_planned.true
 
-plain : (e : tie.Else1) → is_planned true e.before.before.args.kind ≡ false
-plain e = sym e.before.is_planned.ensures ∙ e.if1.false
+plain : (e : tie.Else-is_planned) → is_planned true e.before.before.args.kind ≡ false
+plain e = sym e.before.is_planned.ensures ∙ e.if-is_planned.false
 
 pub plan_fine_spec : {M : Type 1} → statement M
 plan_fine_spec = tie.close

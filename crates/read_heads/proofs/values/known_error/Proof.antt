@@ -6,4 +6,4 @@ pub known_error_spec : {M : Type 1} → statement M
 unfolding one_of
 known_error_spec =
     tie.close (tie.spec
-    (λ c. rw c.match.keys1) (λ c. rw c.match.keys2) (λ c. rw c.match.keys3) (λ c. rw c.match.keys4) (λ c. rw c.match.keys5) (λ c. search tests))
+    (λ c. rw c.in-0.is) (λ c. rw c.in-3.is) (λ c. rw c.in-4.is) (λ c. rw c.in-7.is) (λ c. rw c.in-26.is) (λ c. search tests))

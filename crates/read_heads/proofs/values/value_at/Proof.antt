@@ -5,11 +5,11 @@ use Rattle.read_heads.proofs.values.value_at.Tie as tie
 pub value_at_spec : {M : Type 1} → statement M
 value_at_spec =
     tie.close (tie.spec
-    (omega arith) (omega arith) (omega arith) (λ c. omega (arith, (c.before.before.before.tiny.ensures.1.1 (omega arith)).inside)) (omega arith)
+    (omega arith) (omega arith) (omega arith) (λ c. omega (arith, (c.before.before.before.tiny-x.ensures.1.1 (omega arith)).inside)) (omega arith)
     (λ c. let k = c.before.before in
     let t = k.before.before in
     rw c.number.ensures
-    (tiny_value _ _ _ _ t.before.before.requires.0 (t.tiny.ensures.1.1 (omega arith)) _ _ k.before.if1.true (sym k.is_Known.ensures ∙ c.before.if2.true), omega arith))
+    (tiny_value _ _ _ _ t.before.before.requires.0 (t.tiny-x.ensures.1.1 (omega arith)) _ _ k.before.if-x-lt128.true (sym k.is_Known.ensures ∙ c.before.if-is_known.true), omega arith))
     (omega arith) (λ c. omega arith) (λ c. omega arith)
     (λ c κs. simp (length-take) (omega (arith, c.before.before.before.before.requires)))
     (λ c. let xs = c.before.before.before.before.before.args.s.now in rw (take_all (length xs - 0) xs (omega arith)) at c.value_long.ensures))
