@@ -2,7 +2,7 @@
 # sh bench/emulated.sh: the instructions of the archive itself, for x86-64, on a machine that is not: the toolchain's emulator runs one
 # instruction at a time and logs each. Twice as many items take as many more as the items cost, so starting up falls out. No times.
 cd "$(dirname "$0")/.." || exit 2
-kit=$(dirname "$(dirname "$(rt doc)")")/on/$(uname -m)/toolchain
+kit=$(dirname "$(rt doc)")/toolchain
 [ -x "$kit/bin/qemu-x86_64" ] || { echo "bench: no emulator here: bench/run.sh counts the archive itself"; exit 1; }
 work=$(mktemp -d) || exit 2
 trap 'rm -rf "$work"' EXIT
