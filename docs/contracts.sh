@@ -26,7 +26,7 @@ def full(names, crate=None):
         yield f"{crate}::{own}"
 
 
-crates = {line.split(":")[0] for line in read("crates.txt").splitlines() if ":" in line.split("#")[0]}
+crates = {line.split(":")[0].split()[0] for line in read("crates.txt").splitlines() if ":" in line.split("#")[0]}
 sources = {crate: "\n".join(map(read, sorted(glob.glob(f"crates/{crate}/src/**/*.rt", recursive=True)))) for crate in crates}
 wrong = []
 
@@ -44,10 +44,10 @@ def statement(name):
 
 def definitions(name, text):
     """The definitions of the project that a statement cites, each with its file. A name after a dot is a field."""
-    cited = re.findall(r"(?<![\w.«])[^\W\d][\w·-]*", re.sub(r"ensures \w* ?\{", "", text[text.find("ensures"):]))
-    for crate, file, names in re.findall(r"ghost use Rattle·([a-z_]+)(?:·specs)?\.specs\.((?:inner\.)?\w+)\.\{([^}]*)\}", sources[name.split("::")[0]]):
-        for own in names.split(", "):
-            if own in cited:
+    cited = re.findall(r"(?<![\w.«])[^\W\d][\w'-]*", re.sub(r"ensures \w* ?\{", "", text[text.find("ensures"):]))
+    for crate, file, names in re.findall(r"ghost use Rattle\.([a-z_]+)\.specs\.((?:inner\.)?\w+)\.\{([^}]*)\}", sources[name.split("::")[0]]):
+        for own in re.split(r",\s*", names.strip()):
+            if own in cited and crate in crates:
                 yield f"{crate}/specs/{file.replace(chr(46), chr(47))}.antt", own
 
 

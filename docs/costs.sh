@@ -1,7 +1,7 @@
 #!/bin/sh
 # sh docs/costs.sh          prints, for each crate, the lines of definitions, code and proof, its must-fail edits, and the seconds of its
-#                           check, as the table of docs/COSTS.md. Seconds are those of target/log; where there is no log, what the table of
-#                           docs/COSTS.md says now is kept.
+#                           check, as the table of docs/COSTS.md. Seconds are what the table of docs/COSTS.md says now, unless target/log has
+#                           others, which older kits than rattle-kit-13f wrote: today's `rt` tells none.
 # sh docs/costs.sh write    puts that table into docs/COSTS.md.
 # sh docs/costs.sh files    prints the lines of each file of definitions.
 cd "$(dirname "$0")/.." || exit 2
@@ -12,10 +12,10 @@ lines() { find "$1" -type f -name "*.$2" -exec cat {} + 2>/dev/null | wc -l | tr
 
 # crates in the order of crates.txt, then those that it does not list yet
 crates() {
-    sed -n 's/^\([a-z_]*\):.*/\1/p' crates.txt
+    sed -n 's/^\([a-z_0-9]*\)\( *staticlib\)\{0,1\}:.*/\1/p' crates.txt
     for d in crates/*/; do
         name=$(basename "$d")
-        grep -q "^$name:" crates.txt || echo "$name"
+        grep -q "^$name\( *staticlib\)\{0,1\}:" crates.txt || echo "$name"
     done
 }
 

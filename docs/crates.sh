@@ -24,6 +24,7 @@ def themes():
             found.append((line[2:], []))
         elif ":" in line:
             name, below = line.split(":")
+            name = name.split()[0]  # `NAME staticlib` is a static library
             found[-1][1].append(name)
             depends[name] = below.split()
     return [(heading, crates) for heading, crates in found if crates], depends

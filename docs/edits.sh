@@ -1,93 +1,83 @@
 #!/bin/sh
-# sh docs/edits.sh          prints docs/EDITS.md with its lines from the logs of the last `rt ci` or `rt must-fail` (target/must-fail):
-#                           for each edit the wrong program, and the fact at which the prover stopped.
+# sh docs/edits.sh          prints docs/EDITS.md with its lines from what the last gate's `rt ci` said of each edit (target/edits): the wrong
+#                           program, and the fact at which the prover stopped.
 # sh docs/edits.sh write    puts that into docs/EDITS.md.
+# `rt must-fail >target/edits` at the top of the repository says the same of all edits, without the gate.
+# It fails, and writes nothing, where an edit has no line, is bad or not refused, or is refused only because a proof file names what the edit took away.
 cd "$(dirname "$0")/.." || exit 2
-page=docs/EDITS.md
+exec python3 - "$@" <<'PYTHON'
+import glob
+import os
+import re
+import sys
 
-# fact LOG: what the log's first error says that does not follow from another one. It fails where that shows no fact: an edit that the
-# proof does not fit by its shape (a name or a field that is not there, an argument where the need has none, a pointer for a number, another
-# loan's lifetimes), a rewriting that finds nothing, a search that met its own bound, or words that are none of those below.
-fact() {
-    python3 - "$1" <<'PYTHON'
-import re, sys
-text = open(sys.argv[1], errors="replace").read()
-errors = re.finditer(r"^(?:\S*?/must-fail/[a-z_]+/[a-z_0-9]+/)?((?:proofs|specs)/\S+?):\d+:\d+: error: `([^`]+)`: ((?:.|\n)*?)(?=^\S+:\d+:\d+: |^fn |^struct |\Z)", text, re.M)
-own = [error for error in errors if "not admitted" not in error[3]]
-own = [error for error in own if "no occurrence" not in error[3].split("\n")[0]] or own  # a fact that fails too is told first
-shape = re.search(r"(?m)^\S+: error: [^\n]*(has no field|can be named from here)", text)
-if shape and (not own or shape.start() <= own[0].start()):
-    sys.exit(f"{sys.argv[1]}: refused by its shape ({shape[1]}), which shows nothing")
-if not own:
-    # a function without a proof file: its needs are found, or not, where they stand
-    need = re.search(r"it is not proved that [^\n]*\(`([^`]+)`\)", text)
-    function = re.search(r"^fn \w+::([\w:]+): no proof", text, re.M) or re.search(r"^fn \w+::([\w:]+): (?!proved)", text, re.M)
-    if not need or not function:
-        sys.exit(f"{sys.argv[1]}: no error")
-    print(f"`{function[1]}`: `{need[1]}`")
-    sys.exit()
-place, need, says = own[0].groups()
-place = re.sub(r"^proofs/(?:(\w+)/)?(\w+)/Proof\.antt$", lambda m: (m[1] + "::" if m[1] else "") + m[2], place)
-head = says.split("\n")[0]
-if "no occurrence" in head or "no equation of the list" in head:
-    sys.exit(f"{sys.argv[1]}: {place}, {need}: the proof's rewriting finds nothing, which shows nothing")
-HINTS = ("list the missing equation", "met a bound of its own", "replace that `_`", "does not unfold here", "took more than")
-if any(words in head for words in HINTS):
-    sys.exit(f"{sys.argv[1]}: {place}, {need}: the prover gives a hint and no fact: {head}")
-sides = re.findall(r"one has `([^`]*)`\s*\(expected\)(?:, [^`]*`[^`]*`)?,?\s*and the other has `([^`]*)`", says)
-sides = [s for s in sides if max(map(len, s)) <= 40 and "𝓤" not in s[0]]  # 𝓤 differs in print alone
-ends = re.search(r"the two types are `Path \S+ (\S+) (\S+)` \(expected\)", says)  # the equality that was to be proved, computed
-values = re.search(r"(?:goal|part) fails, at ((?:[^.]|\.(?=\S)){1,160})\. ", says)
-shape = "is expected here" in head and head or sides and re.search(r"mir\.Syntax\.ty\w*|\.lifetimes", " ".join(sides[-1]))
-if shape:
-    sys.exit(f"{sys.argv[1]}: {place}, {need}: refused by its shape ({shape if isinstance(shape, str) else shape[0]}), which shows nothing")
-if sides:
-    what = f"`{sides[-1][0]}` against `{sides[-1][1]}`"
-elif ends:
-    what = f"`{ends[1]}` against `{ends[2]}`"
-elif "omega" in head:
-    what = f"fails at {values[1]}" if values and "argsV" not in values[1] and "\n" not in values[1] and len(values[1]) <= 40 else "numbers"
-elif "does not close" in says or "`search`: no proof" in head:
-    what = ""  # it is not found
-elif "two ends are equal" in says or "last argument" in head:
-    what = "unequal"
-elif "differ" in head or "expected type" in says or " ≟ " in says and "does not hold" in says:
-    what = ""  # two types or values that differ, too long to tell
+PAGE, SAID = "docs/EDITS.md", "target/edits"
+
+
+def read(path):
+    with open(path, encoding="utf-8") as file:
+        return file.read()
+
+
+def function_at(crate, path, line):
+    """The function that stands at a line of a source; an edit is one line for one line, so the unedited text has it there too."""
+    lines = read(f"crates/{crate}/{path}").splitlines()
+    module = re.sub(r"^src/(?:lib|main)?|(?:/mod)?\.rt$", "", path).replace("/", "::")
+    heads = [re.match(r'\s*(?:pub )?(?:unsafe )?(?:extern "C" )?fn (\w+)', text) for text in lines]
+    at = min(line, len(lines)) - 1
+    while at + 1 < len(lines) and re.match(r"\s*(#\[|//|$)", lines[at]):  # a place above a head is that function's
+        at += 1
+    head = next((heads[i] for i in range(at, -1, -1) if heads[i]), None)
+    return path if not head else f"{module}::{head[1]}" if module else head[1]
+
+
+def fact(crate, told):
+    """Where the prover stopped, of the line that rt says of an edit."""
+    if "refused, as it must be" not in told:
+        raise ValueError(told[:120])
+    if "only because a proof file names" in told:
+        raise ValueError("refused by its shape, which shows nothing")
+    limit = "only by a limit" in told
+    told = told.split("refused, as it must be", 1)[1]
+    told = re.sub(r"^(?: \([^:]*\))?: ?(?:note: )?", "", told)
+    place = re.match(r"(?:\./)?(\S+?):(\d+):\d+: (.*)", told)
+    if not place:
+        return "limit of the prover" if limit else "it is not proved"
+    path, line, says = place[1], int(place[2]), re.sub(r"^error: ", "", place[3])
+    need = re.search(r"\(`([^`]+)`\)", says) or re.match(r"`([^`]+)`", says)
+    if path.startswith("src/"):
+        where = f"`{function_at(crate, path, line)}`"
+    else:
+        of = re.match(r"proofs/(.+)/(?:Answers|Invariants|Proof)\.antt$", path)
+        where = f"`{of[1].replace('/', '::')}`" if of else f"`{path}`"
+    return where + (f": `{need[1]}`" if need else "") + ("; a limit of the prover" if limit else "")
+
+
+if not os.path.exists(SAID):
+    sys.exit(f"no {SAID}: run .ci/run first, or rt must-fail >{SAID}")
+said = {f"{crate}/{name}": told for crate, name, told in re.findall(r"(?m)^rt: must-fail (\w+)/(\S+)\.edit: (.*)", read(SAID))}
+edits = {"/".join((path.split("/")[1], path.split("/")[3][: -len(".edit")])): path for path in sorted(glob.glob("crates/*/must-fail/*.edit"))}
+wrong, new, there = [], [], set()
+for line in read(PAGE).splitlines():
+    name = re.match(r"- `([^`]+)`", line)
+    if not name:
+        new.append(line)
+        continue
+    there.add(name[1])
+    try:
+        comment = re.sub(r"^# *", "", read(edits[name[1]]).splitlines()[0])
+        new.append(f"- `{name[1]}` {comment}. {fact(name[1].split('/')[0], said[name[1]])}")
+    except KeyError:
+        wrong.append(f"no edit {name[1]}" if name[1] not in edits else f"{SAID} says nothing of {name[1]}: run .ci/run first")
+    except ValueError as error:
+        wrong.append(f"{name[1]}: {error}")
+wrong += [f'{PAGE} has no line for {name}: write "- `{name}`" under its contract' for name in edits if name not in there]
+if wrong:
+    sys.exit("\n".join(wrong))
+text = "\n".join(new) + "\n"
+if sys.argv[1:] == ["write"]:
+    with open(PAGE, "w", encoding="utf-8") as file:
+        file.write(text)
 else:
-    sys.exit(f"{sys.argv[1]}: {place}, {need}: no fact that this script knows: {head}")
-print(f"`{place}`: `{need}`" + (f"; {what}" if what else ""))
+    sys.stdout.write(text)
 PYTHON
-}
-
-# The page with each row made again. An edit stands under the contract that it belongs to, where its name was put by hand.
-page() {
-    wrong=
-    for edit in crates/*/must-fail/*.edit; do
-        crate=${edit#crates/} crate=${crate%%/*} name=$(basename "$edit" .edit)
-        grep -q "^- \`$crate/$name\`" "$page" || { echo "$page has no line for $crate/$name: write \"- \`$crate/$name\`\" under its contract" >&2; wrong=1; }
-    done
-    while IFS= read -r line; do
-        case $line in
-        '- `'*)
-            name=${line#'- `'} name=${name%%'`'*} edit=crates/${name%/*}/must-fail/${name#*/}.edit log=target/must-fail/$name/.log
-            [ -f "$edit" ] || { echo "no edit $name" >&2; wrong=1; continue; }
-            [ -f "$log" ] || { echo "no log of $name: run .ci/run first" >&2; wrong=1; continue; }
-            said=$(fact "$log") || wrong=1
-            echo "- \`$name\` $(sed -n '1s/^# *//p' "$edit"). $said"
-            ;;
-        *) printf '%s\n' "$line" ;;
-        esac
-    done <"$page"
-    [ -z "$wrong" ]
-}
-
-case $1 in
-'') page ;;
-write)
-    new=$(mktemp) || exit 2
-    page >"$new" && cat "$new" >"$page"
-    status=$?
-    rm -f "$new"
-    exit $status
-    ;;
-esac

@@ -1,7 +1,8 @@
 #!/bin/sh
 # sh docs/landing.sh BEFORE AFTER [BEFORE_LOGS AFTER_LOGS]
 #     prints the tables of a landing's note: what moved and what stayed between two commits, and the seconds of the check before and
-#     after. A commit may be a tree (`git write-tree`: what is staged). The logs are two copies of target/log.
+#     after. A commit may be a tree (`git write-tree`: what is staged). The logs are two copies of target/log, which older kits than
+#     rattle-kit-13f wrote; today's `rt` tells no seconds.
 # sh docs/landing.sh write FILE BEFORE AFTER [BEFORE_LOGS AFTER_LOGS]
 #     puts them into FILE: in place of its line <!-- tables -->, or between that line and <!-- /tables -->.
 #
@@ -114,7 +115,7 @@ def gathered(side, names):
         for a, b in names.items():
             text = re.sub(rf"\b{a}\b(?=::|\.|·)", b, text)
         place = f"{crate}/{rest}"
-        if rest.endswith(".antt") and not rest.endswith("/Proof.antt") and not rest.endswith("/Lib.antt"):
+        if rest.endswith(".antt") and not rest.endswith(("/Proof.antt", "/Answers.antt", "/Invariants.antt", "/Lib.antt")):
             part = 0 if rest.startswith("specs/") else 2
             kinds[part][place].update({n: t[1 if part == 0 else 0] for n, t in declared(text).items()})
         elif rest.startswith("src/"):

@@ -1,9 +1,10 @@
 #!/bin/sh
 # sh docs/times.sh COMMIT...
 #     proves each commit from nothing and prints one line for each: the commit, its crates, whether all were proved with
-#     this machine's kit, and the CPU seconds (user and system) that `rt prove` took.
+#     this machine's kit, and the CPU seconds (user and system) that `rt all verdict` took.
 #
-# The times of the landing notes are made with it. Run it on a machine that does nothing else. RT_JOBS is the number of
+# The times of the landing notes are made with it; those up to version 5.0.3 with `rt prove` of an older kit, whose commits this one does not
+# prove. Run it on a machine that does nothing else. RT_JOBS is the number of
 # checks at a time, two if it is not set. Each commit is proved in a new clone, which is removed afterwards.
 set -u
 cd "$(dirname "$0")/.." || exit 2
@@ -18,7 +19,7 @@ for commit in "$@"; do
 import os, resource, subprocess, sys
 
 tree, commit = sys.argv[1:]
-result = subprocess.run(["rt", "prove"], cwd=tree, stdout=subprocess.PIPE, stderr=subprocess.STDOUT)
+result = subprocess.run(["rt", "all", "verdict", "--jobs", os.environ["RT_JOBS"]], cwd=tree, stdout=subprocess.PIPE, stderr=subprocess.STDOUT)
 used = resource.getrusage(resource.RUSAGE_CHILDREN)
 crates = sum(1 for line in open(os.path.join(tree, "crates.txt")) if ":" in line.split("#")[0])
 verdict = "proved" if result.returncode == 0 else "not proved (exit %d)" % result.returncode

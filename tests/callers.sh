@@ -18,7 +18,7 @@ below = {}
 for line in text("crates.txt").splitlines():
     if ":" in line.split("#")[0]:
         name, others = line.split("#")[0].split(":")
-        below[name.strip()] = others.split()
+        below[name.split()[0]] = others.split()  # `NAME staticlib` is a static library
 reached, left = set(), ["aoc"]
 while left:
     crate = left.pop()

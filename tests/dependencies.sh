@@ -15,12 +15,12 @@ listed, unnamed = 0, set()
 for line in pathlib.Path("crates.txt").read_text(encoding="utf-8").splitlines():
     if ":" not in (line := line.split("#")[0]):
         continue
-    (crate,), needs = (part.split() for part in line.split(":"))
+    (crate, *_), needs = (part.split() for part in line.split(":"))  # `NAME staticlib` is a static library
     files = [path for part in ("src", "specs", "proofs") for path in pathlib.Path("crates", crate, part).rglob("*") if path.suffix in (".rt", ".antt")]
     text = "\n".join(re.sub(r"(?m)^\s*(--|//).*", "", path.read_text(encoding="utf-8")) for path in files)
     listed += len(needs)
-    # `Rattle·NAME` in a proof or a `ghost use`, `NAME::` in code
-    unnamed |= {(crate, need) for need in needs if not re.search(rf"Rattle·{need}(?!\w)|(?<![\w:·]){need}::", text)}
+    # `Rattle.NAME` in a proof or a `ghost use`, `NAME::` in code
+    unnamed |= {(crate, need) for need in needs if not re.search(rf"Rattle\.{need}(?!\w)|(?<![\w:.]){need}::", text)}
 for crate, need in sorted(unnamed - HELD):
     print(f"crates.txt: {crate} lists {need} and never names it")
 for crate, need in sorted(HELD - unnamed):

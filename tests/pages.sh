@@ -41,7 +41,7 @@ def differ(page, what, said, true):
 
 ARCHITECTURE, TRUST, CONTRACTS, EDITS = "docs/ARCHITECTURE.md", "docs/TRUST.md", "docs/CONTRACTS.md", "docs/EDITS.md"
 
-crates = [line.split(":")[0] for line in text("crates.txt").splitlines() if ":" in line.split("#")[0]]
+crates = [line.split(":")[0].split()[0] for line in text("crates.txt").splitlines() if ":" in line.split("#")[0]]
 
 # ---- the files of definitions: those to be believed, with their lines and the minutes of reading, and those that only help
 files = {path[len("crates/"):] for path in glob.glob("crates/*/specs/*.antt") if not path.endswith(("/Lib.antt", "/inner.antt"))}
@@ -233,7 +233,7 @@ for crate, functions in public.items():
     if crate not in code:
         tell(ARCHITECTURE, f"no crate {crate}")
         continue
-    cited = re.findall(r"ghost use Rattle·([a-z_]+)(?:·specs)?\.specs\.((?:inner\.)?[A-Za-z]+)(?:\.[A-Za-z]+)?\.\{([^}]*)\}", code[crate])
+    cited = re.findall(r"ghost use Rattle\.([a-z_]+)\.specs\.((?:inner\.)?[A-Za-z]+)(?:\.[A-Za-z]+)?\.\{([^}]*)\}", code[crate])
     stand = {name.strip(): f"{of}/specs/{file.replace('.', '/')}.antt" for of, file, names in cited for name in names.split(",")}
     for head in re.finditer(r"pub (?:extern \"C\" )?fn (\w+)\((?:.|\n)*?\n\s*\{\n", code[crate]):
         if functions is not None and head[1] not in functions:

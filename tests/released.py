@@ -70,9 +70,9 @@ def main(arguments):
     first, second, third = three(version)
     if number != 10000 * first + 100 * second + third:
         wrong.append(f"AOC_VERSION is {number}, AOC_VERSION_TEXT {version}")
-    if not re.search(rf"fn aoc_version\(\) -> u32\s+ensures \{{ λ r\. ⌜ r ≡ {number} ⌝ \}}", exports):
+    if not re.search(rf"fn aoc_version\(\) -> u32\s+ensures \{{ result ≡ {number} \}}", exports):
         wrong.append(f"aoc_version of crates/aoc/src/lib.rt is not {number}")
-    if not re.search(rf"fn aoc_layout_{layout}\(\) -> u32\s+ensures \{{ λ r\. ⌜ r ≡ {layout} ⌝ \}}", exports):
+    if not re.search(rf"fn aoc_layout_{layout}\(\) -> u32\s+ensures \{{ result ≡ {layout} \}}", exports):
         wrong.append(f"no aoc_layout_{layout} in crates/aoc/src/lib.rt")
     if not re.search(rf"^## {re.escape(version)}\b", text("CHANGELOG.md"), re.M):
         wrong.append(f"CHANGELOG.md has no {version}")
