@@ -42,7 +42,7 @@ uint32_t aoc_layout_5(void);
 
 /* ------------------------------------------------------------------ components */
 
-/* `answers`, `offset-inside`, `offset-small` (types/proofs/Theorems.antt); readOf fixes every octet of the parts */
+/* `answers`, `offset_inside`, `offset_small` (types/proofs/Theorems.antt); readOf fixes every octet of the parts */
 /*@ requires octets: LENT(octets, length);
     requires parts: LINE_TO && \separated(LINE_PARTS);
     requires apart: length == 0 || \separated(octets + (0 .. length - 1), LINE_PARTS);
@@ -53,7 +53,7 @@ uint32_t aoc_layout_5(void);
 aoc_refusal_at aoc_read_into(const uint8_t *octets, size_t length, uint8_t (*front)[8], uint8_t (*figure)[48],
                              uint32_t (*numbers)[32], uint8_t (*rows)[192]);
 
-/* `one-of-four` (element_pass/proofs/Through.antt), and `answers` */
+/* `one_of_four` (element_pass/proofs/Through.antt), and `answers` */
 /*@ requires octets: LENT(octets, length);
     requires parts: LINE_TO && \separated(LINE_PARTS);
     requires apart: length == 0 || \separated(octets + (0 .. length - 1), LINE_PARTS);
@@ -65,7 +65,7 @@ aoc_refusal_at aoc_read_into(const uint8_t *octets, size_t length, uint8_t (*fro
 aoc_next_answer aoc_next_into(const uint8_t *octets, size_t length, size_t place, uint8_t (*front)[8], uint8_t (*figure)[48],
                               uint32_t (*numbers)[32], uint8_t (*rows)[192]);
 
-/* writeOf */
+/* write_of */
 /*@ requires lists: \valid_read(numbers) && \valid_read(rows) && \initialized(&(*numbers)[0 .. 31]) && \initialized(&(*rows)[0 .. 191]);
     requires figure: \valid_read(figure) && \initialized(&(*figure)[0 .. 47]);
     requires buffer: LENT_TO(buffer, room);
@@ -77,7 +77,7 @@ aoc_next_answer aoc_next_into(const uint8_t *octets, size_t length, size_t place
 aoc_written aoc_write_from(aoc_front front, const uint8_t (*figure)[48], const uint32_t (*numbers)[32],
                            const uint8_t (*rows)[192], uint8_t *buffer, size_t room);
 
-/* `replies`, `only-12` (reply/proofs/Replies.antt) */
+/* `replies`, `only_12` (reply/proofs/Replies.antt) */
 /*@ requires octets: LENT(octets, length);
     requires buffer: LENT_TO(buffer, room);
     requires apart: APART(octets, length, buffer, room);
@@ -86,7 +86,7 @@ aoc_written aoc_write_from(aoc_front front, const uint8_t (*figure)[48], const u
     ensures \result.count <= 9 && \result.count <= room; */
 aoc_written aoc_reply(const uint8_t *octets, size_t length, uint8_t *buffer, size_t room);
 
-/* elementInto */
+/* element_into */
 /*@ requires octets: LENT(octets, length);
     requires buffer: LENT_TO(buffer, room);
     requires apart: APART(octets, length, buffer, room);
@@ -95,7 +95,7 @@ aoc_written aoc_reply(const uint8_t *octets, size_t length, uint8_t *buffer, siz
     ensures \result.count <= 257 && \result.count <= room; */
 aoc_written aoc_write_element(const uint8_t *octets, size_t length, uint8_t *buffer, size_t room);
 
-/* elementBy */
+/* element_by */
 /*@ requires octets: LENT(octets, length);
     requires buffer: LENT_TO(buffer, room);
     requires apart: APART(octets, length, buffer, room);
@@ -119,7 +119,7 @@ aoc_judged aoc_read_by_into(uint8_t profile, const uint8_t *octets, size_t lengt
                             uint32_t (*numbers)[32], uint8_t (*rows)[192], uint8_t (*trunk_front)[48], uint8_t (*extension)[244],
                             uint8_t (*trunk_figure)[48], uint32_t (*trunk_numbers)[32], uint8_t (*trunk_rows)[192]);
 
-/* `one-of-four` (element_pass/proofs/Through.antt), `answers` and `refusal` */
+/* `one_of_four` (element_pass/proofs/Through.antt), `answers` and `refusal` */
 /*@ requires octets: LENT(octets, length);
     requires parts: LINE_TO && TRUNK_TO && \separated(LINE_PARTS, TRUNK_PARTS);
     requires apart: length == 0 || \separated(octets + (0 .. length - 1), LINE_PARTS, TRUNK_PARTS);
@@ -132,7 +132,7 @@ aoc_next_by_answer aoc_next_by_into(const uint8_t *octets, size_t length, size_t
                                     uint32_t (*numbers)[32], uint8_t (*rows)[192], uint8_t (*trunk_front)[48], uint8_t (*extension)[244],
                                     uint8_t (*trunk_figure)[48], uint32_t (*trunk_numbers)[32], uint8_t (*trunk_rows)[192]);
 
-/* writeBy */
+/* write_by */
 /*@ requires parts: LINE_FROM && TRUNK_FROM;
     requires buffer: LENT_TO(buffer, room);
     requires apart: room == 0 || \separated(buffer + (0 .. room - 1), LINE_PARTS, TRUNK_PARTS);
@@ -144,7 +144,7 @@ aoc_written aoc_write_by_from(uint8_t profile, const uint8_t (*front)[8], const 
                               const uint8_t (*trunk_figure)[48], const uint32_t (*trunk_numbers)[32],
                               const uint8_t (*trunk_rows)[192], uint8_t *buffer, size_t room);
 
-/* replyProfile, with `given-12` (reply/proofs/Replies.antt); a reply of any family is written by writeOf */
+/* reply_profile, with `given_12` (reply/proofs/Replies.antt); a reply of any family is written by write_of */
 /*@ requires octets: LENT(octets, length);
     requires buffer: LENT_TO(buffer, room);
     requires apart: APART(octets, length, buffer, room);
@@ -171,7 +171,7 @@ uint16_t aoc_next_identifier(uint16_t id);
     ensures \result.s == (last + 1) % 65536 && \result.d == (last + 2) % 65536 && \result.e == (last + 3) % 65536; */
 aoc_identifiers aoc_three_identifiers(uint16_t last);
 
-/* emptySet, with, has */
+/* empty_set, with, has */
 /*@ assigns \result \from \nothing;
     ensures \result.s == 0 && \result.d == 0 && \result.e == 0; */
 aoc_services aoc_no_services(void);
@@ -268,7 +268,7 @@ uint8_t aoc_phase_of(const aoc_account *account);
 
 /* ------------------------------------------------------------------ event lists, traces */
 
-/* whyOf */
+/* why_of */
 /*@ requires rows: LENT(rows, numbers);
     requires octets: LENT(octets, length);
     assigns \result \from rows[0 .. numbers - 1], numbers, octets[0 .. length - 1], length;
@@ -291,7 +291,7 @@ aoc_why_answer aoc_why(const uint16_t *rows, size_t numbers, const uint8_t *octe
 aoc_trace_answer aoc_trace_events(const uint32_t *pairs, size_t numbers, const uint8_t *octets, size_t length, uint16_t *rows,
                                   size_t row_room, uint8_t *out, size_t out_room);
 
-/* plainOutcome and its like; leadsTo: a phase of a history is 0 to 5 */
+/* plain_outcome and its like; leads_to: a phase of a history is 0 to 5 */
 /*@ requires rows: LENT(rows, numbers);
     requires octets: LENT(octets, length);
     assigns \result \from rows[0 .. numbers - 1], numbers, octets[0 .. length - 1], length, event;
@@ -338,7 +338,7 @@ aoc_plain_closing_answer aoc_plain_closing(const uint16_t *rows, size_t numbers,
     ensures \result.refusal == 0 || \result.refusal == 48; */
 aoc_plain_marks_answer aoc_plain_marks(const uint16_t *rows, size_t numbers, const uint8_t *octets, size_t length);
 
-/* faultAt */
+/* fault_at */
 /*@ requires rows: LENT(rows, numbers);
     requires octets: LENT(octets, length);
     assigns \result \from rows[0 .. numbers - 1], numbers, octets[0 .. length - 1], length;
@@ -348,13 +348,13 @@ aoc_fault_answer aoc_fault(const uint16_t *rows, size_t numbers, const uint8_t *
 
 /* ------------------------------------------------------------------ prices, a switchboard, a month */
 
-/* priceOf */
+/* price_of */
 /*@ assigns \result \from closing;
     ensures \result.refusal == 0 || \result.refusal == 10 || \result.refusal == 38 || \result.refusal == 39;
     ensures \result.is_free <= 1; */
 aoc_priced aoc_price(aoc_closing closing);
 
-/* eventOn: 35, 36, 37 beside what the step answers */
+/* event_on: 35, 36, 37 beside what the step answers */
 /*@ requires board: \valid(board) && \initialized(board);
     requires octets: LENT(octets, length);
     requires apart: length == 0 || \separated(octets + (0 .. length - 1), board);
@@ -362,7 +362,7 @@ aoc_priced aoc_price(aoc_closing closing);
     ensures \result.number <= 45 && \result.service <= 3; */
 aoc_outcome aoc_board_event(aoc_board *board, uint16_t reference, aoc_event event, const uint8_t *octets, size_t length);
 
-/* collectOn, viewOn */
+/* collect_on, view_on */
 /*@ requires board: \valid(board) && \initialized(board);
     assigns \result, *board \from *board, reference;
     ensures \result.refusal == 0 || \result.refusal == 14 || \result.refusal == 37;
@@ -374,12 +374,12 @@ aoc_collected aoc_board_collect(aoc_board *board, uint16_t reference);
     ensures \result.refusal == 0 || \result.refusal == 37; */
 aoc_viewed aoc_board_view(const aoc_board *board, uint16_t reference);
 
-/* emptyMonth */
+/* empty_month */
 /*@ assigns \result \from \nothing;
     ensures \result.added == 0 && \result.count == 0 && \result.absent == 0 && \result.free_calls == 0; */
 aoc_month aoc_month_empty(void);
 
-/* addOf: of a month of any values any values are left */
+/* add_of: of a month of any values any values are left */
 /*@ assigns \result \from month, closing;
     ensures \result.refusal == 0 || \result.refusal == 10 || \result.refusal == 46 || \result.refusal == 47; */
 aoc_month_added aoc_month_add(aoc_month month, aoc_closing closing);
