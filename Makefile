@@ -6,7 +6,7 @@ test: ; sh tools/tests
 # make edits CRATE=reply [LABEL=answers_accepted]
 edits: ; sh tools/edits $(CRATE) $(LABEL)
 # tables that scripts print: docs/*.sh
-docs: ; sh docs/crates.sh write && sh docs/contracts.sh write && sh docs/stack.sh write && sh docs/costs.sh write
+docs: ; sh docs/crates.sh write && sh docs/trust.sh write && sh docs/contracts.sh write && sh docs/stack.sh write && sh docs/costs.sh write
 # make install PREFIX=/usr/local
 install: ; sh tools/install $(PREFIX)
 release: ; sh tools/release
