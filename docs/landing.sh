@@ -28,7 +28,7 @@ def git(*arguments):
 def files(commit):
     """Every file below crates/, by its path from there."""
     with tarfile.open(fileobj=io.BytesIO(git("archive", commit, "crates"))) as tar:
-        return {m.name[7:]: tar.extractfile(m).read().decode() for m in tar if m.isfile()}
+        return {m.name[7:]: tar.extractfile(m).read().decode() for m in tar if m.isfile() and m.name.split("/")[2:3] != ["out"]}
 
 
 def moved_files():
