@@ -10,7 +10,9 @@ page=docs/HOST.md
 sh tools/archive || exit 1
 work=$(mktemp -d) || exit 2
 trap 'rm -rf "$work"' EXIT
-for tool in objdump llvm-objdump; do
+# (the kit's clang is all of LLVM's tools, by the name that it is called by)
+ln -s "$(dirname "$(rt doc)")/toolchain/bin/clang" "$work/llvm-objdump"
+for tool in objdump llvm-objdump "$work/llvm-objdump"; do
     command -v "$tool" >/dev/null && "$tool" -d -r target/staticlib/libaoc.a >"$work/code" 2>/dev/null && grep -q '%rsp' "$work/code" && break
 done
 grep -q '%rsp' "$work/code" 2>/dev/null || { echo "stack: no objdump that reads x86-64"; exit 1; }
