@@ -25,7 +25,7 @@ loop-again c =
           (sym c.before.before.letter.ensures ∙ c.if-letter.false ∙ c.before.letter-in-loop-i.ensures),
     )
 
-returns-2 : tie.Need-returns-then-letter invariant-loop decreases-loop
+returns-2 : tie.Need-returns invariant-loop decreases-loop
 returns-2 c =
     let a = c.before.before.args in
     sym (agree a.a a.b 10 (few a.a 10 (search rules)) (few a.b 10 (search rules)) (λ k l. c.before.loop-i.invariant.1 k (omega arith)))

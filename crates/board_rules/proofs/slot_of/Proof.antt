@@ -22,7 +22,7 @@ loop-again c =
     let n : length start.args.t1 ≡ 64 = search rules in
     (omega arith, search_goes start.args.key start.args.t1 at.loop-i.i (omega (arith, n, c.before.loop-i-test.true)) c.if-keys-i.false ∙ at.loop-i.invariant.1)
 
-returns-2 : tie.Need-returns-then-keys-i invariant-loop decreases-loop
+returns-2 : tie.Need-returns invariant-loop decreases-loop
 returns-2 c =
     let at = c.before in let start = at.before in
     let n : length start.args.t1 ≡ 64 = search rules in

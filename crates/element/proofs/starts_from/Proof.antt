@@ -38,7 +38,7 @@ loop-again c =
       simp length-append (omega (arith, v.3)),
     )
 
-returns-2 : tie.Need-returns-then-tile-ne0 invariant-loop decreases-loop
+returns-2 : tie.Need-returns invariant-loop decreases-loop
 returns-2 c =
     let v = c.before.loop-at.invariant in
     (rw (v.2, ← v.3) (laid_done v.1 c.loop-at-test.false), omega arith)

@@ -12,7 +12,7 @@ returns c =
     let t : c.cut_from.result.tiles ≡ element_of g.octets.now = rw (← l.is_led.ensures.0, c.before.if-is_led.true) c.cut_from.ensures.0 in
     (t, c.cut_from.ensures.1 ∙ ap (λ (x : Starts). after_in g.place (length g.octets.now) (starts_of x)) t)
 
-returns-2 : tie.Need-returns-then-is_led
+returns-2 : tie.Need-returns
 unfolding element_of after_in
 returns-2 c =
     let l = c.before.before in

@@ -50,7 +50,7 @@ loop-again c =
       below_more _ _ v.0 (omega (arith, tile e)) v.5,
     )
 
-returns-2 : tie.Need-returns-then-t-ne0 invariant-loop decreases-loop
+returns-2 : tie.Need-returns invariant-loop decreases-loop
 returns-2 c =
     let l = c.before.loop-at in
     let v = l.invariant in

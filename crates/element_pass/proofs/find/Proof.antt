@@ -6,7 +6,7 @@ use Rattle.element_pass.proofs.find.Tie as tie
 fine : (c : tie.Else-cut-ne0) → let s = c.before.before.before.before in (element_of s.args.octets.now).number ≡ 0
 fine c = sym (ap (λ (x : Starts). x.number) c.before.before.cut_at-cut.ensures.0) ∙ c.if-cut-ne0.false
 
-returns-4 : tie.Need-returns-then-cut-ne0
+returns-4 : tie.Need-returns
 returns-4 c =
     let e = c.before in
     let d = e.before.before in

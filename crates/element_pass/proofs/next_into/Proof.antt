@@ -13,7 +13,7 @@ returns c =
     let f = i.before.find-f in
     pass_some lines _ _ f.result _ f.ensures.0 i.if-after-ne0.true (c.read_into-answer.ensures ∙ sym (picked _ _ (eq-eqb _ _ line.if-octets.true)))
 
-returns-2 : tie.Need-returns-then-octets
+returns-2 : tie.Need-returns
 returns-2 c =
     let f = c.before.before.before.before.before.before.find-f in
     c.without.ensures

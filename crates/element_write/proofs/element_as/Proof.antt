@@ -32,7 +32,7 @@ cast-count c =
     let h = headed o.before in
     omega (arith, wrote_few _ (given h) _ (roomy h).if-buf-n.false h.put_head-p.ensures o.put_octets-q.ensures (held (roomy h).before).1)
 
-returns-3 : tie.Need-returns-then-not-is_held
+returns-3 : tie.Need-returns
 returns-3 c =
     let o = c.before.before in
     let h = headed o.before in

@@ -5,7 +5,7 @@ use Rattle.element_write.proofs.element_by.Tie as tie
 returns : tie.Need-returns-then-not-is_profile
 returns c = other_profile _ _ _ (sym c.before.before.is_profile.ensures ∙ c.before.if-not-is_profile.true) c.refuse.ensures
 
-returns-2 : tie.Need-returns-then-not-is_profile
+returns-2 : tie.Need-returns
 returns-2 c =
     let e = c.before.before in
     let o = e.before.before in

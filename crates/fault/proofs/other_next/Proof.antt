@@ -9,7 +9,7 @@ returns-3 c =
     let e = some.before.before in
     rw (sym e.before.counted_money.ensures ∙ e.if-not-counted_money.false, eq-eqb _ 1 some.if-l-ne1.false, sym same.same_currency.ensures ∙ c.if-same_currency.true) refl
 
-returns-4 : tie.Need-returns-then-not-counted_money
+returns-4 : tie.Need-returns
 returns-4 c =
     let same = c.before in
     let some = same.before in

@@ -28,7 +28,7 @@ loop-again c =
     let at = asked.before.before.before.before in
     (omega arith, each_more _ (test at.before.before.args.t1) at.loop-i.invariant.1 (sym asked.is_nothing.ensures ∙ c.if-not-is_nothing.false))
 
-returns-2 : tie.Need-returns-then-not-is_nothing invariant-loop decreases-loop
+returns-2 : tie.Need-returns invariant-loop decreases-loop
 returns-2 c =
     let at = c.before in
     let done : at.loop-i.i ≡ at.before.places-n.result = omega arith in

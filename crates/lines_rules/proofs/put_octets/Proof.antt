@@ -20,7 +20,7 @@ loop-again c =
     let s = t.before.before.before in
     (omega arith, omega (arith, c.put_octet-at.ensures.place), _, wrote_both i.3 c.put_octet-at.ensures, hex_more _ _ _ s.requires.0 i.2 i.4 (omega arith))
 
-returns-2 : tie.Need-returns-then-n-eq0 invariant-loop decreases-loop
+returns-2 : tie.Need-returns invariant-loop decreases-loop
 returns-2 c =
     let t = c.before.before.before.before in
     let i = t.loop-i.invariant in

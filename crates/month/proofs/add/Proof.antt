@@ -7,7 +7,7 @@ returns c =
     let t = c.before in let r = t.before in let s = r.before in
     c.answer.ensures ∙ sym (add_10 s.args.m s.args.service s.args.c (sym r.in_range.ensures ∙ t.if-not-in_range.true))
 
-returns-2 : tie.Need-returns-then-not-in_range
+returns-2 : tie.Need-returns
 returns-2 c =
     let e = c.before in let r = e.before in let s = r.before in
     c.add_figure.ensures ∙ sym (add_in s.args.m s.args.service s.args.c (sym r.in_range.ensures ∙ e.if-not-in_range.false))

@@ -4,7 +4,7 @@ use Rattle.month_rows.specs.Rows.{plus}
 use Rattle.month_rows.proofs.add_unit.Statement.{statement}
 use Rattle.month_rows.proofs.add_unit.Tie as tie
 
-returns-2 : tie.Need-returns-then-u-ne1
+returns-2 : tie.Need-returns
 returns-2 c =
     let k = c.before.before in let left = k.before.before in let s = left.before.before in
     ap (set s.args.t1 k.places-k.result) c.wrapping_add_u64.ensures

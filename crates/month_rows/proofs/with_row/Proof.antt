@@ -10,7 +10,7 @@ returns c =
     let here = c.before.if-i-n.true in
     ap₂ (set rows) here c.new_row.ensures ∙ sym (stored_new cur start.args.t n rows (omega (arith, size, start.requires.0, here)) (sym start.requires.2 ∙ here))
 
-returns-2 : tie.Need-returns-then-i-n
+returns-2 : tie.Need-returns
 returns-2 c =
     let start = c.before.before.before in let rows = start.args.t1 in let cur = start.args.c in let n = start.args.n in
     let size : length rows ≡ 16 = search rules in

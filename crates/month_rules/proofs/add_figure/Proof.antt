@@ -35,7 +35,7 @@ returns-4 c =
     c.answer-then-f-eq-FREE.ensures ∙ ap (added 0) (g.with_place-then-f-eq-FREE.ensures ∙ ap (λ (y : Month). with_place y s.args.service x.billed x.billing) w.with_free-free.ensures)
     ∙ sym (add_free s.args.m s.args.service s.args.c l.if-m-ge4096.false k.if-f-eq-MONEY.false f.if-f-eq-FREE.true)
 
-returns-5 : tie.Need-returns-then-m-ge4096
+returns-5 : tie.Need-returns
 returns-5 c =
     let g = c.before in let w = g.before in let f = w.before in let k = f.before.before in let l = k.before.before in
     let s = start l in let x = s.args.c.figure in

@@ -2,7 +2,7 @@ use Rattle.prelude.proofs.Prelude.{ne_eqb, arith}
 use Rattle.phases.proofs.moved.Statement.{statement}
 use Rattle.phases.proofs.moved.Tie as tie
 
-returns-2 : tie.Need-returns-then-e-ne-SETUP
+returns-2 : tie.Need-returns
 returns-2 c =
     let marks = c.before.before.before in
     let other = marks.before.before.before in

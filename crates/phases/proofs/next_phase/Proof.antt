@@ -4,7 +4,7 @@ use Rattle.phases.proofs.{Transitions.past_kind, Transitions.past_phase, Transit
 use Rattle.phases.proofs.next_phase.Tie as tie
 
 -- the code's table is the one computed from the transitions
-returns-3 : tie.Need-returns-then-kind-gt7
+returns-3 : tie.Need-returns
 unfolding allowed leads_to
 returns-3 c = look_up c.before.before.args.kind c.before.before.args.phase c.before.if-kind-gt7.false c.if-phase-gt7.false
 

@@ -15,7 +15,7 @@ returns-2 c =
     let x = n.before.args in
     c.going-then-bad_setup.ensures ∙ moving_clash x.t x.e n.next_phase-phase.result n.next_phase-phase.ensures s.before.if-phase-eq-IDLE.false (sym s.bad_setup.ensures ∙ c.before.if-bad_setup.true)
 
-returns-3 : tie.Need-returns-then-phase-eq-IDLE
+returns-3 : tie.Need-returns
 returns-3 c =
     let m = c.before in
     let s = m.before.before in

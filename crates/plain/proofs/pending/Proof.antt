@@ -5,7 +5,7 @@ use Rattle.plain.specs.Answers.{plain_pending}
 use Rattle.plain.proofs.{Cited.{◌∙◌, ap, refl, arith, no_list_lem, a_list}, pending.Statement.statement}
 use Rattle.plain.proofs.pending.Tie as tie
 
-returns-2 : tie.Need-returns-then-not-is_list
+returns-2 : tie.Need-returns
 unfolding plain_pending
 returns-2 c =
     let t = c.before in

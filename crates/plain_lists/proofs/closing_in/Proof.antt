@@ -30,7 +30,7 @@ returns-3 c =
     sym (rw (eq-eqb _ 4 e.before.if-phase_in-ne-ENDED.false, eq-eqb _ 0 d.before.if-e-ne-NONE.false, ne_eqb _ 0 c.if-d-ne-NONE.true))
     ∙ closing_kept (events p) p.phase_in.ensures e.last_kept-e.ensures d.last_kept-d.ensures
 
-returns-4 : tie.Need-returns-then-phase_in-ne-ENDED
+returns-4 : tie.Need-returns
 returns-4 c =
     let d = c.before.before.before in
     let e = d.before.before.before in

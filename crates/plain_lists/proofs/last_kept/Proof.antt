@@ -39,7 +39,7 @@ loop-again c =
           ∙ l.loop-i.invariant.1,
     )
 
-returns-2 : tie.Need-returns-then-place_of-place invariant-loop decreases-loop
+returns-2 : tie.Need-returns invariant-loop decreases-loop
 returns-2 c =
     let l = c.before.before in
     let x = l.before.before.before.args in

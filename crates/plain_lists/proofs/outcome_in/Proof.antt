@@ -20,7 +20,7 @@ outcome-at-requires c κs =
     let s = i.before.before.before in
     (s.requires, omega (arith, c.if-k-n.false, i.if-k-eq0.false))
 
-returns-3 : tie.Need-returns-then-k-eq0
+returns-3 : tie.Need-returns
 returns-3 c =
     let j = c.before in
     let i = j.before in

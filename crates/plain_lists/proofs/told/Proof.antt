@@ -39,7 +39,7 @@ loop-again c =
           ∙ l.loop-i.invariant.1,
     )
 
-returns-2 : tie.Need-returns-then-is_its invariant-loop decreases-loop
+returns-2 : tie.Need-returns invariant-loop decreases-loop
 returns-2 c =
     let l = c.before in
     let x = l.before.before.before.args in

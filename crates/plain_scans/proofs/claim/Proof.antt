@@ -27,7 +27,7 @@ returns-3 : tie.Need-returns-then-a-ne0
 unfolding claim_of
 returns-3 c = let r = c.before.before.before.before in rw (← r.read-a.ensures) (search (ways, heard r))
 
-returns-4 : tie.Need-returns-then-kind-ne-COMPONENT
+returns-4 : tie.Need-returns
 unfolding claim_of
 returns-4 c = let r = c.before.before.before.before in rw (c.claimed.ensures, ← r.read-a.ensures) (search (ways, heard r))
 

@@ -9,7 +9,7 @@ returns c =
     c.outcome_of.ensures ∙ final_first s.args.service s.requires.1 s.requires.2 f.final_before-i.ensures s.args.charge c.before.if-i-k.true
 
 -- there is a final before it, with which it is compared
-returns-2 : tie.Need-returns-then-i-k
+returns-2 : tie.Need-returns
 returns-2 c =
     let e = c.before.before in
     let f = e.before in

@@ -5,7 +5,7 @@ use Rattle.plain_scans.proofs.final_before.Tie as tie
 abbrev start : tie.After-asked_for-q → tie.Start
 start g = g.before.before.before.before
 
-first-before-requires-2 : tie.Need-first_before-place-requires
+first-before-requires-2 : tie.Need-first_before-requires
 first-before-requires-2 c κs =
     let g = c.before in
     let s = start g in (

@@ -68,7 +68,7 @@ final-at-requires c κs =
     let of_d_or_e = claim_service _ _ _ _ (rw o.claim-o.ensures at final) in
     (record { list = s.pre.0; some = omega (arith, s.pre.1) }, rw o.claim-o.ensures of_d_or_e.0, rw o.claim-o.ensures of_d_or_e.1)
 
-returns-3 : tie.Need-returns-then-e-ne-COMPONENT
+returns-3 : tie.Need-returns
 returns-3 c =
     let o = c.before.before.before.before in
     c.final_at.ensures ∙ rw c.before.charge_at.ensures (sym (simp (eq-eqb _ 22 c.before.before.if-o-ne-FINAL.false))) ∙ heard o

@@ -27,7 +27,7 @@ loop-again c =
     let at = row.before.before in
     (omega arith, λ o. idle_more _ o at.loop-i.i (at.loop-i.invariant.1 o) row.row_at-e.result row.row_at-e.ensures (sym p.passed.ensures ∙ c.if-passed-ne-IDLE.false))
 
-returns-2 : tie.Need-returns-then-passed-ne-IDLE invariant-loop decreases-loop
+returns-2 : tie.Need-returns invariant-loop decreases-loop
 returns-2 c =
     let at = c.before.before in
     let x = at.before.before.args in

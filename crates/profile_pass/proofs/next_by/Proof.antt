@@ -21,7 +21,7 @@ returns c =
       c.trunk_by-answer.ensures.1,
     )
 
-returns-2 : tie.Need-returns-then-profile
+returns-2 : tie.Need-returns
 returns-2 c =
     let j = c.before.before.before.before.before.before in
     let n = j.before.before.before.next_into-n in

@@ -15,7 +15,7 @@ trunk-by-requires c κs =
     let i = l.before.before.before.before.before in
     i.if-profile-eq145.false
 
-returns-2 : tie.Need-returns-then-profile-eq145
+returns-2 : tie.Need-returns
 returns-2 c =
     let l = c.before.before.before.before.before.before in
     (beside l.no_line.ensures c.trunk_by.ensures.0, c.trunk_by.ensures.1)

@@ -8,7 +8,7 @@ returns c =
     let i = r.before.before.before.before.before.before in
     rw c.judged_as.ensures (by_trunk _ _ i.before.before.requires i.if-profile-eq159.true refl r.read_into-a.ensures.0, r.read_into-a.ensures.1)
 
-returns-2 : tie.Need-returns-then-profile-eq159
+returns-2 : tie.Need-returns
 returns-2 c =
     let n = c.before in
     let i = n.before.before.before.before.before.before in

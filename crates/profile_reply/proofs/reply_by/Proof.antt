@@ -15,7 +15,7 @@ returns-2 : tie.Need-returns-then-profile-ne159
 unfolding reply_profile left_profile
 returns-2 c = rw (ne_eqb _ 0x91 c.before.if-profile-eq145.false, ne_eqb _ 0x9f c.if-profile-ne159.true) (refl, refl)
 
-returns-3 : tie.Need-returns-then-profile-eq145
+returns-3 : tie.Need-returns
 unfolding reply_profile left_profile
 returns-3 c =
     let r = c.before.before in

@@ -17,7 +17,7 @@ returns-2 c =
     let i = w.before.before in
     rw (ne_eqb _ 0x91 i.before.if-profile-eq145.false, eq-eqb _ 0x9f i.if-profile-eq159.true) (w.write_from.ensures.0, w.write_from.ensures.1)
 
-returns-3 : tie.Need-returns-then-profile-eq145
+returns-3 : tie.Need-returns
 unfolding write_by left_by
 returns-3 c = rw (ne_eqb _ 0x91 c.before.if-profile-eq145.false, ne_eqb _ 0x9f c.if-profile-eq159.false) (refl, refl)
 

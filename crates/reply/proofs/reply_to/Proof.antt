@@ -4,7 +4,7 @@ use Rattle.reply_rules.specs.Rejects.{reply_by}
 use Rattle.reply.proofs.{Silence.silent_accepted, Silence.silent_reject, Silence.spoken, Silence.replied, reply_to.Statement.statement}
 use Rattle.reply.proofs.reply_to.Tie as tie
 
-returns-3 : tie.Need-returns-then-number-eq0
+returns-3 : tie.Need-returns
 returns-3 c =
     let w = c.before.before in
     let r = w.before.before in

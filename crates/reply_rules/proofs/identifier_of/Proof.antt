@@ -11,7 +11,7 @@ returns-6 c =
     let t = o.before in
     id_over _ (omega arith) (omega arith) (tag_among _ t.before.if-tag-lt161.false t.if-tag-gt164.false) _ o.open_at-e.ensures.0 f.if-e-ne0.false c.if-e-n.true
 
-returns-7 : tie.Need-returns-then-n-eq0
+returns-7 : tie.Need-returns
 returns-7 c =
     let n = c.before.before in
     let f = n.before.before in

@@ -31,7 +31,7 @@ module _ (turn : tie.In-loop-i invariant-loop decreases-loop) where
   goes_on : same turn.before.loop-i.i ≡ true → each (turn.before.loop-i.i + 1) same ≡ true
   goes_on = each_more _ same turn.before.loop-i.invariant.1
 
-returns-4 : tie.Need-returns-then-a-i invariant-loop decreases-loop
+returns-4 : tie.Need-returns invariant-loop decreases-loop
 unfolding equal_units
 returns-4 c =
     let done : c.before.loop-i.i ≡ c.before.before.places-n.result = omega arith in

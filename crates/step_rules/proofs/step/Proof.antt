@@ -10,7 +10,7 @@ returns c =
     let m = c.before.before in
     change_promised _ _ _ _ (c.still.ensures ∙ rw m.phase_step-m.ensures (phase_change _ _ _ m.before.if-e-ne-COMPONENT.true))
 
-returns-3 : tie.Need-returns-then-e-ne-COMPONENT
+returns-3 : tie.Need-returns
 returns-3 c =
     let n = c.before.before in
     change_promised _ _ _ _ (heard _ _ _ _ _ n.next_phase-phase.ensures c.before.if-phase-eq-IDLE.false n.before.if-e-ne-COMPONENT.false c.taken.ensures)

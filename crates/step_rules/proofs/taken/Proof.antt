@@ -44,7 +44,7 @@ returns-2 c =
     taken_unkept x.a x.octets.now read i.if-answer-ne0.false k.claimed-claim.result r.resolved-outcome.result p.before.noted-status.result
     k.claimed-claim.ensures r.resolved-outcome.ensures p.before.noted-status.ensures c.still.result (sym p.place_of-place.ensures ∙ c.before.if-place-eq-NONE.true) c.still.ensures
 
-returns-3 : tie.Need-returns-then-answer-ne0
+returns-3 : tie.Need-returns
 returns-3 c =
     let p = c.before in
     let r = p.before.before in

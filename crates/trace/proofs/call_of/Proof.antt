@@ -8,7 +8,7 @@ start z = z.before.before.before.before.before
 reference-of-requires : tie.Need-reference_of-requires
 reference-of-requires c κs = let z = c.before in let p = (start z).requires in first_framed _ _ p.0 p.1 z.before.before.if-pairs-lt2.false z.size-end.ensures
 
-returns-2 : tie.Need-returns-then-pairs-lt2
+returns-2 : tie.Need-returns
 returns-2 c =
     let z = c.before.before in
     let p = (start z).requires in

@@ -20,7 +20,7 @@ lay-requires c κs =
     let j = i.before.before in
     not_refused (start j).args.pairs.now (start j).args.octets.now (sym (ap (λ (v : TraceVerdict). v.number) j.judge-v.ensures) ∙ i.if-v-ne0.false)
 
-returns-2 : tie.Need-returns-then-v-ne0
+returns-2 : tie.Need-returns
 returns-2 c =
     let p = c.before.before.before.before in
     let i = p.before.before.before in

@@ -7,7 +7,7 @@ put-trace-requires c κs =
     let f = c.before.before in let e = f.before in let k = e.before in let b = k.before.before.before in let p = b.before.before.requires in
     (p.0, p.1, rooms_as (sym k.call_of-call.ensures) (room_for _ _ _ _ e.if-rows-n.false f.if-out-n.false (events_few _ _ p.0 p.1) (octets_few _ _ p.0 p.1)))
 
-returns-3 : tie.Need-returns-then-rows-n
+returns-3 : tie.Need-returns
 returns-3 c =
     let q = c.before.before.before in let t = q.before.before in let f = t.before.before.before in let e = f.before in let k = e.before in
     let b = k.before.before.before in let p = b.before.before.requires in

@@ -34,7 +34,7 @@ put-when-requires-2 c κs =
     let a = w.before.before.before.before in let s = a.before.before.before.before.before in let o = s.args.out-1.now in
     rows_head (tail4 s) (rooms_tail {m = tail3 s} d.put_elements-d.ensures (rooms_tail {m = tail2 s} (w.put_when-b.ensures o) (rooms_tail {m = tail1 s} (a.put_setup-a.ensures o) s.requires.1)))
 
-put-when-requires-3 : tie.Need-put_when-b-requires
+put-when-requires-3 : tie.Need-put_when-requires
 put-when-requires-3 c κs =
     let v = c.before.before.before in let d = v.before.before.before.before.before.before in let w = d.before.before.before.before.before in
     let a = w.before.before.before.before in let s = a.before.before.before.before.before in let o = s.args.out-1.now in

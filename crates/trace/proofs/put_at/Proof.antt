@@ -31,7 +31,7 @@ put-tiles-requires c κs =
     let s = start f in
     (omega (arith, s.pre.3, part_length s.args.s.now s.args.at s.args.next s.pre.1), rooms_as (facility f) s.pre.4)
 
-returns-3 : tie.Need-returns-then-under-ne0
+returns-3 : tie.Need-returns
 unfolding part
 returns-3 c =
     let p = c.before.before.before.before in

@@ -55,7 +55,7 @@ loop-again c =
     let more = events_more l.invariant.0 e.before.loop-at-test.true e.element_end-next.ensures l.under c.under_after-under.ensures in
     (onward e, progress_more _ (progress_as more l.invariant.1) p.put_at-q.ensures)
 
-returns-2 : tie.Need-returns-then-not-given invariant-loop decreases-loop
+returns-2 : tie.Need-returns invariant-loop decreases-loop
 returns-2 c =
     let l = c.before in
     let over = from_over (start l).args.s.now l.loop-at.at l.loop-at.under l.loop-at.invariant.0.place c.loop-at-test.false in

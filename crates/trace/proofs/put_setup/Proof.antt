@@ -6,7 +6,7 @@ put-bare-requires c κs =
     let s = c.before.before.before.before.before in
     rw c.before.setup_of-e.ensures (bare_room _ (rw c.before.before.if-not-given.false at s.requires.1))
 
-returns-2 : tie.Need-returns-then-not-given
+returns-2 : tie.Need-returns
 returns-2 c =
     let p = c.before.before in
     let e = p.before.before in

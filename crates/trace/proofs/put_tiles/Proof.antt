@@ -64,7 +64,7 @@ loop-again c =
     let h = here t in
     (h.rest, h.onward-found c.onward-found.ensures, progress_more _ (progress_as (ap component_events h.parts) l.loop-found.invariant.2) (laid c.before).put_component-q.ensures)
 
-returns-2 : tie.Need-returns-then-not-is_profiled invariant-loop decreases-loop
+returns-2 : tie.Need-returns invariant-loop decreases-loop
 returns-2 c =
     let l = c.before.before in
     let none = goes_none l.loop-found.invariant.1 c.loop-found-test.false in

@@ -7,7 +7,7 @@ put-bare-requires c κs =
     let s = i.before.before in
     rw c.bare_event.ensures (bare_room _ (rw i.if-not-given.false at s.requires))
 
-returns-2 : tie.Need-returns-then-not-given
+returns-2 : tie.Need-returns
 returns-2 c =
     let p = c.before.before in
     let i = p.before.before.before in

@@ -5,7 +5,7 @@ use Rattle.trace_framing.proofs.element_end.Tie as tie
 returns-2 : tie.Need-returns-then-next-s
 returns-2 c = sym (rw (lt-leb _ _ c.before.before.before.if-s-at-ge128.false, ← c.wide.ensures.0))
 
-returns-3 : tie.Need-returns-then-s-at-ge128
+returns-3 : tie.Need-returns
 returns-3 c =
     let x = c.before.before.before.before.args in
     sym (rw (lt-leb _ _ c.before.if-s-at-ge128.false, past_end x.s.now (x.at + 1) c.if-next-s.false) (omega arith))

@@ -34,7 +34,7 @@ loop-again c =
     let framed = sym f.is_framed.ensures ∙ c.if-not-is_framed.false in
     (passes_on l.invariant.0 more z.size.ensures, framed_on l.invariant.0 more z.size.ensures framed ∙ l.invariant.1)
 
-returns-2 : tie.Need-returns-then-not-is_framed invariant-loop decreases-loop
+returns-2 : tie.Need-returns invariant-loop decreases-loop
 returns-2 c =
     let l = c.before in
     sym (ap (first_unframed (l.loop-i.i + 1)) (nothing_left _ _ l.loop-i.i l.loop-i.at c.loop-i-test.false)) ∙ l.loop-i.invariant.1

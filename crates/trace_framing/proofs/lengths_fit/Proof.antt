@@ -21,7 +21,7 @@ loop-again c =
     let at = counted.before.before.before in
     (omega arith, sym (lengths_more _ at.loop-i.i _ at.loop-i.false _ counted.size-count.ensures (omega arith) c.if-left-count.false) ∙ at.loop-i.invariant.1)
 
-returns-2 : tie.Need-returns-then-left-count invariant-loop decreases-loop
+returns-2 : tie.Need-returns invariant-loop decreases-loop
 returns-2 c =
     let at = c.before in
     let pairs = at.before.before.args.pairs.now in

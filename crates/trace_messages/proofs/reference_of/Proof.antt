@@ -15,7 +15,7 @@ read-wide-2 c =
     let h = framed_head s.args.s.now s.requires in
     omega (arith, h.1, h.2, c.before.if-s-eq1.false, e.if-s-eq0.false)
 
-returns-3 : tie.Need-returns-then-s-eq0
+returns-3 : tie.Need-returns
 returns-3 c =
     let i = c.before.before in
     let w = i.before.before in

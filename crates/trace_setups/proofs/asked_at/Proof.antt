@@ -17,7 +17,7 @@ returns-2 c =
     let x = c.before.before.before.before.args in
     sym (ap (asked x.case) (at_other x.s.now x.at x.under c.before.before.if-under-ne0.false c.if-s-at-ne28.true))
 
-returns-3 : tie.Need-returns-then-under-ne0
+returns-3 : tie.Need-returns
 unfolding part
 returns-3 c =
     let i = c.before.before in

@@ -58,7 +58,7 @@ loop-again c =
           ∙ sym (all e) ∙ (loop e).loop-at.invariant.1,
     )
 
-returns-2 : tie.Need-returns-then-q-ne0 invariant-loop decreases-loop
+returns-2 : tie.Need-returns invariant-loop decreases-loop
 returns-2 c =
     let l = c.before in
     let x = l.before.before.args in

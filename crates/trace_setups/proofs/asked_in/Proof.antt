@@ -56,7 +56,7 @@ loop-again c =
       asked_next _ (here t).parts q.asked_by-q.ensures c.before.if-q-ne0.false ∙ l.loop-found.invariant.2,
     )
 
-returns-3 : tie.Need-returns-then-not-is_profiled invariant-loop decreases-loop
+returns-3 : tie.Need-returns invariant-loop decreases-loop
 returns-3 c =
     let l = c.before.before in
     let x = (start l).args in

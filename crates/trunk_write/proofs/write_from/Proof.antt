@@ -80,7 +80,7 @@ cast-count c =
     let l = led b.before in
     omega (arith, written_few (fitted (roomy l).before) (roomy l).if-buf-whole.false l.put_lead-p.ensures b.put_contents-q.ensures)
 
-returns-5 : tie.Need-returns-then-not-spare_zero
+returns-5 : tie.Need-returns
 unfolding trunk_in
 returns-5 c =
     let b = c.before.before in

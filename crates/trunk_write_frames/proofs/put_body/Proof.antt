@@ -53,7 +53,7 @@ put-extension-requires-2 c κs =
     let o = other_octets _ _ p.valid e.if-form-eq-GET_FINAL_CHARGE.false x.before.inner_size-n.ensures.0 x.extension_size-k.ensures.0 in
     ((other_valid _ _ p.valid e.if-form-eq-GET_FINAL_CHARGE.false).1.asked, room_3 o p.room l.put_lead-p.ensures i.put_inner-q.ensures)
 
-returns-3 : tie.Need-returns-then-extension-eq-NOT
+returns-3 : tie.Need-returns
 returns-3 c =
     let w = c.before.before in let i = w.before.before.before.before in let l = i.before.before.before.before in let x = l.before.before in let e = other x in
     wrote_three (other_octets _ _ e.before.before.pre.valid e.if-form-eq-GET_FINAL_CHARGE.false x.before.inner_size-n.ensures.0 x.extension_size-k.ensures.0)

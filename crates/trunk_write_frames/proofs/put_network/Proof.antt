@@ -10,7 +10,7 @@ source b = b.before.before.before.before
 abbrev start : tie.After-put_small-p → tie.Start
 start a = a.before.before.before.before
 
-put-address-requires-2 : tie.Need-put_address-q-requires
+put-address-requires-2 : tie.Need-put_address-requires
 unfolding network_octets
 put-address-requires-2 c κs =
     let d = c.before.before.before in let b = d.before.before.before.before.before in let a = source b in let p = (start a).pre in

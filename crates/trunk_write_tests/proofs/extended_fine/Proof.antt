@@ -23,7 +23,7 @@ returns-4 c =
     let z = c.before.before in let l = z.before.before in let m = l.before.before in
     extension_none (extension m) (long m) _ m.most_extension.ensures l.before.if-most_extension-kind.false l.if-n-gt242.false z.zeros.ensures c.before.if-not-zeros.false c.if-kind-eq-NOT.true
 
-returns-5 : tie.Need-returns-then-most_extension-kind
+returns-5 : tie.Need-returns
 unfolding part
 returns-5 c =
     let n = c.before.before in let z = n.before.before in let l = z.before.before in let m = l.before.before in

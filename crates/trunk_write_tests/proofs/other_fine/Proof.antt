@@ -3,7 +3,7 @@ use Rattle.trunk_write_tests.specs.inner.Fine.{other_fine}
 use Rattle.trunk_write_tests.proofs.other_fine.Statement.{statement}
 use Rattle.trunk_write_tests.proofs.other_fine.Tie as tie
 
-returns-2 : tie.Need-returns-then-not-associated
+returns-2 : tie.Need-returns
 returns-2 c =
     let a = c.before.before.before in
     rw a.before.if-not-associated.false (c.associated_fine.ensures ∙ ap (other_fine _) a.association_of-a.ensures)

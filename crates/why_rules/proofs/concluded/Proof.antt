@@ -3,7 +3,7 @@ use Rattle.phases.proofs.Choice.{tests}
 use Rattle.why_rules.proofs.concluded.Statement.{statement}
 use Rattle.why_rules.proofs.concluded.Tie as tie
 
-returns-2 : tie.Need-returns-then-phase-ne-ENDED
+returns-2 : tie.Need-returns
 returns-2 c =
     let figure = c.before.before in
     let running = figure.before.before in

@@ -13,7 +13,7 @@ returns-2 c =
       omega arith,
     )
 
-returns-3 : tie.Need-returns-then-not-front_fine
+returns-3 : tie.Need-returns
 returns-3 c =
     let c3 = c.before.before.before in let c6 = c3.before.before.before in
     let a = c6.before.before.args in (

@@ -42,7 +42,7 @@ figure-size-requires c κs =
     let k4 = c.if-f-eq-RATES.false in
     (s.requires.0, ((k3, k4), ap (charge_of o).valid (unlisted_plain o s.requires.0.0 s.requires.0.1 (held s) k3 k4 s.requires.1.1) ∙ s.requires.1.1))
 
-returns-3 : tie.Need-returns-then-f-eq-UNITS
+returns-3 : tie.Need-returns
 returns-3 c =
     let c3 = c.before.before.before in
     let s = c3.before.before.before in

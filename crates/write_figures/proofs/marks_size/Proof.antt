@@ -7,7 +7,7 @@ returns c =
     let f = s.args.f in
     omega (arith, marks_during_length s.args.operation f c.if-operation-lt-E_CURRENCY.true s.requires.0, c.before.billing_size-n.ensures.0 0x83 f.billing s.requires.1)
 
-returns-2 : tie.Need-returns-then-operation-lt-E_CURRENCY
+returns-2 : tie.Need-returns
 returns-2 c =
     let s = c.before.before in
     let f = s.args.f in

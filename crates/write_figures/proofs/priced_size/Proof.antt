@@ -9,7 +9,7 @@ returns c = (
   omega arith,
 )
 
-returns-2 : tie.Need-returns-then-operation-lt-E_CURRENCY
+returns-2 : tie.Need-returns
 returns-2 c =
     let d = c.before.before.before in (
       priced_ending_length _ _ _ _ _ d.before.before.sized.ensures.0 d.before.marks_size.ensures.0 _ d.sized-k.ensures.0 _

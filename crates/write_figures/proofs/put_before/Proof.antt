@@ -14,7 +14,7 @@ put-leads-requires-2 c κs =
     before_2 _ _ _ _ _ d.before.before.sized.ensures.0 d.before.marks_size.ensures.0 _ e.before.sized-2.ensures.0 _
     e.association_size.ensures.0 (search) s.requires.0.1 s.requires.1 p.put_lead-p.ensures
 
-returns-2 : tie.Need-returns-then-operation-lt-E_CURRENCY
+returns-2 : tie.Need-returns
 returns-2 c =
     let i = c.before.before.before in let p = i.before.before.before in let e = p.before in let d = e.before.before.before in
     wrote_two (before_ending _ _ _ _ _ d.before.before.sized.ensures.0 d.before.marks_size.ensures.0 _ e.before.sized-2.ensures.0 _

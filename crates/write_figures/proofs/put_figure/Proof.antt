@@ -17,7 +17,7 @@ put-after-requires c κs =
     let x = figure_octets_lem _ _ z.0 z.1.0 z.1.1.0 h.if-f-eq-NONE.false b.if-f-eq-FREE.false e.if-f-eq-ARRANGEMENT.false _ d.money_size.ensures.0 in
     (figure_fine_lem _ _ z.0 z.1.0 z.1.1.0, room_3 x z.1.1.1 p.put_before-p.ensures q.put_money-q.ensures)
 
-returns-4 : tie.Need-returns-then-f-eq-NONE
+returns-4 : tie.Need-returns
 returns-4 c =
     let c3 = c.before.before.before in let q = c3.before.before.before in let r = q.before.before.before in let p = r.before in let d = p.before in
     let b = d.before.before in let e = b.before.before in let h = e.before.before in let i = h.before.before in let z = i.before.before.requires in

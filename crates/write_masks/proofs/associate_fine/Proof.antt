@@ -3,7 +3,7 @@ use Rattle.types.specs.Charges.{association}
 use Rattle.write_masks.proofs.associate_fine.Statement.{statement}
 use Rattle.write_masks.proofs.associate_fine.Tie as tie
 
-returns-2 : tie.Need-returns-then-not-associated
+returns-2 : tie.Need-returns
 returns-2 c =
     let a = c.before.before.before in
     rw a.before.if-not-associated.false (c.association_fine.ensures ∙ ap (association false).valid a.association_of-a.ensures)

@@ -17,7 +17,7 @@ returns-2 c =
     let v = rate_parts r c3.before.requires in
     rw (lt-leb r.kind 3 (omega arith), eq-eqb r.kind 4 (omega arith)) (omega (arith, small_length 0x02 r.detail (omega arith)))
 
-returns-3 : tie.Need-returns-then-r-le-VOLUME
+returns-3 : tie.Need-returns
 unfolding price_octets
 returns-3 c =
     let r = c.before.before.before.before.args.r in

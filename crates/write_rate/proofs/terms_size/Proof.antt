@@ -11,7 +11,7 @@ returns-2 c =
     let v = rate_parts r c3.before.requires in
     rw (ne_eqb r.kind 2 (λ z. omega arith), eq-eqb r.kind 3 (omega arith)) (omega (arith, small_length 0x83 r.detail (omega arith)))
 
-returns-3 : tie.Need-returns-then-r-eq-FLAT
+returns-3 : tie.Need-returns
 returns-3 c =
     let s = c.before.before.before.before.before.before in
     let n = c.before.scaled_size.ensures in
