@@ -47,24 +47,24 @@ module _ (s : List ℕ) (i j : ℕ) (l : j ≤ length s) where
   id_one e g = rw (one e, g)
 
   module _ {r : Bool} (sr : r ≡ shortest (part s i j)) where
-    pub id_padded : not r ≡ true → (43, 0) ≡ verdict 0 (integer 2 (part s i j))
+    pub id_padded : r ≡ false → (43, 0) ≡ verdict 0 (integer 2 (part s i j))
     unfolding integer verdict
-    id_padded h = simp (sym sr ∙ not-true r h)
+    id_padded h = simp (sym sr ∙ h)
 
-    module _ (h : not r ≡ false) (os : Octets s) where
+    module _ (h : r ≡ true) (os : Octets s) where
       pub id_two : {n : ℕ} → j ≡ i + 2 → n ≡ min (number_from 0 (part s i j)) 16777216 → ((0, n) ≡ verdict 0 (integer 2 (part s i j))) × (n < 65536)
       unfolding verdict number_from
       id_two {n} e q =
           let none = part_none s (i + 1 + 1) j (omega arith) in
           let two : part s i j ≡ get_or s i 0 ∷ get_or s (i + 1) 0 ∷ [] = rw none at (more (omega arith) (λ f. omega arith)) in
-          let k : shortest (get_or s i 0 ∷ get_or s (i + 1) 0 ∷ []) ≡ true = rw two at (sym sr ∙ not-false r h) in
+          let k : shortest (get_or s i 0 ∷ get_or s (i + 1) 0 ∷ []) ≡ true = rw two at (sym sr ∙ h) in
           let v : n ≡ get_or s i 0 * 256 + get_or s (i + 1) 0 = omega (arith, q, ap (number_from 0) two, os i, os (i + 1)) in
           (rw (two, both_octets _ _ (os i) (os (i + 1)) k, v), omega (arith, v, os i, os (i + 1)))
 
       pub id_many : (j ≡ i + 1 → ⊥) → (j ≡ i + 2 → ⊥) → (44, 0) ≡ verdict 0 (integer 2 (part s i j))
       unfolding verdict part
       id_many f g =
-          let k = sym sr ∙ not-false r h in
+          let k = sym sr ∙ h in
           let some : j ≤ i → ⊥ = λ e. true≢false (sym k ∙ sym (shortest_none e)) in
           let few : 2 < length (part s i j) = omega (arith, f, g, some, part_length s i j l) in
           rw (too_many (part s i j) (octets_part s (j - i) i os) k few)
@@ -72,13 +72,13 @@ module _ (s : List ℕ) (i j : ℕ) (l : j ≤ length s) where
 -- ---- a number from low to high
 
 module _ (xs : List ℕ) (low high : ℕ) {b : Bool} (sb : b ≡ shortest xs) where
-  pub number_padded : not b ≡ true → (43, 0) ≡ verdict 0 (natural low high xs)
+  pub number_padded : b ≡ false → (43, 0) ≡ verdict 0 (natural low high xs)
   unfolding natural verdict
-  number_padded h = simp (sym sb ∙ not-true b h)
+  number_padded h = simp (sym sb ∙ h)
 
-  module _ (h : not b ≡ false) {d : Bool} (nd : d ≡ negative xs) where
+  module _ (h : b ≡ true) {d : Bool} (nd : d ≡ negative xs) where
     short : shortest xs ≡ true
-    short = sym sb ∙ not-false b h
+    short = sym sb ∙ h
 
     pub number_negative : d ≡ true → (44, 0) ≡ verdict 0 (natural low high xs)
     unfolding natural verdict

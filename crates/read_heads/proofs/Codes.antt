@@ -84,14 +84,14 @@ module _ (u : ℕ) (ks : List ℕ) (at next : ℕ) where
     abbrev meant : ℕ × ℕ × ℕ × ℕ
     meant = shown 0 (ruled (listing u ks (part s start stop)) at next)
 
-    pub number_padded : not b ≡ true → (43, at, 0, 0) ≡ meant
+    pub number_padded : b ≡ false → (43, at, 0, 0) ≡ meant
     unfolding listing ruled shown
-    number_padded t = rw (sym e ∙ not-true b t)
+    number_padded t = rw (sym e ∙ t)
 
-    module _ (t : not b ≡ false) where
+    module _ (t : b ≡ true) where
       pub number_long : 4 < stop - start → (44, at, 0, 0) ≡ meant
       unfolding listing ruled shown
-      number_long h = rw (sym e ∙ not-false b t, counts, lt-ltb _ _ h)
+      number_long h = rw (sym e ∙ t, counts, lt-ltb _ _ h)
 
       module _ (low : all (λ k. ltb k 16777216) ks ≡ true) (f : stop - start ≤ 4) {n : Bool} (g : n ≡ negative (part s start stop)) where
         abbrev found : ℕ → ℕ × ℕ × ℕ × ℕ
@@ -99,14 +99,14 @@ module _ (u : ℕ) (ks : List ℕ) (at next : ℕ) where
 
         pub number_negative : n ≡ true → found 16777216 ≡ meant
         unfolding listing ruled shown looked_up
-        number_negative h = rw (unlisted ks low, sym e ∙ not-false b t, counts, le-ltb _ _ f, sym g ∙ h)
+        number_negative h = rw (unlisted ks low, sym e ∙ t, counts, le-ltb _ _ f, sym g ∙ h)
 
         pub number_found : {v : ℕ} → n ≡ false → v ≡ min (number_from 0 (part s start stop)) 16777216 → found v ≡ meant
         unfolding listing ruled shown looked_up
         number_found {v} h p =
             by_cases (one_of ks v)
-            (λ q. rw q (number_known _ (sym e ∙ not-false b t) (omega (arith, counts)) (sym g ∙ h) (omega (arith, has_below 16777216 ks v low q)) q))
-            (λ q. rw (q, sym e ∙ not-false b t, counts, le-ltb _ _ f, sym g ∙ h, unlisted_held ks low v _ p q))
+            (λ q. rw q (number_known _ (sym e ∙ t) (omega (arith, counts)) (sym g ∙ h) (omega (arith, has_below 16777216 ks v low q)) q))
+            (λ q. rw (q, sym e ∙ t, counts, le-ltb _ _ f, sym g ∙ h, unlisted_held ks low v _ p q))
 
 pub ruleset numbering = (number_padded, number_long, number_negative, number_found)
 

@@ -13,9 +13,9 @@ abbrev Answers : Offered → List ℕ → Written → List ℕ → Type 0
 Answers o before w after = (w ≡ trunk_write_of o (length before)) × (after ≡ trunk_left_of o before)
 
 -- where the four octets are not zero
-pub not_spare : (o : Offered) (before : List ℕ) {b : Bool} {w : Written} → b ≡ o.spare → not b ≡ true → w ≡ no 10 → Answers o before w before
+pub not_spare : (o : Offered) (before : List ℕ) {b : Bool} {w : Written} → b ≡ o.spare → b ≡ false → w ≡ no 10 → Answers o before w before
 unfolding trunk_write_of trunk_left_of
-not_spare o before is e q = let z = sym is ∙ not-true _ e in (q ∙ sym (unpicked _ _ z), sym (unpicked _ _ z))
+not_spare o before is e q = let z = sym is ∙ e in (q ∙ sym (unpicked _ _ z), sym (unpicked _ _ z))
 
 -- where they are, as of any family
 module _ (o : Offered) (before : List ℕ) {w : Written} {after : List ℕ} (s : o.spare ≡ true) where
@@ -23,9 +23,9 @@ module _ (o : Offered) (before : List ℕ) {w : Written} {after : List ℕ} (s :
   unfolding trunk_write_of trunk_left_of
   as_family a = (a.0 ∙ sym (picked _ _ s), a.1 ∙ sym (picked _ _ s))
 
-pub not_fine : (o : Offered) (before : List ℕ) {b : Bool} {w : Written} → o.spare ≡ true → b ≡ trunk_component.valid o.trunk → not b ≡ true → w ≡ no 10
+pub not_fine : (o : Offered) (before : List ℕ) {b : Bool} {w : Written} → o.spare ≡ true → b ≡ trunk_component.valid o.trunk → b ≡ false → w ≡ no 10
     → Answers o before w before
-not_fine o before s is e q = rw q (as_family o before s (Family.refused_10 trunk_component o.trunk before (sym is ∙ not-true _ e)))
+not_fine o before s is e q = rw q (as_family o before s (Family.refused_10 trunk_component o.trunk before (sym is ∙ e)))
 
 -- a component that may be written and whose frame holds m octets
 pub record Sized (o : Offered) (m : ℕ) : Type 0 where

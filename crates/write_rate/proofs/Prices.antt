@@ -9,11 +9,11 @@ use Rattle.write_tests.proofs.Truth.{same_truth, list_self, kinds, other_kind}
 use Rattle.write_rate.specs.inner.Prices.{last_kind, detail_fine, unstepped, step_fine, times_fine, amount_fine, price_fine}
 
 -- what a test that was made says of what it tests
-pub was_true : {b x : Bool} → b ≡ x → not b ≡ false → x ≡ true
-was_true {b} e h = sym e ∙ not-false b h
+pub was_true : {b x : Bool} → b ≡ x → b ≡ true → x ≡ true
+was_true {b} e h = sym e ∙ h
 
-pub was_false : {b x : Bool} → b ≡ x → not b ≡ true → x ≡ false
-was_false {b} e h = sym e ∙ not-true b h
+pub was_false : {b x : Bool} → b ≡ x → b ≡ false → x ≡ false
+was_false {b} e h = sym e ∙ h
 
 -- ---- the orders in which a type's tests are met and those in which they are made
 

@@ -40,11 +40,11 @@ module _ {A : Type 0} {p : A → Bool} {g : ℕ → A} {n : ℕ} where
   tested : {i : ℕ} {x : A} {b : Bool} → Passing p g n i → i < n → x ≡ g i → b ≡ p x → all p (table n g) ≡ b && all p (drop (i + 1) (table n g))
   tested {i} l h e f = l.same ∙ ap (all p) (rest_more n g i h e) ∙ ap (λ (t : Bool). t && all p (drop (i + 1) (table n g))) (sym f)
 
-  pub passing_more : {i : ℕ} {x : A} {b : Bool} → Passing p g n i → i < n → x ≡ g i → b ≡ p x → not b ≡ false → Passing p g n (i + 1)
-  passing_more {i} {x} {b} l h e f t = record { most = omega arith; same = tested l h e f ∙ rw (not-false b t) }
+  pub passing_more : {i : ℕ} {x : A} {b : Bool} → Passing p g n i → i < n → x ≡ g i → b ≡ p x → b ≡ true → Passing p g n (i + 1)
+  passing_more {i} {x} {b} l h e f t = record { most = omega arith; same = tested l h e f ∙ rw (t) }
 
-  pub passing_stop : {i : ℕ} {x : A} {b : Bool} → Passing p g n i → i < n → x ≡ g i → b ≡ p x → not b ≡ true → false ≡ all p (table n g)
-  passing_stop {i} {x} {b} l h e f t = sym (tested l h e f ∙ rw (not-true b t))
+  pub passing_stop : {i : ℕ} {x : A} {b : Bool} → Passing p g n i → i < n → x ≡ g i → b ≡ p x → b ≡ false → false ≡ all p (table n g)
+  passing_stop {i} {x} {b} l h e f t = sym (tested l h e f ∙ rw (t))
 
   pub passing_done : {i : ℕ} → Passing p g n i → (i < n → ⊥) → true ≡ all p (table n g)
   passing_done {i} l h = sym (l.same ∙ ap (all p) (rest_none n g i l.most h))

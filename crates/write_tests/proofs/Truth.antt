@@ -17,11 +17,11 @@ pub list_self : (xs : List ℕ) → same_list eqb xs xs ≡ true
 list_self xs = (list_equal eqb eqb_equal).self xs
 
 -- what a function answers to a test that the code goes on from, and the tests after it
-pub test_no : (a b r : Bool) → r ≡ a → not r ≡ true → false ≡ a && b
-test_no a b r e h = rw (← e, not-true r h)
+pub test_no : (a b r : Bool) → r ≡ a → r ≡ false → false ≡ a && b
+test_no a b r e h = rw (← e, h)
 
-pub test_yes : (a b r x : Bool) → r ≡ a → not r ≡ false → x ≡ b → x ≡ a && b
-test_yes a b r x e h q = rw (← e, not-false r h) q
+pub test_yes : (a b r x : Bool) → r ≡ a → r ≡ true → x ≡ b → x ≡ a && b
+test_yes a b r x e h q = rw (← e, h) q
 
 pub ruleset answered = (test_no, test_yes)
 

@@ -13,21 +13,21 @@ decreases-loop key keys i₀ i = 64 - i
 returns : tie.Need-returns-then-keys-i invariant-loop decreases-loop
 returns c =
     let at = c.before.before in let start = at.before in
-    let n : length start.args.t1 ≡ 64 = search rules in
-    sym (search_finds start.args.key start.args.t1 at.loop-i.i (omega (arith, n, c.before.loop-i-test.true)) c.if-keys-i.true) ∙ at.loop-i.invariant.1
+    let n : length start.args.keys ≡ 64 = search rules in
+    sym (search_finds start.args.key start.args.keys at.loop-i.i (omega (arith, n, c.before.loop-i-test.true)) c.if-keys-i.true) ∙ at.loop-i.invariant.1
 
 loop-again : tie.Need-loop-i-preserved invariant-loop decreases-loop
 loop-again c =
     let at = c.before.before in let start = at.before in
-    let n : length start.args.t1 ≡ 64 = search rules in
-    (omega arith, search_goes start.args.key start.args.t1 at.loop-i.i (omega (arith, n, c.before.loop-i-test.true)) c.if-keys-i.false ∙ at.loop-i.invariant.1)
+    let n : length start.args.keys ≡ 64 = search rules in
+    (omega arith, search_goes start.args.key start.args.keys at.loop-i.i (omega (arith, n, c.before.loop-i-test.true)) c.if-keys-i.false ∙ at.loop-i.invariant.1)
 
 returns-2 : tie.Need-returns invariant-loop decreases-loop
 returns-2 c =
     let at = c.before in let start = at.before in
-    let n : length start.args.t1 ≡ 64 = search rules in
-    let z = search_ends start.args.key start.args.t1 at.loop-i.i (omega (arith, n, c.loop-i-test.false)) in
-    let e : 64 ≡ at.loop-i.i + lowest start.args.key (drop at.loop-i.i start.args.t1) = omega (arith, z, at.loop-i.invariant.0, c.loop-i-test.false) in
+    let n : length start.args.keys ≡ 64 = search rules in
+    let z = search_ends start.args.key start.args.keys at.loop-i.i (omega (arith, n, c.loop-i-test.false)) in
+    let e : 64 ≡ at.loop-i.i + lowest start.args.key (drop at.loop-i.i start.args.keys) = omega (arith, z, at.loop-i.invariant.0, c.loop-i-test.false) in
     e ∙ at.loop-i.invariant.1
 
 pub slot_of_spec : {M : Type 1} → statement M

@@ -13,19 +13,19 @@ returns : tie.Need-returns-then-left-count invariant-loop decreases-loop
 returns c =
     let counted = c.before in
     let at = counted.before.before.before in
-    sym (fits_short _ at.loop-i.i _ at.loop-i.false _ counted.wide-count.ensures (omega arith) c.if-left-count.true) ∙ at.loop-i.invariant.1
+    sym (fits_short _ at.loop-i.i _ at.loop-i.left _ counted.wide-count.ensures (omega arith) c.if-left-count.true) ∙ at.loop-i.invariant.1
 
 loop-again : tie.Need-loop-i-preserved invariant-loop decreases-loop
 loop-again c =
     let counted = c.before in
     let at = counted.before.before.before in
-    (omega arith, sym (fits_more _ at.loop-i.i _ at.loop-i.false _ counted.wide-count.ensures (omega arith) c.if-left-count.false) ∙ at.loop-i.invariant.1)
+    (omega arith, sym (fits_more _ at.loop-i.i _ at.loop-i.left _ counted.wide-count.ensures (omega arith) c.if-left-count.false) ∙ at.loop-i.invariant.1)
 
 returns-2 : tie.Need-returns invariant-loop decreases-loop
 returns-2 c =
     let at = c.before in
     let rows = at.before.before.args.rows.now in
-    sym (fits_end rows at.loop-i.i (length rows / 6) at.loop-i.false (omega arith)) ∙ at.loop-i.invariant.1
+    sym (fits_end rows at.loop-i.i (length rows / 6) at.loop-i.left (omega arith)) ∙ at.loop-i.invariant.1
 
 pub rows_fit_spec : {M : Type 1} → statement M
 rows_fit_spec =

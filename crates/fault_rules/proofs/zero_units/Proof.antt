@@ -20,13 +20,13 @@ returns c =
     let in_loop = asked.before.before.before in
     let at = in_loop.before in
     let start = at.before.before in
-    sym (rw (← at.before.places-n.ensures.0) (each_fails _ (test start.args.t1) _ in_loop.loop-i-test.true (sym asked.is_nothing.ensures ∙ c.if-not-is_nothing.true)))
+    sym (rw (← at.before.places-n.ensures.0) (each_fails _ (test start.args.e) _ in_loop.loop-i-test.true (sym asked.is_nothing.ensures ∙ c.if-not-is_nothing.true)))
 
 loop-again : tie.Need-loop-i-preserved invariant-loop decreases-loop
 loop-again c =
     let asked = c.before in
     let at = asked.before.before.before.before in
-    (omega arith, each_more _ (test at.before.before.args.t1) at.loop-i.invariant.1 (sym asked.is_nothing.ensures ∙ c.if-not-is_nothing.false))
+    (omega arith, each_more _ (test at.before.before.args.e) at.loop-i.invariant.1 (sym asked.is_nothing.ensures ∙ c.if-not-is_nothing.false))
 
 returns-2 : tie.Need-returns invariant-loop decreases-loop
 returns-2 c =

@@ -21,14 +21,14 @@ row_of_spec =
     (omega arith)
     (omega arith)
     (λ c. let r = c.before.before in let at = r.before.before in let start = at.before in
-    let n : length start.args.t1 ≡ 16 = search rules in
+    let n : length start.args.rows ≡ 16 = search rules in
     let same = sym c.before.same_currency.ensures ∙ c.if-same_currency.true in
-    sym (search_finds start.args.c start.args.n start.args.t1 at.loop-i.i (omega arith) (omega (arith, n, start.requires)) same) ∙ at.loop-i.invariant.1)
+    sym (search_finds start.args.c start.args.n start.args.rows at.loop-i.i (omega arith) (omega (arith, n, start.requires)) same) ∙ at.loop-i.invariant.1)
     (omega arith)
     (omega arith)
     (λ c. let r = c.before.before in let at = r.before.before in let start = at.before in
-    let n : length start.args.t1 ≡ 16 = search rules in
+    let n : length start.args.rows ≡ 16 = search rules in
     let other = sym c.before.same_currency.ensures ∙ c.if-same_currency.false in
-    (omega arith, search_goes start.args.c start.args.n start.args.t1 at.loop-i.i (omega arith) (omega (arith, n, start.requires)) other ∙ at.loop-i.invariant.1))
+    (omega arith, search_goes start.args.c start.args.n start.args.rows at.loop-i.i (omega arith) (omega (arith, n, start.requires)) other ∙ at.loop-i.invariant.1))
     (λ c. let at = c.before in let start = at.before in
-    search_ends start.args.c start.args.n start.args.t1 at.loop-i.i (omega arith) at.loop-i.invariant.0 ∙ at.loop-i.invariant.1))
+    search_ends start.args.c start.args.n start.args.rows at.loop-i.i (omega arith) at.loop-i.invariant.0 ∙ at.loop-i.invariant.1))

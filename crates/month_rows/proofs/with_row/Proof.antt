@@ -5,14 +5,14 @@ use Rattle.month_rows.proofs.with_row.Tie as tie
 
 returns : tie.Need-returns-then-i-n
 returns c =
-    let start = c.before.before in let rows = start.args.t1 in let cur = start.args.c in let n = start.args.n in
+    let start = c.before.before in let rows = start.args.rows in let cur = start.args.c in let n = start.args.n in
     let size : length rows ≡ 16 = search rules in
     let here = c.before.if-i-n.true in
     ap₂ (set rows) here c.new_row.ensures ∙ sym (stored_new cur start.args.t n rows (omega (arith, size, start.requires.0, here)) (sym start.requires.2 ∙ here))
 
 returns-2 : tie.Need-returns
 returns-2 c =
-    let start = c.before.before.before in let rows = start.args.t1 in let cur = start.args.c in let n = start.args.n in
+    let start = c.before.before.before in let rows = start.args.rows in let cur = start.args.c in let n = start.args.n in
     let size : length rows ≡ 16 = search rules in
     let most = at_most cur n rows in
     let other : row_of cur n rows ≡ n → ⊥ = λ e. c.before.before.if-i-n.false (start.requires.2 ∙ e) in

@@ -19,9 +19,9 @@ decreases-loop count a b n i₀ i = n - i
 -- from a turn's tests
 module _ (turn : tie.In-loop-i invariant-loop decreases-loop) where
   abbrev same : ℕ → Bool
-  same = test turn.before.before.before.args.t1 turn.before.before.before.args.t2
+  same = test turn.before.before.before.args.a turn.before.before.before.args.b
 
-  stops : same turn.before.loop-i.i ≡ false → false ≡ equal_units turn.before.before.before.args.t1 turn.before.before.before.args.t2
+  stops : same turn.before.loop-i.i ≡ false → false ≡ equal_units turn.before.before.before.args.a turn.before.before.before.args.b
       turn.before.before.before.args.count
   unfolding equal_units
   stops f =

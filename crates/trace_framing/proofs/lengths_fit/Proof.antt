@@ -13,19 +13,19 @@ returns : tie.Need-returns-then-left-count invariant-loop decreases-loop
 returns c =
     let counted = c.before in
     let at = counted.before.before.before in
-    sym (lengths_short _ at.loop-i.i _ at.loop-i.false _ counted.size-count.ensures (omega arith) c.if-left-count.true) ∙ at.loop-i.invariant.1
+    sym (lengths_short _ at.loop-i.i _ at.loop-i.left _ counted.size-count.ensures (omega arith) c.if-left-count.true) ∙ at.loop-i.invariant.1
 
 loop-again : tie.Need-loop-i-preserved invariant-loop decreases-loop
 loop-again c =
     let counted = c.before in
     let at = counted.before.before.before in
-    (omega arith, sym (lengths_more _ at.loop-i.i _ at.loop-i.false _ counted.size-count.ensures (omega arith) c.if-left-count.false) ∙ at.loop-i.invariant.1)
+    (omega arith, sym (lengths_more _ at.loop-i.i _ at.loop-i.left _ counted.size-count.ensures (omega arith) c.if-left-count.false) ∙ at.loop-i.invariant.1)
 
 returns-2 : tie.Need-returns invariant-loop decreases-loop
 returns-2 c =
     let at = c.before in
     let pairs = at.before.before.args.pairs.now in
-    sym (lengths_end pairs at.loop-i.i (length pairs / 2) at.loop-i.false (omega arith)) ∙ at.loop-i.invariant.1
+    sym (lengths_end pairs at.loop-i.i (length pairs / 2) at.loop-i.left (omega arith)) ∙ at.loop-i.invariant.1
 
 pub lengths_fit_spec : {M : Type 1} → statement M
 lengths_fit_spec =
