@@ -31,10 +31,10 @@ module _ (t : ℕ) where
   Start = forms_size_lts.Start Called Given forms_size.Post
 
   abbrev Told : Type 0
-  Told = forms_size_lts.After-span-at Called Given forms_size.Post
+  Told = forms_size_lts.After-span_at-o Called Given forms_size.Post
 
   abbrev Opened : Type 0
-  Opened = forms_size_lts.Else2 Called Given forms_size.Post
+  Opened = forms_size_lts.Else-o-lt-SPANS Called Given forms_size.Post
 
   abbrev start : Told → Start
   start o = o.before.before.before

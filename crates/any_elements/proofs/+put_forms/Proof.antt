@@ -40,7 +40,7 @@ module _ (t : ℕ) where
   Start = put_forms_lts.Start Called Given put_forms.Post
 
   abbrev Opened : Type 0
-  Opened = put_forms_lts.After-span-at Called Given put_forms.Post
+  Opened = put_forms_lts.After-span_at-o Called Given put_forms.Post
 
   abbrev start : Opened → Start
   start o = o.before.before.before
@@ -50,28 +50,28 @@ module _ (t : ℕ) where
       span_read (record {
         limit = record { octets = λ j. omega (arith, o.before.before.shared_slice_known-1.given j); inside = omega arith; small = omega arith };
         ahead = o.before.if-end-at.false;
-      }) (start o).pre.1.1.0 o.span_at-o.ensures
+      }) (start o).requires.1.1.0 o.span_at-o.ensures
 
   -- a constructed element whose contents are counted, and a primitive one
   abbrev Counted : Type 0
-  Counted = put_forms_lts.After-forms-size Called Given put_forms.Post
+  Counted = put_forms_lts.After-forms_size-inner Called Given put_forms.Post
 
   node : (f : Counted) → let o = f.before.before.before in let s = (start o).args.s.now in
       Puts s (start o).args.at (start o).args.end (o.span_at-o.result / 0x40000) f.forms_size-inner.result
       (forms_of (several_at s (o.span_at-o.result % 512) (o.span_at-o.result / 512 % 512)))
   node f =
       let o = f.before.before.before in
-      node_puts (element o) (start o).pre.1.1.0 (eq-eqb _ 1 f.before.if-tag-eq1.true) f.forms_size-inner.ensures (start o).pre.1.1.1.0
+      node_puts (element o) (start o).requires.1.1.0 (eq-eqb _ 1 f.before.if-tag-eq1.true) f.forms_size-inner.ensures (start o).requires.1.1.1.0
 
   abbrev Plain : Type 0
-  Plain = put_forms_lts.Else2 Called Given put_forms.Post
+  Plain = put_forms_lts.Else-tag-eq1 Called Given put_forms.Post
 
   leaf : (b : Plain) → let o = b.before.before in let s = (start o).args.s.now in
       let x = o.span_at-o.result % 512 in let y = o.span_at-o.result / 512 % 512 in
       Puts s (start o).args.at (start o).args.end (o.span_at-o.result / 0x40000) (y - x) (lent s x y)
   leaf b =
       let o = b.before.before in
-      leaf_puts (element o) (start o).pre.1.1.0 (ne_eqb _ 1 b.if-tag-eq1.false) (start o).pre.1.1.1.0
+      leaf_puts (element o) (start o).requires.1.1.0 (ne_eqb _ 1 b.if-tag-eq1.false) (start o).requires.1.1.1.0
 
 pub +put_forms_spec : {M : Type 1} → statement M
 +put_forms_spec = close μ_put_forms λ t. put_forms_lts.spec (Called t) _ put_forms.Post
@@ -83,7 +83,7 @@ pub +put_forms_spec : {M : Type 1} → statement M
     (λ c κs.
     let f = c.before in
     let n = node t f in
-    (omega (arith, n.few), room_first n.parts (start t f.before.before.before).pre.1.1.1.1))
+    (omega (arith, n.few), room_first n.parts (start t f.before.before.before).requires.1.1.1.1))
     (λ c κs.
     let p = c.before in
     let f = p.before.before in
@@ -107,7 +107,7 @@ pub +put_forms_spec : {M : Type 1} → statement M
     wrote_parts (node t p.before.before).parts p.put_lead-p.ensures (wrote_both q.put_forms-q.ensures c.put_forms.ensures))
     (λ c κs.
     let n = leaf t c.before in
-    (omega (arith, n.few), room_first n.parts (start t c.before.before.before).pre.1.1.1.1))
+    (omega (arith, n.few), room_first n.parts (start t c.before.before.before).requires.1.1.1.1))
     (λ c. omega (arith, goes (element t c.before.before.before.before.before)))
     (λ c. omega (arith, goes (element t c.before.before.before.before.before)))
     (λ c. omega (arith, goes (element t c.before.before.before.before.before)))

@@ -12,7 +12,7 @@ numbered : (o : tie.After-numbered_at-o) → let v = (start o.before.before).arg
     (r.fault, r.place, r.value, r.next) ≡ shown (record { start = 0; stop = 0 }) (opened (get_or v.s.now v.at 0) v.s.now v.at v.end)
 numbered o =
     let v = start o.before.before in
-    rw (sym (leaf_opens v.args.s.now v.args.at v.args.end v.pre.1 (ne_eqb _ 1 o.before.if-tag-eq1.false))) at o.numbered_at-o.ensures.0
+    rw (sym (leaf_opens v.args.s.now v.args.at v.args.end v.requires.1 (ne_eqb _ 1 o.before.if-tag-eq1.false))) at o.numbered_at-o.ensures.0
 
 pub span_at_spec : {M : Type 1} → statement M
 span_at_spec =
@@ -23,7 +23,7 @@ span_at_spec =
     (λ c κs.
     let i = c.before.before in
     span_inside (start i).args.s.now _ _ (start i).requires.1 i.if-tag-eq0.false _ c.open_at-o.ensures.0 (start i).requires.0.1 c.open_at-o.ensures.1)
-    (λ c. let o = c.before in let i = o.before.before in span_is _ _ _ (start i).requires.1 i.if-tag-eq0.false _ o.open_at-o.ensures.0 c.Span-of.ensures)
+    (λ c. let o = c.before in let i = o.before.before in span_is _ _ _ (start i).requires.1 i.if-tag-eq0.false _ o.open_at-o.ensures.0 c.span_of.ensures)
     (λ c. search rules) (λ c κs. search rules)
     (λ c κs.
     let i = c.before.before in

@@ -105,11 +105,11 @@ module _ {M : Type 1} {𝓤 : Ura M} (𝓛 : Logic 𝓤) (at_mem : Memory → SP
         abbrev Account-lent : Fml
         Account-lent = (MutRef (named 0) (α ∷ []) Ac.the_row).own_val lent_x.0 (vptr b p ∷ [])
 
-        asks_step : ent 𝓤 (⋆ 𝓛 (tokens ∷ ‵ Account-lent ∷ ‵ Sl ∷ [])) (sep 𝓤 (Step.pre to_step) (sem 𝓛 Sl))
+        asks_step : ent 𝓤 (⋆ 𝓛 (tokens ∷ ‵ Account-lent ∷ ‵ Sl ∷ [])) (sep 𝓤 (Step.requires to_step) (sem 𝓛 Sl))
         asks_step =
             qed 𝓛 (tokens ∷ ‵ Account-lent ∷ ‵ Sl ∷ []) ∵ move ! (2 ∷ []) $ use1 𝓛 (‵ Sl ⊛ ‵ Sl) ((shr_slice_copy 𝓛 (named 1) κ' u8).twice s (v_s ∷ [])) $ split ! $
             nothing ! $ move ! (1 ∷ 0 ∷ []) $ fjoin ! $ owned ! E.the_row (Is E.the_row) (LL.makes E.the_type E.TheLaws.the_plain 𝓛) ev _ is_event $ fjoin ! $
-            move ! (3 ∷ 0 ∷ []) $ fjoin ! $ move ! (2 ∷ 0 ∷ []) $ use2 𝓛 (raw (Step.pre to_step))
+            move ! (3 ∷ 0 ∷ []) $ fjoin ! $ move ! (2 ∷ 0 ∷ []) $ use2 𝓛 (raw (Step.requires to_step))
             (qed 𝓛 (tokens ∷ ‵ (owns (MutRef (named 0) (α ∷ []) Ac.the_row ∷ E.the_row ∷ ShrSlice (named 1) κ' u8 ∷ []) lent_x lent_at) ∷ []) ∵ join ! $ frame ! $ done !) $ frame ! $ done !
 
         abbrev Lastly : Lastly-of → Fml
@@ -175,7 +175,7 @@ module _ {M : Type 1} {𝓤 : Ura M} (𝓛 : Logic 𝓤) (at_mem : Memory → SP
         (uint_Makes 𝓛 w16, (LL.makes E.the_type E.TheLaws.the_plain 𝓛, tt)) ((refl, fk), (is_event, tt)) tells_h (held_apart 𝓛) (λ w ws. id⊢ 𝓤 _))
         v_a (old h) (λ vs is i p. part_in 𝓛 (old h vs is i) _ b p (is_old h vs is i)) (λ d p. part_out 𝓛 d b p)
         Outcome Lastly-of v_o (λ z. z.0) (λ y v. (O.the_row).own_val y (v ∷ [])) (λ y. Is O.the_row y (v_o y ∷ []))
-        (λ vs is i p α δ. Step.pre (to_step vs is i p α δ)) (λ vs is i p α δ. Step.post (to_step vs is i p α δ)) (λ vs is i p α δ. step (to_step vs is i p α δ)) asks_step
+        (λ vs is i p α δ. Step.requires (to_step vs is i p α δ)) (λ vs is i p α δ. Step.post (to_step vs is i p α δ)) (λ vs is i p α δ. step (to_step vs is i p α δ)) asks_step
         Lastly Stepped-so SaidStep (λ vs is i p α δ v. id⊢ 𝓤 _) said_step says_last (outcome_seen 𝓛)
         (λ i z. record { keys = h.keys; calls = set h.calls (i % 64) z.0 }) (λ vs is i z g. is_lent h vs is i z.0 g)
         (λ i w. with_slot h (i % 64) w.key w.account) (λ vs is i w n. is_last h vs is i w.key w.account n.2 n.1) Post

@@ -27,7 +27,7 @@ module _ (n : tie.After-count_at invariant-loop decreases-loop) where
 
   ends : loop.loop-i.at + n.count_at.result ≤ length start.args.octets.now
   ends =
-      turn_inside start.args.rows.now start.args.octets.now loop.loop-i.i loop.loop-i.invariant.1 n.count_at.ensures start.pre
+      turn_inside start.args.rows.now start.args.octets.now loop.loop-i.i loop.loop-i.invariant.1 n.count_at.ensures start.requires
       n.before.loop-i-test.true
 
 loop-again : tie.Need-loop-i-preserved invariant-loop decreases-loop

@@ -27,8 +27,8 @@ module _ (n : tie.After-count_at invariant-loop decreases-loop) where
 
   ends : loop.loop-i.at + n.count_at.result-1 ≤ length start.args.octets.now
   ends =
-      turn_inside start.args.rows.now start.args.octets.now loop.loop-i.i loop.loop-i.invariant.1 n.count_at.ensures start.pre.0
-      (omega (arith, n.before.loop-i-test.true, start.pre.1))
+      turn_inside start.args.rows.now start.args.octets.now loop.loop-i.i loop.loop-i.invariant.1 n.count_at.ensures start.requires.0
+      (omega (arith, n.before.loop-i-test.true, start.requires.1))
 
 loop-again : tie.Need-loop-i-preserved invariant-loop decreases-loop
 loop-again c =

@@ -16,7 +16,7 @@ returns c =
     rw (
       c.other_next-other.ensures,
       latest.latest_next-latest.ensures,
-      seen.Seen-next.ensures,
+      seen.seen_next-seen.ensures,
       ruled.breaks_of-rule.ensures,
       fell.falls-below.ensures,
       asked.invokes_d-d.ensures,

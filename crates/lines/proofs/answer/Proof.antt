@@ -17,7 +17,7 @@ answer_spec =
     tie.close
     (tie.spec (λ c κs. omega arith) (λ c κs. omega arith) returns (λ c κs. omega arith)
     (λ c. unfold answer_text in let m = c.before.before in
-    (rw (whole m.before, lt-ltb _ _ m.if-octets-n.true) c.Put-refused.ensures.0, omega (arith, c.Put-refused.ensures.1)))
+    (rw (whole m.before, lt-ltb _ _ m.if-octets-n.true) c.put_refused.ensures.0, omega (arith, c.put_refused.ensures.1)))
     (λ c. simp length-take (omega arith)) (λ c κs. omega arith)
     (λ c. unfold answer_text in let m = c.before.before.before in
     (rw (whole m.before, le-ltb _ _ m.if-octets-n.false) c.answer_to.ensures.0, c.answer_to.ensures.1)))

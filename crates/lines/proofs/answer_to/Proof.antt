@@ -12,7 +12,7 @@ abbrev start_of : tie.After-write_from-w → tie.Start
 start_of c = (read_at c).before.before.before.before.before.before
 
 -- what was read is written
-formed_at : (c : tie.After-write_from-w) → Formed (start_of c).args.octets.now c.write_from-w.result c.write_from-w.new.1.1.1.1.0
+formed_at : (c : tie.After-write_from-w) → Formed (start_of c).args.octets.now c.write_from-w.result c.write_from-w.new.buf
 formed_at c =
     let front = c.before.before.before.before.before in
     let slice = (read_at c).before.before.before.before.before in
@@ -29,7 +29,7 @@ pub answer_to_spec : {M : Type 1} → statement M
 answer_to_spec =
     tie.close
     (tie.spec (λ c κs. omega arith) (λ c κs. (omega (arith, number_below _ _ c.before.before.read_into-a.ensures), omega arith))
-    (λ c. (wrote_as (reply_refused _ _ c.before.before.before.read_into-a.ensures c.before.before.if-number-ne0.true) c.Put-refused.ensures.0, omega (arith, c.Put-refused.ensures.1)))
+    (λ c. (wrote_as (reply_refused _ _ c.before.before.before.read_into-a.ensures c.before.before.if-number-ne0.true) c.put_refused.ensures.0, omega (arith, c.put_refused.ensures.1)))
     (λ c κs. omega arith) (λ c. omega arith) (λ c κs. omega arith) (λ c κs. absurd (never c.before)) (λ c. absurd (never c.before.before)) (λ c. omega arith)
     (λ c. omega arith) (λ c κs. let w = c.before.before.before.before.before in let f = formed_at w in (f.inside, f.few, omega (arith, (start_of w).requires)))
     (λ c. let w = c.before.before.before in (wrote_as (formed_at w.before.before.before).text c.put_octets.ensures.0, c.put_octets.ensures.1)))

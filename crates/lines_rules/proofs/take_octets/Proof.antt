@@ -28,7 +28,7 @@ next_at : (c : tie.Else-low-ge16 invariant-loop decreases-loop)
 next_at c =
     let f = first c in
     record {
-      ready = (start (turn-of f.before)).pre.1;
+      ready = (start (turn-of f.before)).requires.1;
       few = omega arith;
       onward = omega arith;
       inside = omega arith;

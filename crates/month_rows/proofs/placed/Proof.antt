@@ -7,4 +7,4 @@ placed_spec =
     tie.close
     (tie.spec (omega arith) (omega arith) (omega arith) (omega arith) (omega arith)
     (λ c. let r = c.before in let k = r.before in let l = k.before in
-    rw (c.grid_of.ensures, r.raised_at-cells.ensures, k.billing_column.ensures.0, l.service_line.ensures.0, l.before.Cells-of.ensures) refl))
+    rw (c.grid_of.ensures, r.raised_at-cells.ensures, k.billing_column.ensures.0, l.service_line.ensures.0, l.before.cells_of.ensures) refl))

@@ -41,5 +41,5 @@ returns-4 c =
 
 pub closing_in_spec : {M : Type 1} → statement M
 closing_in_spec =
-    tie.close (tie.spec (λ c κs. c.before.before.requires) (omega arith) returns (λ c κs. (start c.before).pre) returns-2
-    (λ c κs. (start c.before.before.before.before).pre) returns-3 (omega arith) returns-4)
+    tie.close (tie.spec (λ c κs. c.before.before.requires) (omega arith) returns (λ c κs. (start c.before).requires) returns-2
+    (λ c κs. (start c.before.before.before.before).requires) returns-3 (omega arith) returns-4)

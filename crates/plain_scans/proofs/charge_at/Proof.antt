@@ -11,7 +11,7 @@ module _ (n : tie.After-count_at) where
   ends : n.before.place_of-at.result-1 + n.count_at.result-1 ≤ length start.args.octets.now
   ends =
       turn_inside start.args.rows.now start.args.octets.now start.args.k n.before.place_of-at.ensures n.count_at.ensures
-      start.pre.0 start.pre.1
+      start.requires.0 start.requires.1
 
 returns : tie.Need-returns
 returns c =

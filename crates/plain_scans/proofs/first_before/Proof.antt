@@ -32,9 +32,9 @@ module _ (t : tie.After-is_sought invariant-loop decreases-loop) where
 
   told : let x = start.args in sought x.finals x.service (outcome_of x.rows.now x.octets.now at.loop-i.i) ≡ t.is_sought.result
   told =
-      tells_sought start.pre.1 start.pre.2 row.before.before.loop-i-test.true row.before.count_at.ensures row.row_at-e.ensures
+      tells_sought start.requires.1 start.requires.2 row.before.before.loop-i-test.true row.before.count_at.ensures row.row_at-e.ensures
       alone.alone-t.result alone.before.until-p.ensures alone.alone-t.ensures t.before.claim-o.ensures
-      start.args.finals at.loop-i.invariant start.pre.3
+      start.args.finals at.loop-i.invariant start.requires.3
       ∙ sym t.is_sought.ensures
 
 returns : tie.Need-returns-then-is_sought invariant-loop decreases-loop

@@ -30,7 +30,7 @@ module _ (n : tie.After-count_at) where
   ends : n.before.place_of-at.result-1 + n.count_at.result-1 ≤ length start.args.octets.now
   ends =
       turn_inside start.args.rows.now start.args.octets.now start.args.k n.before.place_of-at.ensures n.count_at.ensures
-      start.pre.0 start.pre.1
+      start.requires.0 start.requires.1
 
 claim_alike : {p p' : ℕ} {q q' : Requests} {o o' : List ℕ} (kind : ℕ) → p ≡ p' → q ≡ q' → o ≡ o' → claim_of p q kind o ≡ claim_of p' q' kind o'
 claim_alike kind a b c = rw (a, b, c) refl
@@ -66,7 +66,7 @@ final-at-requires c κs =
     let s = begun o in
     let final : was 22 o.claim-o.result-1 ≡ true = eq-eqb _ 22 c.before.if-o-ne-FINAL.false in
     let of_d_or_e = claim_service _ _ _ _ (rw o.claim-o.ensures at final) in
-    (record { list = s.pre.0; some = omega (arith, s.pre.1) }, rw o.claim-o.ensures of_d_or_e.0, rw o.claim-o.ensures of_d_or_e.1)
+    (record { list = s.requires.0; some = omega (arith, s.requires.1) }, rw o.claim-o.ensures of_d_or_e.0, rw o.claim-o.ensures of_d_or_e.1)
 
 returns-3 : tie.Need-returns
 returns-3 c =
@@ -87,5 +87,5 @@ outcome_at_spec =
     (omega arith) (omega arith)
     (λ c. omega (arith, ends c.before))
     (omega arith) returns-2
-    (λ c κs. (start c.before.before.before.before.before).pre)
+    (λ c κs. (start c.before.before.before.before.before).requires)
     final-at-requires returns-3)

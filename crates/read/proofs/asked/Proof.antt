@@ -11,4 +11,4 @@ asked_spec =
     (λ c. let well = c.before.before.before in let end = well.before.before in
     rw c.keep_front.ensures (tail end.ended-r.ensures _ _ _ _ _ end.before.natural_at-n.ensures.0 (sym well.before.ends_well.ensures ∙ well.if-ends_well.true)))
     (λ c. let end = c.before.before in let read = end.before in
-    rw read.before.before.pre.1 (tail end.ended-r.ensures _ _ _ _ _ read.natural_at-n.ensures.0 (sym c.before.ends_well.ensures ∙ c.if-ends_well.false))))
+    rw read.before.before.requires.1 (tail end.ended-r.ensures _ _ _ _ _ read.natural_at-n.ensures.0 (sym c.before.ends_well.ensures ∙ c.if-ends_well.false))))

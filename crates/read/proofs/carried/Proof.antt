@@ -11,4 +11,4 @@ carried_spec =
     (λ c. let well = c.before.before in let test = sym well.before.ends_well.ensures ∙ well.if-ends_well.true in let end = well.before.before in let read = end.before.charge_at-f in
     rw c.keep_front.ensures (tail end.ended-r.ensures _ _ _ _ _ (rw (and_left (eqb read.result.fault 0) _ test) at read.ensures) test))
     (λ c. let ill = c.before.before.before in let end = ill.before.before in let read = end.before in let lent = read.before.before.before in
-    rw lent.before.before.pre.1.0 (tail end.ended-r.ensures _ _ _ _ _ read.charge_at-f.ensures (sym ill.before.ends_well.ensures ∙ ill.if-ends_well.false))))
+    rw lent.before.before.requires.1.0 (tail end.ended-r.ensures _ _ _ _ _ read.charge_at-f.ensures (sym ill.before.ends_well.ensures ∙ ill.if-ends_well.false))))

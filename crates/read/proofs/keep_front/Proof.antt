@@ -4,4 +4,4 @@ use Rattle.read.proofs.{keep_front.Statement.statement, keep_front.Tie.close, ke
 
 pub keep_front_spec : {M : Type 1} → statement M
 keep_front_spec =
-    close (spec (omega arith) (omega arith) (omega arith) (omega arith) (omega arith) (omega arith) (omega arith) (λ c. simp (c.pre, halves)))
+    close (spec (omega arith) (omega arith) (omega arith) (omega arith) (omega arith) (omega arith) (omega arith) (λ c. simp (c.requires, halves)))

@@ -5,4 +5,4 @@ use Rattle.read.proofs.{keep_head.Statement.statement, keep_head.Tie.close, keep
 pub keep_head_spec : {M : Type 1} → statement M
 keep_head_spec =
     close (spec (omega arith) (omega arith) (omega arith) (omega arith) (omega arith) (omega arith) (omega arith) (omega arith) (omega arith) (omega arith)
-    (λ c. simp (c.before.before.pre, halves)))
+    (λ c. simp (c.before.before.requires, halves)))

@@ -108,14 +108,14 @@ module _ {M : Type 1} {𝓤 : Ura M} (𝓛 : Logic 𝓤) (at_mem : Memory → SP
   to_step = (((κ', tt), (q', tt), tt, (h, (ev, (s, tt))), (spread h ∷ [], (v_e ev ∷ [], (v_s ∷ [], tt)))), tt)
 
   goes_step : Is T.the_row h (v_a h ∷ []) → ent 𝓤 (⋆ 𝓛 ((‵ (flft κ' q') ⊛ ‵ ftrue) ∷ ‵ (owns (E.the_row ∷ ShrSlice (named 1) κ' u8 ∷ []) (ev, (s, tt))
-      (v_e ev ∷ [], (v_s ∷ [], tt))) ∷ [])) (sep 𝓤 ((ByValue 𝓛 at_mem run).pre to_step) (sem 𝓛 Sl))
+      (v_e ev ∷ [], (v_s ∷ [], tt))) ∷ [])) (sep 𝓤 ((ByValue 𝓛 at_mem run).requires to_step) (sem 𝓛 Sl))
   goes_step g =
       qed 𝓛 ((‵ (flft κ' q') ⊛ ‵ ftrue) ∷ ‵ (owns (E.the_row ∷ ShrSlice (named 1) κ' u8 ∷ []) (ev, (s, tt)) (v_e ev ∷ [], (v_s ∷ [], tt))) ∷ []) ∵
       move ! (1 ∷ []) $ fsplit ! $ move ! (1 ∷ []) $ fsplit ! $ use1 𝓛 (‵ Sl ⊛ ‵ Sl) ((shr_slice_copy 𝓛 (named 1) κ' u8).twice s (v_s ∷ [])) $ split ! $
       -- [the slice; the slice; true; the event; the tokens]
       move ! (0 ∷ 2 ∷ []) $ fjoin ! $ move ! (2 ∷ 0 ∷ []) $ fjoin ! $
       owned ! T.the_row (Is T.the_row) (LL.makes T.the_type T'.the_plain 𝓛) h _ (rw (parts h) at g) $ fjoin ! $ move ! (2 ∷ 0 ∷ []) $
-      use2 𝓛 (raw ((ByValue 𝓛 at_mem run).pre to_step)) (qed 𝓛 ((‵ (flft κ' q') ⊛ ‵ ftrue) ∷ ‵ (owns (T.the_row ∷ E.the_row ∷ ShrSlice (named 0) κ' u8 ∷ []) (
+      use2 𝓛 (raw ((ByValue 𝓛 at_mem run).requires to_step)) (qed 𝓛 ((‵ (flft κ' q') ⊛ ‵ ftrue) ∷ ‵ (owns (T.the_row ∷ E.the_row ∷ ShrSlice (named 0) κ' u8 ∷ []) (
         h,
         (ev, (s, tt)),
       ) (spread h ∷ [], (v_e ev ∷ [], (v_s ∷ [], tt)))) ∷ []) ∵ join ! $ frame ! $ done !) $ frame ! $ done !
@@ -174,7 +174,7 @@ module _ {M : Type 1} {𝓤 : Ura M} (𝓛 : Logic 𝓤) (at_mem : Memory → SP
         (feq (List Val) (vptr b o ∷ []) (vptr b o ∷ [])) (owns (E.the_row ∷ ShrSlice (named 1) κ' u8 ∷ []) (ev, (s, tt)) (v_e ev ∷ [], (v_s ∷ [], tt))) Sl
         Change (λ r. v_o r.outcome) (λ r. v_t r.status) (λ r. v_f r.charge) (λ r. r.place) (λ r v. (N.the_row).own_val r (v ∷ [])) (λ r. (O.the_row).own_val r.outcome (v_o r.outcome ∷ []))
         Said (Fine 𝓛) (λ r. ensured 𝓛 step.ended (step.clauses 𝓛 at_mem run) (κ', tt) (h, (ev, (s, tt))) tt r)
-        ((ByValue 𝓛 at_mem run).pre to_step) ((ByValue 𝓛 at_mem run).post to_step) (known to_step) goes_step (λ v. id⊢ 𝓤 _) said (taken_apart 𝓛)
+        ((ByValue 𝓛 at_mem run).requires to_step) ((ByValue 𝓛 at_mem run).post to_step) (known to_step) goes_step (λ v. id⊢ 𝓤 _) said (taken_apart 𝓛)
         last (is_last 1) (is_last 2) (is_last 3) (is_last 4) (is_last 0) Post Result (λ r k e t. stored-T h ev (now s) r e k t) (stored-none-T h ev (now s)) (λ r k e. exits r k e is_event)
 
 pub step_in_spec : {M : Type 1} → step_in.Statement.statement M

@@ -115,7 +115,7 @@ module _ {M : Type 1} {𝓤 : Ura M} (𝓛 : Logic 𝓤) (at_mem : Memory → SP
     abbrev to_callee : (Callee 𝓛 at_mem run).Ghost
     to_callee = (((α ∷ [], (κ, tt)), (full_share, (q, tt)), tt, x, (vptr l 0 ∷ [], (v_e ev ∷ [], (v_s ∷ [], tt)))), tt)
 
-    goes_in : ent 𝓤 (⋆ 𝓛 (lent ∷ handed ∷ [])) ((Callee 𝓛 at_mem run).pre to_callee)
+    goes_in : ent 𝓤 (⋆ 𝓛 (lent ∷ handed ∷ [])) ((Callee 𝓛 at_mem run).requires to_callee)
     goes_in = qed 𝓛 (lent ∷ handed ∷ []) ∵ join ! $ frame ! $ done !
 
   module _ (C : Calls 𝓤 H) (Λ : Loops 𝓤 H) (fm : FmC 𝓤 H 𝓛.laws C) (known : Triple 𝓤 (C callee.Symbol.name) (Callee 𝓛 at_mem run)) where
@@ -137,7 +137,7 @@ module _ {M : Type 1} {𝓤 : Ura M} (𝓛 : Logic 𝓤) (at_mem : Memory → SP
         (mem T.the_row) l₄ 0 δ))))) (lends_ref 𝓛 T.the_row (named 0) (α ∷ []) h l₄ 0) $
         await ! tt $ pick ! (λ δ. split ! $
         -- [the reference; the lender's part; the new token; what else was passed; _7; …; _6; …; _5; …; …; _3; …]
-        move ! (0 ∷ 3 ∷ []) $ fjoin ! $ move ! (2 ∷ 18 ∷ []) $ join ! $ use2 𝓛 (raw ((Callee 𝓛 at_mem run).pre (to_callee α l₄ δ))) (goes_in α l₄ δ) $
+        move ! (0 ∷ 3 ∷ []) $ fjoin ! $ move ! (2 ∷ 18 ∷ []) $ join ! $ use2 𝓛 (raw ((Callee 𝓛 at_mem run).requires (to_callee α l₄ δ))) (goes_in α l₄ δ) $
         calls_at ! fm (Callee 𝓛 at_mem run) known (to_callee α l₄ δ) (and_then ! (load ! (from ! (stop !)) (look ! 4 refl)) (and_then ! (load ! (from ! (stop !))
         (look ! 11 refl)) (and_then ! (load ! (from ! (stop !)) (look ! 9 refl)) (no_more !)))) (λ v.
         use1 𝓛 (later (some (λ (r : Outcome). (lent α l₄ δ ⊛ ‵ ((O.the_row).own_val r (v ∷ []))) ⊛ some (λ (ws : Lasts callee.ended (α ∷ [], (κ, tt))

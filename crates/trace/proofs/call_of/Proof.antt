@@ -20,5 +20,5 @@ call_of_spec =
     (tie.spec (λ c. let x = c.before.before.before.args in no_call x.pairs.now x.octets.now 0 (omega (arith, c.if-pairs-lt2.true)))
     (omega arith) (omega arith) (omega arith) (omega arith)
     (λ c. let s = start c in let more = c.before.before.if-pairs-lt2.false in
-    omega (arith, first_inside s.args.pairs.now s.args.octets.now s.pre.0 s.pre.1 more c.size-end.ensures))
+    omega (arith, first_inside s.args.pairs.now s.args.octets.now s.requires.0 s.requires.1 more c.size-end.ensures))
     reference-of-requires returns-2)

@@ -29,7 +29,7 @@ unfolding part
 put-tiles-requires c κs =
     let f = c.before.before.before in
     let s = start f in
-    (omega (arith, s.pre.3, part_length s.args.s.now s.args.at s.args.next s.pre.1), rooms_as (facility f) s.pre.4)
+    (omega (arith, s.requires.3, part_length s.args.s.now s.args.at s.args.next s.requires.1), rooms_as (facility f) s.requires.4)
 
 returns-3 : tie.Need-returns
 unfolding part

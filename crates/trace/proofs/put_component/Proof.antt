@@ -21,5 +21,5 @@ put_component_spec =
     tie.close
     (tie.spec (omega arith) (λ c. let s = c.before.before.before.before.before in omega (arith, s.requires.0))
     (λ c κs. let b = c.before in let s = b.before.before.before.before in rw b.bare_event-e.ensures (row_room (its s) s.args.octets.now _ refl s.requires.1))
-    (λ c κs. let s = start c.before.before.before in (omega arith, run_room (its s) s.args.octets.now s.pre.1))
+    (λ c κs. let s = start c.before.before.before in (omega arith, run_room (its s) s.args.octets.now s.requires.1))
     (omega arith) (omega arith) returns)

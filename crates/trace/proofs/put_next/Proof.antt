@@ -17,18 +17,18 @@ module _ (w : tie.After-wide-start) where
   place = omega (arith, w.wide-start.ensures.0)
 
   events : let x = (start ours).args in
-      laid_out w.before.before.Gives-of.result (components_after x.s.now (3 + w.wide-start.result))
+      laid_out w.before.before.gives_of-g.result (components_after x.s.now (3 + w.wide-start.result))
       ≡ of_call x.call x.cleared (message x.s.now x.network)
   events =
       let g = w.before.before in
       rw (← ours.before.reference_of.ensures, eq-eqb _ _ ours.if-reference_of-call.false)
-      (message_is (start ours).args.s.now _ _ g.before.type_of.ensures g.Gives-of.ensures place)
+      (message_is (start ours).args.s.now _ _ g.before.type_of.ensures g.gives_of-g.ensures place)
 
 pub put_next_spec : {M : Type 1} → statement M
 put_next_spec =
     tie.close
     (tie.spec (λ c κs. c.before.before.before.requires.0) (λ c. rw (← c.before.reference_of.ensures, ne_eqb _ _ c.if-reference_of-call.true) (puts_none _ _ _))
     (λ c κs. (start c).requires.0) (omega arith)
-    (λ c. let s = start c.before.before.before in omega (arith, (framed_head s.args.s.now s.pre.0).0)) (omega arith) (omega arith)
-    (λ c κs. let w = c.before.before in let s = start (ours w) in (message_fits s.args.s.now s.pre.0 (place w), rooms_as (sym (events w)) s.pre.1))
+    (λ c. let s = start c.before.before.before in omega (arith, (framed_head s.args.s.now s.requires.0).0)) (omega arith) (omega arith)
+    (λ c κs. let w = c.before.before in let s = start (ours w) in (message_fits s.args.s.now s.requires.0 (place w), rooms_as (sym (events w)) s.requires.1))
     (omega arith) (omega arith) (λ c. let p = c.before.before.before.before in puts_as (events p.before.before.before) p.put_all.ensures))

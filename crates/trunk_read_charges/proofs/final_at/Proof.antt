@@ -13,7 +13,7 @@ followed : (c : tie.Else-u-ne0) →
     let f = c.before.before in
     let g = f.before.before.before.args in
     shown no_charge (after ((association true).read g.s.now f.figure_at-u.result.next g.end) (λ a last.
-    got (associated a (plain (figure_in f.figure_at-u.new.1.1.1.1.0))) last))
+    got (associated a (plain (figure_in f.figure_at-u.new.figure))) last))
     ≡ shown no_charge ((with_association true (figures 7)).read g.s.now g.at g.end)
 followed c = rw final_read (search (goes, refl) depth 8)
 

@@ -14,7 +14,7 @@ amount : (c : tie.Else-m-ne0) →
     let a = p.before.before.before.before in
     let e = a.before.before.before in
     let g = e.before.before.args in
-    let w = p.money_at-contents.new.1.1.1.1.0 in
+    let w = p.money_at-contents.new.figure in
     let o = e.open_at-e.result in
     (shown no_charge (billed g.most (plain (money_figure (money_in w))) g.s.now c.before.before.closed-m.result.next o.value.stop o.next)
     ≡ shown no_charge ((ending (billings g.most) (in_money true)).read g.s.now g.at g.end))
@@ -58,7 +58,7 @@ priced_at_spec =
     (λ c.
     let l = c.before.before.before.before.before.before in
     let v = l.before.before.billing_at-b.result.value in
-    let w = (priced l).before.before.before.money_at-contents.new.1.1.1.1.0 in
+    let w = (priced l).before.before.before.money_at-contents.new.figure in
     let m = amount (priced l) in (
       priced_stored w m.1 _ v.value c.reached.ensures v.given c.before.before.flag.ensures (search (step, shut) depth 8 fits 4000) ∙ m.0,
       priced_free w m.1 _ _,

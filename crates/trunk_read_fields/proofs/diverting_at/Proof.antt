@@ -19,10 +19,10 @@ diverting_at_spec =
     let d = c.before.before.before.before in
     let a = d.before.before.before in
     let n = numbered d.before in
-    let front = n.number_at-u.last.1.1.1.1.0 in
-    let figure = a.association_at-a.new.1.1.1.1.0 in
+    let front = n.number_at-u.new.figure in
+    let figure = a.association_at-a.new.figure in
     let value = d.natural_at-n.result.value in
-    let z = n.before.before.before.pre.1 in (
+    let z = n.before.before.before.requires.1 in (
       rw diverting_read (diverting_arrived _ _ front _ figure z.0 n.number_at-u.ensures.1 z.1 a.association_at-a.ensures.1 c.reached.ensures
           value (search (goes, step, gives) depth 8)),
       detailed_spare _ front z.0 n.number_at-u.ensures.1 value,

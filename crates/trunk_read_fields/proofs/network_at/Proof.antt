@@ -13,7 +13,7 @@ addressed : (c : tie.Else-u-ne0) →
     let u = c.before.before in
     let n = u.before.before.before.before.before in
     let g = n.before.before.args in
-    let front = u.address_at-u.new.1.1.1.1.0 in
+    let front = u.address_at-u.new.figure in
     (shown no_body (after ((prim 0x82 (number 0 1)).read g.s.now u.address_at-u.result.next g.end) (λ i l.
     after ((address 0xa3).read g.s.now l g.end) (λ a last. got (naming n.natural_at-d.result.value i (association_in front) a) last)))
     ≡ shown no_body (network.read g.s.now g.at g.end))
@@ -23,7 +23,7 @@ addressed c =
     let n = u.before.before.before.before.before in
     let p = n.before.before.requires in
     let k = u.address_at-u.ensures.1 in
-    (rw network_read (search (goes, step, refl) depth 8), p.1.0, k, p.1.1, p.0, user_spare _ u.address_at-u.new.1.1.1.1.0 p.1.0 k)
+    (rw network_read (search (goes, step, refl) depth 8), p.1.0, k, p.1.1, p.0, user_spare _ u.address_at-u.new.figure p.1.0 k)
 
 pub network_at_spec : {M : Type 1} → statement M
 network_at_spec =
@@ -41,8 +41,8 @@ network_at_spec =
     let e = a.before.before.before.before.before in
     let u = e.before.before.before in
     let n = u.before.before.before.before.before in
-    let front = u.address_at-u.new.1.1.1.1.0 in
-    let figure = a.address_at-a.new.1.1.1.1.0 in
+    let front = u.address_at-u.new.figure in
+    let figure = a.address_at-a.new.figure in
     let source = n.natural_at-d.result.value in
     let destination = e.natural_at-e.result.value in
     let m = addressed e.before in (

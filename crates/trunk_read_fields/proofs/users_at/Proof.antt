@@ -14,7 +14,7 @@ users_at_spec =
     (λ c.
     let n = c.before.before.before.before in
     let z = n.before.before.before.requires.1 in
-    let front = n.number_at-u.new.1.1.1.1.0 in
-    let figure = c.association_at.new.1.1.1.1.0 in
+    let front = n.number_at-u.new.figure in
+    let figure = c.association_at.new.figure in
     let followed = hands _ (naming 0 0 (association_in front)) _ _ no_body c.association_at.ensures.0 in
     (rw (users_read, user_stored _ front z.0 n.number_at-u.ensures.1, other_stored _ figure z.1 c.association_at.ensures.1) (search (goes, followed)), search user_spare)))

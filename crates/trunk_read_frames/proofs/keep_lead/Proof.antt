@@ -5,4 +5,4 @@ use Rattle.trunk_read_frames.proofs.{Leads.lead_put, keep_lead.Statement.stateme
 pub keep_lead_spec : {M : Type 1} → statement M
 keep_lead_spec =
     close (spec (omega arith) (omega arith) (omega arith) (omega arith) (omega arith) (omega arith) (omega arith) (omega arith) (omega arith) (omega arith) (omega arith) (omega arith)
-    (λ c. let a = c.args in lead_put a.front.now c.pre a.frame a.unnamed a.id a.error a.operation a.problem))
+    (λ c. let a = c.args in lead_put a.front.now c.requires a.frame a.unnamed a.id a.error a.operation a.problem))

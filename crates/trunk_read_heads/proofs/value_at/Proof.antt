@@ -9,7 +9,7 @@ value_at_spec =
     (omega arith) (omega arith) (omega arith) (λ c. omega (arith, (c.before.before.before.tiny-x.ensures.1.1 (omega arith)).inside)) (omega arith)
     (λ c. let o = c.before.before in
     let t = o.before.before in
-    let k = sym o.is_Known.ensures ∙ c.before.if-is_known.true in
+    let k = sym o.is_known.ensures ∙ c.before.if-is_known.true in
     rw c.number.ensures (tiny_value _ _ _ _ t.before.before.requires.0 (t.tiny-x.ensures.1.1 (omega arith)) _ _ o.before.if-x-lt128.true k, (omega arith, λ z. k)))
     (omega arith) (λ c. omega arith) (λ c. omega arith)
     (λ c κs. simp (length-take) (omega (arith, c.before.before.before.before.requires)))

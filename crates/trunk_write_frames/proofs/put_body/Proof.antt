@@ -31,14 +31,14 @@ other x = x.before.before
 -- what is put, in its three parts
 put-lead-requires : tie.Need-put_lead-p-requires
 put-lead-requires c κs =
-    let x = c.before in let e = other x in let p = e.before.before.pre in
+    let x = c.before in let e = other x in let p = e.before.before.requires in
     let n = x.before.inner_size-n.ensures.0 in
     let k = x.extension_size-k.ensures.0 in
     (omega (arith, other_length _ _ p.valid e.if-form-eq-GET_FINAL_CHARGE.false n k, p.few), room_1 _ (other_octets _ _ p.valid e.if-form-eq-GET_FINAL_CHARGE.false n k) p.room)
 
 put-inner-requires : tie.Need-put_inner-q-requires
 put-inner-requires c κs =
-    let l = c.before.before.before in let x = l.before.before in let e = other x in let p = e.before.before.pre in
+    let l = c.before.before.before in let x = l.before.before in let e = other x in let p = e.before.before.requires in
     let n = x.before.inner_size-n.ensures.0 in
     let k = x.extension_size-k.ensures.0 in
     record {
@@ -49,14 +49,14 @@ put-inner-requires c κs =
 
 put-extension-requires-2 : tie.Need-put_extension-requires-2
 put-extension-requires-2 c κs =
-    let i = c.before.before.before in let l = i.before.before.before.before in let x = l.before.before in let e = other x in let p = e.before.before.pre in
+    let i = c.before.before.before in let l = i.before.before.before.before in let x = l.before.before in let e = other x in let p = e.before.before.requires in
     let o = other_octets _ _ p.valid e.if-form-eq-GET_FINAL_CHARGE.false x.before.inner_size-n.ensures.0 x.extension_size-k.ensures.0 in
     ((other_valid _ _ p.valid e.if-form-eq-GET_FINAL_CHARGE.false).1.asked, room_3 o p.room l.put_lead-p.ensures i.put_inner-q.ensures)
 
 returns-3 : tie.Need-returns
 returns-3 c =
     let w = c.before.before in let i = w.before.before.before.before in let l = i.before.before.before.before in let x = l.before.before in let e = other x in
-    wrote_three (other_octets _ _ e.before.before.pre.valid e.if-form-eq-GET_FINAL_CHARGE.false x.before.inner_size-n.ensures.0 x.extension_size-k.ensures.0)
+    wrote_three (other_octets _ _ e.before.before.requires.valid e.if-form-eq-GET_FINAL_CHARGE.false x.before.inner_size-n.ensures.0 x.extension_size-k.ensures.0)
     l.put_lead-p.ensures i.put_inner-q.ensures w.put_extension-2.ensures
 
 pub put_body_spec : {M : Type 1} → statement M

@@ -20,8 +20,8 @@ pub put_error_spec : {M : Type 1} → statement M
 put_error_spec =
     tie.close
     (tie.spec (λ c κs. omega arith) (λ c. omega arith) (λ c κs. omega arith)
-    (λ c κs. let e = error c in room_1 _ (error_split _ c.id_of.ensures _ e.error_of-e.ensures) e.before.before.pre.1)
+    (λ c κs. let e = error c in room_1 _ (error_split _ c.id_of.ensures _ e.error_of-e.ensures) e.before.before.requires.1)
     (λ c κs.
     let d = c.before.before.before in let i = d.before in let e = error i in
-    room_mid _ (error_split _ i.id_of.ensures _ e.error_of-e.ensures) e.before.before.pre.1 d.put_id-p.ensures)
+    room_mid _ (error_split _ i.id_of.ensures _ e.error_of-e.ensures) e.before.before.requires.1 d.put_id-p.ensures)
     put-extension-requires (λ c. omega arith) returns)

@@ -13,7 +13,7 @@ start a = a.before.before.before.before
 put-address-requires-2 : tie.Need-put_address-requires
 unfolding network_octets
 put-address-requires-2 c κs =
-    let d = c.before.before.before in let b = d.before.before.before.before.before in let a = source b in let p = (start a).pre in
+    let d = c.before.before.before in let b = d.before.before.before.before.before in let a = source b in let p = (start a).requires in
     (p.0.destination_address, room_tail d.put_small-t.ensures (room_third b.put_address-q.ensures a.put_small-p.ensures p.1))
 
 returns : tie.Need-returns
@@ -29,6 +29,6 @@ put_network_spec =
     (tie.spec (λ c. omega arith) (λ c κs. (omega (arith, c.before.before.before.requires.0.source), search room))
     (λ c κs. ((start c.before.before.before).requires.0.source_address, search room)) (λ c. omega arith)
     (λ c κs.
-    let b = c.before.before.before.before in let a = source b in let p = (start a).pre in
+    let b = c.before.before.before.before in let a = source b in let p = (start a).requires in
     (omega (arith, p.0.destination), room_head _ (room_third b.put_address-q.ensures a.put_small-p.ensures p.1)))
     put-address-requires-2 (λ c. omega arith) returns)

@@ -10,7 +10,7 @@ start b = b.before.before.before.before
 
 put-lead-requires : tie.Need-put_lead-q-requires
 put-lead-requires c κs =
-    let i = c.before.before.before in let b = sized i in let p = (start b).pre in
+    let i = c.before.before.before in let b = sized i in let p = (start b).requires in
     let f = b.before.result_form-form.ensures in
     let n = b.body_size-n.ensures.0 in (
       omega (arith, result_within _ p.valid f n, p.few),
@@ -19,14 +19,14 @@ put-lead-requires c κs =
 
 put-small-requires : tie.Need-put_small-t-requires
 put-small-requires c κs =
-    let l = c.before.before.before in let i = l.before.before.before.before in let b = sized i in let p = (start b).pre in
+    let l = c.before.before.before in let i = l.before.before.before.before in let b = sized i in let p = (start b).requires in
     let o = result_split _ p.valid b.before.result_form-form.ensures b.body_size-n.ensures.0 i.before.id_of.ensures in
     (result_operation _ p.valid, room_head _ (room_tail l.put_lead-q.ensures (room_2 o p.room i.put_id-p.ensures)))
 
 put-body-requires : tie.Need-put_body-requires
 put-body-requires c κs =
     let t = c.before.before.before in let l = t.before.before.before.before in let i = l.before.before.before.before in
-    let b = sized i in let p = (start b).pre in
+    let b = sized i in let p = (start b).requires in
     let f = b.before.result_form-form.ensures in
     let n = b.body_size-n.ensures.0 in
     record {
@@ -41,7 +41,7 @@ returns c =
     let w = c.before.before in let t = w.before.before.before.before in let l = t.before.before.before.before in
     let i = l.before.before.before.before in
     let b = sized i in
-    wrote_two (result_split _ (start b).pre.valid b.before.result_form-form.ensures b.body_size-n.ensures.0 i.before.id_of.ensures)
+    wrote_two (result_split _ (start b).requires.valid b.before.result_form-form.ensures b.body_size-n.ensures.0 i.before.id_of.ensures)
     i.put_id-p.ensures (wrote_both l.put_lead-q.ensures (wrote_both t.put_small-t.ensures w.put_body.ensures))
 
 pub put_result_spec : {M : Type 1} → statement M

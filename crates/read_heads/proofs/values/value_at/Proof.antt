@@ -9,7 +9,7 @@ value_at_spec =
     (λ c. let k = c.before.before in
     let t = k.before.before in
     rw c.number.ensures
-    (tiny_value _ _ _ _ t.before.before.requires.0 (t.tiny-x.ensures.1.1 (omega arith)) _ _ k.before.if-x-lt128.true (sym k.is_Known.ensures ∙ c.before.if-is_known.true), omega arith))
+    (tiny_value _ _ _ _ t.before.before.requires.0 (t.tiny-x.ensures.1.1 (omega arith)) _ _ k.before.if-x-lt128.true (sym k.is_known.ensures ∙ c.before.if-is_known.true), omega arith))
     (omega arith) (λ c. omega arith) (λ c. omega arith)
     (λ c κs. simp (length-take) (omega (arith, c.before.before.before.before.requires)))
     (λ c. let xs = c.before.before.before.before.before.args.s.now in rw (take_all (length xs - 0) xs (omega arith)) at c.value_long.ensures))

@@ -20,13 +20,13 @@ value_long_spec =
     let k = c.before in
     let n = k.before.before.before in
     let looked = n.number_at-n.ensures (unknown_in (frame n)) (known_in (frame n)) (known_low (frame n)).0 in
-    let known = sym k.is_Known.ensures ∙ c.if-is_known.true in
+    let known = sym k.is_known.ensures ∙ c.if-is_known.true in
     (rw (eq-eqb _ _ k.before.if-n-ne0.false, known) at looked, has_below 256 _ _ (known_low (frame n)).1 known)) (omega arith) (omega arith)
     (λ c.
     let e = c.before.before in
     let k = e.before in
     let n = k.before.before.before in
     let looked = n.number_at-n.ensures (unknown_in (frame n)) (known_in (frame n)) (known_low (frame n)).0 in
-    let strange = sym k.is_Known.ensures ∙ e.if-is_known.false in
+    let strange = sym k.is_known.ensures ∙ e.if-is_known.false in
     rw (c.no_number-2.ensures, c.before.unknown.ensures)
     (rw (eq-eqb _ _ k.before.if-n-ne0.false, strange) at looked, omega arith)))
