@@ -12,7 +12,7 @@ typed : (c : tie.Else-d-ne0) →
     let d = c.before.before in
     let m = d.before.before.before in
     let e = m.before.before.before in
-    let g = e.before.before.args in
+    let g = e.args in
     let o = e.open_at-e.result in
     (shown no_rate (after ((scaled 0xa4).read g.s.now d.natural_at-d.result.next o.value.stop) (λ t n.
     after (step_time g.s.now n o.value.stop) (λ h last.
@@ -41,7 +41,5 @@ duration_at_spec =
     c.no_rate-then-g-e.ensures ∙ search (step, remains) depth 8 ∙ (typed k.before).0)
     (omega arith) (omega arith)
     (λ c.
-    let l = c.before.before.before in
-    let t = l.before.before.before in
-    let k = t.before.before.before in
-    c.rate_read.ensures ∙ search (step, shut) depth 8 ∙ (typed k.before.before).0))
+    let k = c.before.before.before.before.before.before.before.before.before.before.before in
+    c.rate_read.ensures ∙ search (step, shut) depth 8 ∙ (typed k.before.before.before).0))

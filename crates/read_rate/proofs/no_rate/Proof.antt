@@ -7,4 +7,4 @@ pub no_rate_spec : {M : Type 1} → statement M
 no_rate_spec =
     tie.close
     (tie.spec (λ c κs. search rules)
-    (λ c. let a = c.before.args in ap {B = ℕ × ℕ × Rate × ℕ} (λ q. (a.fault, a.place, q.2, q.3)) c.untimed-r.ensures))
+    (λ c. let a = c.args in ap {B = ℕ × ℕ × Rate × ℕ} (λ q. (a.fault, a.place, q.2, q.3)) c.untimed-r.ensures))

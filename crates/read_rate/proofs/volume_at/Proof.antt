@@ -6,9 +6,6 @@ use Rattle.types.specs.Rates.{volume}
 use Rattle.read_rate.proofs.volume_at.Statement.{statement}
 use Rattle.read_rate.proofs.volume_at.Tie as tie
 
--- where the element is opened, from where its unit is read
-abbrev opened : tie.Else-d-ne0 → tie.After-open_at-e
-opened c = c.before.before.before.before.before.before.before.before
 
 pub volume_at_spec : {M : Type 1} → statement M
 unfolding volume cons canonical over pair constructed
@@ -18,9 +15,9 @@ volume_at_spec =
     (λ c. simp flat (c.no_rate-then-m-ne0.ensures ∙ (search reading depth 8))) (omega arith) (omega arith)
     (λ c. simp flat (c.no_rate-then-d-ne0.ensures ∙ (search (step, stay) depth 8))) (omega arith)
     (λ c.
-    let o = (opened c.before.before.before.before).open_at-e.ensures.0 in
+    let o = c.open_at-e.ensures.0 in
     simp flat (c.no_rate-then-d-e.ensures ∙ (search (step, remains) depth 8)))
     (omega arith) (omega arith)
     (λ c.
-    let o = (opened c.before.before.before.before.before).open_at-e.ensures.0 in
+    let o = c.open_at-e.ensures.0 in
     simp flat (c.untimed.ensures ∙ (search (step, shut) depth 8))))
