@@ -1,4 +1,3 @@
-use Rattle.std.proofs.Common.{arith}
 use Rattle.prelude.proofs.Prelude.{lt-ltb, le-ltb}
 use Rattle.coding.proofs.Writing.{wrote_both}
 use Rattle.lines_rules.specs.Text.{refused_text}

@@ -1,6 +1,4 @@
-use Rattle.std.proofs.Common.{◌≤◌, ◌≡◌, ◌∙◌, List, ℕ, arith}
-use Rattle.coding.specs.Reader.{part}
-use Rattle.lines_rules.specs.inner.Machine.{state, turns}
+use Rattle.std.proofs.Common.{◌∙◌, arith}
 use Rattle.lines_rules.proofs.Steps.{turns_none, turns_more, turn_open, heard_on, heard_end}
 use Rattle.lines_rules.proofs.take_line.Goals as goal
 

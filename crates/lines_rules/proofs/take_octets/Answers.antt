@@ -1,4 +1,4 @@
-use Rattle.std.proofs.Common.{◌≤◌, ◌<◌, ◌+◌, ◌*◌, ◌≡◌, arith}
+use Rattle.std.proofs.Common.{arith}
 use Rattle.lines_rules.proofs.Steps.{Next, taken_none, taken_more, heard_left, heard_last}
 use Rattle.lines_rules.proofs.take_octets.Goals as goal
 
