@@ -1,5 +1,5 @@
 -- What is taken from a reader and what goes to a writer, part by part, and what the program prints in all.
-use Rattle.prelude.proofs.Prelude.{ℕ, ◌+◌, ◌-◌, ◌≤◌, ◌≡◌, refl, sym, ap, ◌∙◌, subst, List, [], ◌∷◌, ◌++◌, append-nil, append_assoc, arith, length, take, drop, sets-eq, take-append_seam, take-append-drop, take-add, take-take, sub-zero, eqb, ne_eqb}
+use Rattle.prelude.proofs.Prelude.{ℕ, ◌+◌, ◌-◌, ◌≤◌, ◌≡◌, refl, sym, ap, ◌∙◌, subst, List, [], ◌∷◌, ◌++◌, append-nil, append_assoc, arith, length, take, drop, sets-eq, take-append_seam, take-append-drop, take-add, take-take, sub-zero, eqb, ne_eqb, inl, inr}
 use Rattle.prelude.proofs.Ways.{by_cases}
 use Rattle.std.specs.Prelude.{Option, None, Some, IfSome}
 use Rattle.std.specs.Io.KnownBytes.{Appends, Consumes, IsAtEnd, Keeps}
@@ -7,7 +7,7 @@ use Rattle.std.proofs.KnownBytes.{Appends-nil, Appends-trans, Appends-kept, Cons
 use Rattle.coding.specs.{Reader.part, inner.Written.Wrote}
 use Rattle.lines_rules.specs.{declared.Line.Line, Lines.output_of, inner.Machine.State, inner.Machine.state, inner.Machine.new_line, inner.Machine.turn, inner.Machine.turns, inner.Machine.ended, inner.Machine.answer_text}
 use Rattle.lines_rules.proofs.{Steps.turns_none, Steps.turns_both, Steps.turns_all, Steps.turns_append, Meaning.printed}
-use Rattle.lines.specs.{declared.Done.Done, inner.Ran.Ran, inner.Ran.Begun, inner.Ran.Told, inner.Ran.Passed, inner.Ran.Closed}
+use Rattle.lines.specs.{declared.Done.Done, inner.Ran.Ran, inner.Ran.Begun, inner.Ran.Says, inner.Ran.Told, inner.Ran.Passed, inner.Ran.Closed}
 
 -- ---- what was printed before stays in front
 
@@ -48,6 +48,19 @@ begun_none held text = record { said = []; unsaid = text; parts = refl; put = Ap
 
 pub begun_whole : {held holds : Option (List ℕ)} {text : List ℕ} → Appends held holds text → Begun held holds text
 begun_whole {text} p = record { said = text; unsaid = []; parts = sym (append-nil text); put = p }
+
+-- nothing was written before
+pub begun_kept : (held holds : Option (List ℕ)) {then : Option (List ℕ)} {text : List ℕ} → Keeps held holds → Begun holds then text → Begun held then text
+begun_kept held holds {then} k b = record {
+  said = b.said;
+  unsaid = b.unsaid;
+  parts = b.parts;
+  put = Appends-trans held holds then [] b.said (Appends-kept held held holds [] (Appends-nil held) k) b.put;
+}
+
+pub says_kept : (held holds : Option (List ℕ)) {then : Option (List ℕ)} → Keeps held holds → Says holds then → Says held then
+says_kept held holds k (inl b) = inl (begun_kept held holds k b)
+says_kept held holds k (inr b) = inr (begun_kept held holds k b)
 
 -- after what is written, and before what is not
 begun_on : (held holds : Option (List ℕ)) (t v : List ℕ) {then : Option (List ℕ)} {u text : List ℕ} → text ≡ (t ++ u) ++ v → Appends held holds t → Begun holds then u → Begun held then text

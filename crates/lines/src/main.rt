@@ -9,11 +9,11 @@
 #![tactic(auto)]
 
 ghost use Rattle.std.specs.Prelude.{◌≡◌, true, false, [], ◌+◌, ◌≤◌, ◌<◌, length, take, IfSome};
-ghost use Rattle.std.specs.Io.KnownBytes.{Appends};
+ghost use Rattle.std.specs.Io.KnownBytes.{Appends, Keeps};
 ghost use Rattle.coding.specs.inner.Written.{Wrote};
 ghost use Rattle.lines_rules.specs.Lines.{text_for, output_of};
 ghost use Rattle.lines_rules.specs.inner.Machine.{answer_text, state, turns, ended};
-ghost use Rattle.lines.specs.inner.Ran.{Ran, Carried, Begun, Told, Passed, Closed};
+ghost use Rattle.lines.specs.inner.Ran.{Ran, Carried, Begun, no_output, Says, Told, Passed, Closed};
 
 use lines_rules::{Line, line_phase};
 use std::io::{Read, Write};
@@ -107,15 +107,24 @@ fn written<W: Write>(to: &mut W, out: &[u8], used: usize) -> bool
     true
 }
 
+// Says why the program ends.
+fn tell<E: Write>(errors: &mut E, text: &[u8])
+    ensures { Begun (E.contents errors.old) (E.contents errors.new) text.now }
+{
+    written(errors, text, text.len());
+}
+
 // A write that fails is reported.
 fn put<W: Write, E: Write>(to: &mut W, errors: &mut E, out: &[u8], used: usize) -> bool
     ensures whole { result ≡ true → Appends (W.contents to.old) (W.contents to.new) (take used out.now) }
     ensures begun { Begun (W.contents to.old) (W.contents to.new) (take used out.now) }
+    ensures quiet { result ≡ true → Keeps (E.contents errors.old) (E.contents errors.new) }
+    ensures says { result ≡ false → Begun (E.contents errors.old) (E.contents errors.new) no_output }
 {
     if written(to, out, used) {
         return true;
     }
-    let _ = errors.write_all(b"lines: the output cannot be written\n");
+    tell(errors, b"lines: the output cannot be written\n");
     false
 }
 
@@ -140,6 +149,8 @@ fn chunk<W: Write, E: Write>(
     ensures told { result.more ≡ true → Told s.now l octets.old result.line octets.new (W.contents to.old) (W.contents to.new) }
     ensures whole { result.whole ≡ result.more }
     ensures begun { Begun (W.contents to.old) (W.contents to.new) (turns (state l octets.old []) s.now).text }
+    ensures quiet { result.more ≡ true → Keeps (E.contents errors.old) (E.contents errors.new) }
+    ensures says { result.more ≡ false → Begun (E.contents errors.old) (E.contents errors.new) no_output }
 {
     let mut line = l;
     let mut at = 0;
@@ -173,6 +184,8 @@ fn close<W: Write, E: Write>(
 ) -> bool
     ensures whole { result ≡ true → Appends (W.contents to.old) (W.contents to.new) (ended (state line octets.old [])) }
     ensures begun { Begun (W.contents to.old) (W.contents to.new) (ended (state line octets.old [])) }
+    ensures quiet { result ≡ true → Keeps (E.contents errors.old) (E.contents errors.new) }
+    ensures says { result ≡ false → Begun (E.contents errors.old) (E.contents errors.new) no_output }
 {
     if line.phase == line_phase::NEW {
         return true;
@@ -194,6 +207,9 @@ fn once<R: Read, W: Write, E: Write>(
     ensures more { result.more ≡ true → Passed (R.remaining from.old) (R.remaining from.new) (W.contents to.old) (W.contents to.new) line octets.old result.line octets.new }
     ensures whole { 0 < length buf.old → result.more ≡ false → result.whole ≡ true → Closed (R.remaining from.old) (R.remaining from.new) (W.contents to.old) (W.contents to.new) line octets.old }
     ensures begun { 0 < length buf.old → IfSome (R.remaining from.old) (λ s. Begun (W.contents to.old) (W.contents to.new) (ended (turns (state line octets.old []) s))) }
+    ensures goes_on { result.more ≡ true → result.whole ≡ true }
+    ensures quiet { result.whole ≡ true → Keeps (E.contents errors.old) (E.contents errors.new) }
+    ensures says { result.whole ≡ false → Says (E.contents errors.old) (E.contents errors.new) }
 {
     match from.read(buf) {
         Ok(0) => {
@@ -206,7 +222,7 @@ fn once<R: Read, W: Write, E: Write>(
         }
         Ok(n) => chunk(to, errors, &buf[..n], line, octets, out),
         Err(_) => {
-            let _ = errors.write_all(b"lines: the input cannot be read\n");
+            tell(errors, b"lines: the input cannot be read\n");
             Left {
                 line,
                 more: false,
@@ -227,6 +243,8 @@ fn all<R: Read, W: Write, E: Write>(
 ) -> bool
     ensures whole { result ≡ true → IfSome (R.remaining from.old) (λ s. Appends (W.contents to.old) (W.contents to.new) (output_of s)) }
     ensures begun { IfSome (R.remaining from.old) (λ s. Begun (W.contents to.old) (W.contents to.new) (output_of s)) }
+    ensures quiet { result ≡ true → Keeps (E.contents errors.old) (E.contents errors.new) }
+    ensures says { result ≡ false → Says (E.contents errors.old) (E.contents errors.new) }
 {
     let mut line = lines_rules::new_line();
     for _ in 0..u64::MAX {

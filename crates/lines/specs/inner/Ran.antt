@@ -1,5 +1,5 @@
 -- What the program promises of a part of the input.
-use Rattle.std.specs.Prelude.{ℕ, ◌≤◌, ◌<◌, ◌≡◌, List, [], ◌++◌, length, Option}
+use Rattle.std.specs.Prelude.{ℕ, ◌≤◌, ◌<◌, ◌≡◌, List, [], ◌++◌, length, Option, ◌⊎◌, codes}
 use Rattle.std.specs.Io.KnownBytes.{Appends, Consumes, IsAtEnd}
 use Rattle.coding.specs.{Reader.part, inner.Written.Wrote}
 use Rattle.lines_rules.specs.{declared.Line.Line, inner.Machine.state, inner.Machine.turns, inner.Machine.ended}
@@ -25,7 +25,17 @@ pub record Begun (held holds : Option (List ℕ)) (text : List ℕ) : Type 0 whe
   pub parts : text ≡ said ++ unsaid
   pub put : Appends held holds said
 
--- and the answers to the lines that ended in it went to a writer, after what it held
+-- what is said where a write or a read fails
+abbrev pub no_output : List ℕ
+no_output = codes "lines: the output cannot be written\n"
+
+abbrev pub no_input : List ℕ
+no_input = codes "lines: the input cannot be read\n"
+
+abbrev pub Says : Option (List ℕ) → Option (List ℕ) → Type 0
+Says held holds = Begun held holds no_output ⊎ Begun held holds no_input
+
+-- all of s was taken, and the answers to the lines that ended in it went to a writer, after what it held
 pub record Told (s : List ℕ) (l : Line) (o : List ℕ) (m : Line) (p : List ℕ) (held holds : Option (List ℕ)) : Type 0 where
   pub text : List ℕ
   pub ran : (t : List ℕ) → turns (state l o t) s ≡ state m p (t ++ text)
