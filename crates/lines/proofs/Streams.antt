@@ -5,7 +5,7 @@ use Rattle.std.specs.Prelude.{Option, None, Some, IfSome}
 use Rattle.std.specs.Io.KnownBytes.{Appends, Consumes, IsAtEnd, Keeps}
 use Rattle.std.proofs.KnownBytes.{Appends-nil, Appends-trans, Appends-kept, Consumes-nil, Consumes-trans, Consumes-whole}
 use Rattle.coding.specs.{Reader.part, inner.Written.Wrote}
-use Rattle.lines_rules.specs.{declared.Line.Line, Lines.output_of, inner.Machine.State, inner.Machine.state, inner.Machine.new_line, inner.Machine.turn, inner.Machine.turns, inner.Machine.ended, inner.Machine.answer_text}
+use Rattle.lines_rules.specs.{declared.Line.Line, Lines.output_of, inner.Machine.State, inner.Machine.state, inner.Machine.new_line, inner.Machine.turn, inner.Machine.turns, inner.Machine.ended}
 use Rattle.lines_rules.proofs.{Steps.turns_none, Steps.turns_both, Steps.turns_all, Steps.turns_append, Meaning.printed}
 use Rattle.lines.specs.{declared.Done.Done, inner.Ran.Ran, inner.Ran.Begun, inner.Ran.Says, inner.Ran.Told, inner.Ran.Passed, inner.Ran.Closed}
 

@@ -2,7 +2,8 @@
 // holds, `refused N`, or `bad line`.
 //
 // Proved: every function is safe and ends. `all` writes `output_of` what it reads (lines_rules/specs/Lines.antt), whole and in order,
-// however the input comes in parts and however long its lines are; where a read or a write fails, it has written the start of that.
+// however the input comes in parts and however long its lines are; where a read or a write fails, it has written the start of that,
+// and `errors` has got the start of the text that says which, and nothing else.
 // This holds of every reader that says what octets it has left, and every writer that says what octets it holds.
 // Not proved, since no contract can say what the system reads or writes: that standard input and output are such a reader and writer.
 // tests/lines.sh compares what goes out with the second program.

@@ -1,5 +1,5 @@
 use Rattle.std.proofs.Common.{[], ◌∙◌, arith}
-use Rattle.prelude.proofs.Prelude.{append-nil, append_assoc, leb-true}
+use Rattle.prelude.proofs.Prelude.{append-nil, append_assoc}
 use Rattle.coding.proofs.Writing.{wrote_none, wrote_both}
 use Rattle.lines_rules.proofs.Steps.{turns_none, turns_both, heard_open, heard_ended}
 use Rattle.lines.proofs.run.Goals as goal
