@@ -67,3 +67,10 @@ module _ (s : List ℕ) (a : Answer) (e : a ≡ read_of s) where
         let l : length q ≡ length x + length (drop (length x) p) = ap length form_put.1 ∙ length-append x (drop (length x) p) in
         let t : take w.count q ≡ x = rw (n, form_put.1) (take-append_seam x (drop (length x) p)) in
         record { accepted = ap (λ (z : Written). z.number) form_put.0; inside = omega arith; few = omega (arith, form_fits.1); text = ap hex_text t ∙ reply_accepted h }
+
+-- the same of what the reader left, with its front taken apart
+pub written_of : {r : Refusal} {front : Front} {w : Written} (lent figure numbers rows p : List ℕ) {s q : List ℕ} → whole_answer r lent figure numbers rows ≡ read_of s → front ≡ front_in lent
+    → Octets s → r.number ≡ 0 → 254 ≤ length p → w ≡ write_of (record { front = front; charge = stored_charge figure numbers rows }) (length p)
+    → q ≡ left_of (record { front = front; charge = stored_charge figure numbers rows }) p → Formed s w q
+written_of {r} {front} {w} lent figure numbers rows p {s} {q} e i o h k f g =
+    formed s (apart r front figure numbers rows) (read_apart lent figure numbers rows s e i) o h w p q k f g

@@ -59,6 +59,7 @@ pub fn is_whole(l: Line) -> bool
 }
 
 // A hex digit's value, or 16.
+#[tactic(auto, using(coding::proofs::Tests::tests), unfolding(crate::specs::Lines::digit_of))]
 fn digit(b: u8) -> u8
     ensures { result ≡ digit_of b }
 {
@@ -77,6 +78,7 @@ fn octet(high: u8, low: u8) -> u8
 }
 
 // The line after one more character that is no line end.
+#[tactic(auto, using(coding::proofs::Tests::tests), unfolding(crate::specs::inner::Machine::step_line, crate::specs::inner::Machine::step_octets))]
 fn fed(l: Line, b: u8, octets: &mut [u8; 254]) -> Line
     ensures value { result ≡ step_line l b }
     ensures octets_after { octets.new ≡ step_octets l b octets.old }
@@ -158,7 +160,8 @@ fn take_octets(s: &[u8], from: usize, l: Line, octets: &mut [u8; 254]) -> Went
             break;
         }
         let next = s[at + 2];
-        if next != b' ' {
+        let goes_on = next == b' ';
+        if !goes_on {
             if next != b'\n' {
                 break;
             }
