@@ -7,7 +7,7 @@ use Rattle.coding.{specs.Reader.Fault.contents, specs.Reader.Fault.limit, specs.
 use Rattle.coding.{specs.Codec.frames, specs.Leaves.identifier, specs.declared.Extent.Extent, proofs.Basic.or-false, proofs.Header.opened_sound, proofs.Header.spans_range}
 use Rattle.coding.{proofs.Frames.any_got}
 use Rattle.types.specs.{declared.Record.Record, declared.Answer.Answer}
-use Rattle.types.specs.Frames.{outside, number_of, no_record, caller_of, invoke, return_result, return_error, reject, frame, component, read_family, answer_of, read_whole, read_of}
+use Rattle.types.specs.Frames.{outside, number_of, no_record, caller_of, invoke, return_result, return_error, reject, frame, component, read_family, answered, read_whole, read_of}
 use Rattle.types.proofs.Places.{Plain, Ends, Lengths, pick, length_ends, prim_placed, identifier_blames}
 use Rattle.read_heads.proofs.Entered.{tags}
 use Rattle.reply_rules.specs.Rejects.{first_of, identifier_read, value_or0, identifier_of, is_silent_to, is_silent, is_named, reply_by, reject_to, reply_to}
@@ -32,10 +32,6 @@ unnamed (named n) a = absurd a
 abbrev pub number_by : {A : Type 0} → Ans A → ℕ
 number_by (got v n) = 0
 number_by (halt w p) = number_of w
-
-pub number_by_lem : {A R : Type 0} (make : ℕ → ℕ → A → R) (none : A) (number : R → ℕ) → ((n p : ℕ) (x : A) → number (make n p x) ≡ n) → (r : Ans A) → number (answer_of make none r) ≡ number_by r
-number_by_lem make none number is (got x n) = is 0 0 x
-number_by_lem make none number is (halt w p) = is (number_of w) _ none
 
 -- an answer's fault, if it has one
 abbrev pub Stops : {A : Type 0} → Ans A → Type 0
@@ -163,10 +159,14 @@ module _ {A : Type 0} (all : List ℕ) (tag_of : A → ℕ) (frame_of : ℕ → 
           let i : identifier_of s ≡ r.0 = rw l (ap value_or0 r.2) in
           (r.0, r.1, r.2, sent n (first_of s) (identifier_of s) h ∙ ap inr i)
 
+number_read : (r : Ans Record) → (answered r).number ≡ number_by r
+number_read (got x n) = refl
+number_read (halt w p) = refl
+
 -- where a reply is sent for a refusal that names the component
 pub named_reply : (s : List ℕ) → is_silent s ≡ false → is_named (read_of s).number ≡ true
     → (i n : ℕ) × (identifier_read s ≡ got i n) × (caller_of (reply_to s) ≡ inr i)
 unfolding is_silent reply_to read_of read_whole component
 named_reply s q h =
-    named_by tags (λ r. 0xa0 + r.front.frame) frame (read_of s).number s q h (subst (λ n. is_named n ≡ true) (number_by_lem _ no_record (λ (x : Answer). x.number) (λ n p x. refl) (read_whole s)) h)
+    named_by tags (λ r. 0xa0 + r.front.frame) frame (read_of s).number s q h (subst (λ n. is_named n ≡ true) (number_read (read_whole s)) h)
     (λ other a e o. led s a e (first_of s) o other)

@@ -13,11 +13,11 @@ settled : (c : tie.Else-is_subtotal) →
     let p = c.before.before.before.before in
     let e = p.before.before.before.before.before.before in
     let g = e.before.before.args in
-    let w = p.settled_at-u.new.1.1.1.1 in
+    let w = p.settled_at-u.new in
     let o = e.frame_at-e.result in
-    (shown no_charge (parties (stored_charge w.0 w.1.0 w.1.1.0) g.s.now p.settled_at-u.result.next o.value.stop o.next)
+    (shown no_charge (parties (stored_charge w.figure w.numbers w.rows) g.s.now p.settled_at-u.result.next o.value.stop o.next)
     ≡ shown no_charge ((figure_of g.operation).read g.s.now g.at g.end))
-    × Unassociated w.0 × Bounded g.s.now o.value.stop
+    × Unassociated w.figure × Bounded g.s.now o.value.stop
 settled c =
     let e = c.before.before.before.before.before.before.before.before.before.before in
     let b = e.before.before.requires.0 in

@@ -16,11 +16,11 @@ amount : (c : tie.Else-p-ne0) →
     let q = p.before.before.before in
     let e = q.before.before.before.before.before.before in
     let g = e.before.before.args in
-    let w = p.price_in-contents.new.1.1.1.1 in
+    let w = p.price_in-contents.new in
     let o = e.open_at-e.result in
-    (shown no_charge (totals (is_subtotal g.operation) (stored_charge w.0 w.1.0 w.1.1.0) g.s.now c.before.before.closed-p.result.next o.value.stop o.next)
+    (shown no_charge (totals (is_subtotal g.operation) (stored_charge w.figure w.numbers w.rows) g.s.now c.before.before.closed-p.result.next o.value.stop o.next)
     ≡ shown no_charge ((priced_of g.operation).read g.s.now g.at g.end))
-    × Clear w.0 × Bounded g.s.now o.value.stop
+    × Clear w.figure × Bounded g.s.now o.value.stop
 unfolding constructed
 amount c =
     let z = c.before.before in
@@ -67,7 +67,7 @@ priced_at_spec =
     (λ c.
     let f = c.before.before.before.before in
     let l = f.before.before.before in
-    let m = amount (billed l) in (
+    let m = amount (billed l.before) in (
       totals_stored _ _ _ c.reached.ensures l.before.before.billing_at-b.result.value.given _ _ _ m.1 c.before.before.flag.ensures
           (search (step, shut) depth 8 fits 4000) ∙ m.0,
       search clear,
