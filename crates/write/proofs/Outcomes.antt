@@ -31,7 +31,7 @@ module _ (r : Record) (before : List ℕ) where
   unfolding write_of left_of
   wrote_all = Family.wrote_all component r before
 
-pub not_fine : (r : Record) (before : List ℕ) {b : Bool} {w : Written} → r.front.id < 0x10000 → b ≡ fine_of r.front r.charge → not b ≡ true → w ≡ no 10
+pub not_fine : (r : Record) (before : List ℕ) {b : Bool} {w : Written} → r.front.id < 0x10000 → b ≡ fine_of r.front r.charge → b ≡ false → w ≡ no 10
     → Answers r before w before
 unfolding write_of left_of
 not_fine r before l is t e = rw e (Family.refused_10 component r before (valid_parts r l ∙ was_false is t))

@@ -25,7 +25,7 @@ module _ (n : tie.After-count_at invariant-loop decreases-loop) where
   abbrev start : tie.Start invariant-loop decreases-loop
   start = loop.before.before.before.before
 
-  ends : loop.loop-i.at + n.count_at.result-1 ≤ length start.args.octets.now
+  ends : loop.loop-i.at + n.count_at.result ≤ length start.args.octets.now
   ends =
       turn_inside start.args.rows.now start.args.octets.now loop.loop-i.i loop.loop-i.invariant.1 n.count_at.ensures start.requires.0
       (omega (arith, n.before.loop-i-test.true, start.requires.1))

@@ -15,10 +15,10 @@ module _ (m : tie.After-counted_money) where
 
   abbrev Leaves : Bool → Bool → Type 0
   Leaves b s = last_next start.args.l start.args.c (judging start.args.e start.args.octets.now start.args.o)
-      ≡ cond (b && s) (record { found = 1; amount = thousandths read.read-a.result.value.charge.figure.money-1 }) start.args.l
+      ≡ cond (b && s) (record { found = 1; amount = thousandths read.read-a.result.value.charge.figure.money }) start.args.l
 
   leaves : {b s : Bool} → b ≡ m.counted_money.result
-      → s ≡ equal_currency read.read-a.result.value.charge.figure.money-1.currency start.args.c → Leaves b s
+      → s ≡ equal_currency read.read-a.result.value.charge.figure.money.currency start.args.c → Leaves b s
   leaves e f =
       last_by_lem start.args.l start.args.c start.args.e start.args.octets.now start.args.o read.read-a.ensures
       m.before.invokes_d-d.ensures

@@ -46,7 +46,7 @@ returns-5 c =
 with-money-requires : tie.Need-with_money-paid-requires
 with-money-requires c κs =
     let i = c.before in let n = i.before in let k = n.before in let l = k.before.before in let s = start l in
-    let z = at_most s.args.c.figure.money.currency n.places-n.result s.args.m.rows-1 in
+    let z = at_most s.args.c.figure.money.currency n.places-n.result s.args.m.rows in
     let below : i.row_of-i.result < 16 = lt_of_le-ne (let x : i.row_of-i.result ≤ 16 = omega (arith, z, n.places-n.ensures.1, i.row_of-i.ensures) in x) c.if-i-eq16.false in
     (below, n.places-n.ensures.0, i.row_of-i.ensures)
 

@@ -8,7 +8,7 @@ module _ (n : tie.After-count_at) where
   abbrev start : tie.Start
   start = n.before.before.before.before
 
-  ends : n.before.place_of-at.result-1 + n.count_at.result-1 ≤ length start.args.octets.now
+  ends : n.before.place_of-at.result + n.count_at.result ≤ length start.args.octets.now
   ends =
       turn_inside start.args.rows.now start.args.octets.now start.args.k n.before.place_of-at.ensures n.count_at.ensures
       start.requires.0 start.requires.1

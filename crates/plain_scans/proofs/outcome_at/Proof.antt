@@ -15,7 +15,7 @@ returns c =
     let x = r.before.before.before.args in
     cc (
       p.phase_before.ensures x.octets.now,
-      phase_outcome (known (judged (before x.rows.now x.octets.now x.k))) r.row_at-e.result-1 (octets_at x.rows.now x.octets.now x.k)
+      phase_outcome (known (judged (before x.rows.now x.octets.now x.k))) r.row_at-e.result (octets_at x.rows.now x.octets.now x.k)
           p.before.if-e-ne-COMPONENT.true,
     )
 
@@ -27,7 +27,7 @@ module _ (n : tie.After-count_at) where
   abbrev start : tie.Start
   start = row.before.before.before
 
-  ends : n.before.place_of-at.result-1 + n.count_at.result-1 ≤ length start.args.octets.now
+  ends : n.before.place_of-at.result + n.count_at.result ≤ length start.args.octets.now
   ends =
       turn_inside start.args.rows.now start.args.octets.now start.args.k n.before.place_of-at.ensures n.count_at.ensures
       start.requires.0 start.requires.1
@@ -49,9 +49,9 @@ module _ (o : tie.After-claim-o) where
   abbrev own : List ℕ
   own = octets_at begun.args.rows.now begun.args.octets.now begun.args.k
 
-  heard : compared knows o.claim-o.result-1 (charge_in own) ≡ judge knows (row_at begun.args.rows.now begun.args.k) own
+  heard : compared knows o.claim-o.result (charge_in own) ≡ judge knows (row_at begun.args.rows.now begun.args.k) own
   heard =
-      component_outcome knows (row counted).row_at-e.result-1 own o.claim-o.result-1 counted.before.before.if-e-ne-COMPONENT.false
+      component_outcome knows (row counted).row_at-e.result own o.claim-o.result counted.before.before.if-e-ne-COMPONENT.false
       (o.claim-o.ensures
       ∙ claim_alike _ o.before.before.status_before-t.ensures.0 o.before.before.status_before-t.ensures.1
       (part_at begun.args.rows.now begun.args.octets.now begun.args.k counted.before.place_of-at.ensures counted.count_at.ensures))
@@ -64,7 +64,7 @@ final-at-requires : tie.Need-final_at-requires
 final-at-requires c κs =
     let o = c.before.before.before in
     let s = begun o in
-    let final : was 22 o.claim-o.result-1 ≡ true = eq-eqb _ 22 c.before.if-o-ne-FINAL.false in
+    let final : was 22 o.claim-o.result ≡ true = eq-eqb _ 22 c.before.if-o-ne-FINAL.false in
     let of_d_or_e = claim_service _ _ _ _ (rw o.claim-o.ensures at final) in
     (record { list = s.requires.0; some = omega (arith, s.requires.1) }, rw o.claim-o.ensures of_d_or_e.0, rw o.claim-o.ensures of_d_or_e.1)
 

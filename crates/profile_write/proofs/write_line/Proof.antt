@@ -11,7 +11,7 @@ returns c =
     let w = c.before.before in
     let f = w.before.before in
     let a = f.before.before.args in
-    of_same a.buf-1.now (ap (λ (x : Front). record_of x (stored_charge a.figure.now a.numbers.now a.rows.now)) f.front_of-f.ensures) w.write_from.ensures
+    of_same a.buf.now (ap (λ (x : Front). record_of x (stored_charge a.figure.now a.numbers.now a.rows.now)) f.front_of-f.ensures) w.write_from.ensures
 
 pub write_line_spec : {M : Type 1} → statement M
 write_line_spec = tie.close (tie.spec (λ c κs. search rules) (λ c κs. search rules) (omega arith) returns)

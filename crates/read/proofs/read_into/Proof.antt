@@ -16,7 +16,7 @@ read_into_spec =
     reads _ some.before.before.head_of-h.ensures.0 (rw (ne_eqb _ _ some.if-h-eq0.false, le-leb _ _ alone.if-h-ge-ERROR.true, c.keep_head.ensures)))
     (omega arith) (λ c κs. search rules)
     (λ c. let asks = c.before.before in let more = asks.before.before in let some = more.before.before in let head = some.before.before.head_of-h in
-    let q = sym asks.before.is_request.ensures ∙ asks.if-is_request.true in let one = eqb head.result.front-1.frame 1 in
+    let q = sym asks.before.is_request.ensures ∙ asks.if-is_request.true in let one = eqb head.result.front.frame 1 in
     reads _ head.ensures.0 (rw (ne_eqb _ _ some.if-h-eq0.false, lt-leb _ _ more.if-h-ge-ERROR.false, and_left one _ q, and_right one _ q) c.asked.ensures))
     (λ c κs. search rules)
     (λ c. let lent = c.before.before.before in let carries = lent.before.before in let more = carries.before.before in let some = more.before.before in

@@ -12,7 +12,7 @@ returns : tie.Need-returns-then-v-ne0
 returns c =
     let j = c.before.before in
     let x = (start j).args in
-    refused x.pairs.now x.octets.now x.rows-1.now x.out-1.now j.judge-v.ensures c.if-v-ne0.true
+    refused x.pairs.now x.octets.now x.rows.now x.out.now j.judge-v.ensures c.if-v-ne0.true
 
 lay-requires : tie.Need-lay-requires
 lay-requires c κs =
@@ -26,7 +26,7 @@ returns-2 c =
     let i = p.before.before.before in
     let j = i.before.before in
     let x = (start j).args in
-    accepted x.pairs.now x.octets.now x.rows-1.now x.out-1.now j.judge-v.ensures i.if-v-ne0.false p.lay.ensures
+    accepted x.pairs.now x.octets.now x.rows.now x.out.now j.judge-v.ensures i.if-v-ne0.false p.lay.ensures
 
 pub events_into_spec : {M : Type 1} → statement M
 events_into_spec = tie.close (tie.spec (omega arith) returns lay-requires (omega arith) (omega arith) returns-2)

@@ -21,30 +21,30 @@ tail1 s = when s.args.g.clear (phase_event Clear ∷ []) ++ tail2 s
 put-when-requires : tie.Need-put_when-b-requires
 put-when-requires c κs =
     let a = c.before.before.before in let s = a.before.before.before.before.before in
-    rows_head (tail2 s) (rooms_tail {m = tail1 s} (a.put_setup-a.ensures s.args.out-1.now) s.requires.1)
+    rows_head (tail2 s) (rooms_tail {m = tail1 s} (a.put_setup-a.ensures s.args.out.now) s.requires.1)
 
 put-elements-requires : tie.Need-put_elements-d-requires
 put-elements-requires c κs =
-    let w = c.before.before.before.before in let a = w.before.before.before.before in let s = a.before.before.before.before.before in let o = s.args.out-1.now in
+    let w = c.before.before.before.before in let a = w.before.before.before.before in let s = a.before.before.before.before.before in let o = s.args.out.now in
     (s.requires.0, rooms_head (tail3 s) (rooms_tail {m = tail2 s} (w.put_when-b.ensures o) (rooms_tail {m = tail1 s} (a.put_setup-a.ensures o) s.requires.1)))
 
 put-when-requires-2 : tie.Need-put_when-e-requires
 put-when-requires-2 c κs =
     let d = c.before.before.before.before.before in let w = d.before.before.before.before.before in
-    let a = w.before.before.before.before in let s = a.before.before.before.before.before in let o = s.args.out-1.now in
+    let a = w.before.before.before.before in let s = a.before.before.before.before.before in let o = s.args.out.now in
     rows_head (tail4 s) (rooms_tail {m = tail3 s} d.put_elements-d.ensures (rooms_tail {m = tail2 s} (w.put_when-b.ensures o) (rooms_tail {m = tail1 s} (a.put_setup-a.ensures o) s.requires.1)))
 
 put-when-requires-3 : tie.Need-put_when-requires
 put-when-requires-3 c κs =
     let v = c.before.before.before in let d = v.before.before.before.before.before.before in let w = d.before.before.before.before.before in
-    let a = w.before.before.before.before in let s = a.before.before.before.before.before in let o = s.args.out-1.now in
+    let a = w.before.before.before.before in let s = a.before.before.before.before.before in let o = s.args.out.now in
     rows_whole (rooms_tail {m = tail4 s} (v.put_when-e.ensures _) (rooms_tail {m = tail3 s} d.put_elements-d.ensures (rooms_tail {m = tail2 s} (w.put_when-b.ensures o)
     (rooms_tail {m = tail1 s} (a.put_setup-a.ensures o) s.requires.1))))
 
 returns : tie.Need-returns
 returns c =
     let u = c.before.before in let v = u.before.before.before.before in let d = v.before.before.before.before.before.before in
-    let w = d.before.before.before.before.before in let a = w.before.before.before.before in let s = a.before.before.before.before.before in let o = s.args.out-1.now in
+    let w = d.before.before.before.before.before in let a = w.before.before.before.before in let s = a.before.before.before.before.before in let o = s.args.out.now in
     puts_both (a.put_setup-a.ensures o) (puts_both (w.put_when-b.ensures o) (puts_both d.put_elements-d.ensures (puts_both (v.put_when-e.ensures _) (u.put_when.ensures _))))
 
 pub put_all_spec : {M : Type 1} → statement M

@@ -15,19 +15,19 @@ put-small-requires-3 : tie.Need-put_small-requires-in-65
 put-small-requires-3 c κs =
     let u = c.before.before.before in let t = u.before.before in let p = (start t.before).requires in
     let f = form_65 _ p.valid t.in-65.is in
-    (f.asked.1, room_2 f.octets-1 p.room u.put_users-p.ensures)
+    (f.asked.1, room_2 f.octets p.room u.put_users-p.ensures)
 
 returns-5 : tie.Need-returns-in-65
 returns-5 c =
     let w = c.before.before in let u = w.before.before.before.before in let t = u.before.before in
-    wrote_two (form_65 _ (start t.before).requires.valid t.in-65.is).octets-1 u.put_users-p.ensures w.put_small-in-65.ensures
+    wrote_two (form_65 _ (start t.before).requires.valid t.in-65.is).octets u.put_users-p.ensures w.put_small-in-65.ensures
 
 put-charge-requires : tie.Need-put_charge-requires
 put-charge-requires c κs =
     let g = c.before in let t = g.before in let p = (start t.before).requires in
     let f = form_charge _ p.valid g.figure_of-f.ensures t.in_default.in_default-own.rest in
     let r = form_room f p.room in
-    (omega arith, (r.0, (omega (arith, ap length f.octets-1, p.few), r.1)))
+    (omega arith, (r.0, (omega (arith, ap length f.octets, p.few), r.1)))
 
 pub put_inner_spec : {M : Type 1} → statement M
 put_inner_spec =
@@ -39,7 +39,7 @@ put_inner_spec =
     (λ c κs. let t = c.before in let p = (start t.before).requires in form_room (form_64 _ p.valid t.in-64.is) p.room)
     (λ c κs.
     let t = c.before in let p = (start t.before).requires in
-    let f = form_65 _ p.valid t.in-65.is in (f.asked.0, room_1 _ f.octets-1 p.room))
+    let f = form_65 _ p.valid t.in-65.is in (f.asked.0, room_1 _ f.octets p.room))
     put-small-requires-3 (λ c κs. omega arith) put-charge-requires (λ c. omega arith)
     (λ c. let w = c.before.before in let t = w.before.before in
     form_wrote (form_detail _ (start t.before).requires.valid (inl t.in-1.is)) w.put_small.ensures) (λ c. omega arith)

@@ -9,8 +9,8 @@ returns c =
     let w = c.before.before in
     let o = w.before.before.before.before.before.before.before in
     let a = o.before.before.before.before.before.args in
-    let e = a.r.charge.entries-1 in
-    of_same a.buf-1.now (ap (λ (g : Figure). record_of a.r.front (with_list g e.numbers-1 e.octets)) o.octets_of-figure.ensures) w.write_from.ensures
+    let e = a.r.charge.entries in
+    of_same a.buf.now (ap (λ (g : Figure). record_of a.r.front (with_list g e.numbers e.octets)) o.octets_of-figure.ensures) w.write_from.ensures
 
 pub write_spec : {M : Type 1} → statement M
 write_spec = tie.close (tie.spec (λ c κs. search rules) (λ c κs. search rules) (λ c. omega arith) returns)
