@@ -1,4 +1,4 @@
-use Rattle.prelude.proofs.Prelude.{sym, ◌∙◌, not-true, not-false, arith}
+use Rattle.prelude.proofs.Prelude.{sym, ◌∙◌, arith}
 use Rattle.month.proofs.{Adding.{add_10, add_in}, add.Statement.statement}
 use Rattle.month.proofs.add.Tie as tie
 

@@ -15,14 +15,14 @@ returns c =
 
 returns-2 : tie.Need-returns-then-i-eq16
 returns-2 c =
-    let f = c.before in let i = f.before in let n = i.before in let k = n.before in let l = k.before.before in
+    let f = c.before in let i = f.before in let n = i.before in let k = n.before.before in let l = k.before.before in
     let s = start l in
     c.answer-then-i-eq16.ensures ∙ sym (add_47 s.args.m s.args.service s.args.c l.if-m-ge4096.false k.if-f-eq-MONEY.true
     i.row_of-i.result n.places-n.result n.places-n.ensures.0 i.row_of-i.ensures f.if-i-eq16.true)
 
 returns-3 : tie.Need-returns-then-f-eq-MONEY
 returns-3 c =
-    let g = c.before in let w = g.before in let f = w.before in let i = f.before in let n = i.before in let k = n.before in let l = k.before.before in
+    let g = c.before in let w = g.before in let f = w.before in let i = f.before in let n = i.before in let k = n.before.before in let l = k.before.before in
     let s = start l in let x = s.args.c.figure in
     c.answer-then-f-eq-MONEY.ensures ∙ ap (added 0) (g.with_place.ensures ∙ ap (λ (y : Month). with_place y s.args.service x.billed x.billing) w.with_money-paid.ensures)
     ∙ sym (add_money s.args.m s.args.service s.args.c l.if-m-ge4096.false k.if-f-eq-MONEY.true
@@ -37,7 +37,7 @@ returns-4 c =
 
 returns-5 : tie.Need-returns
 returns-5 c =
-    let g = c.before in let w = g.before in let f = w.before in let k = f.before.before in let l = k.before.before in
+    let g = c.before in let w = g.before in let f = w.before.before in let k = f.before.before in let l = k.before.before in
     let s = start l in let x = s.args.c.figure in
     c.answer-2.ensures ∙ ap (added 0) (g.with_place-2.ensures ∙ ap (λ (y : Month). with_place y s.args.service x.billed x.billing) w.with_units-used.ensures)
     ∙ sym (add_units s.args.m s.args.service s.args.c l.if-m-ge4096.false k.if-f-eq-MONEY.false f.if-f-eq-FREE.false)
@@ -45,7 +45,7 @@ returns-5 c =
 -- the row that is found is one of the 16, or is new after fewer
 with-money-requires : tie.Need-with_money-paid-requires
 with-money-requires c κs =
-    let i = c.before in let n = i.before in let k = n.before in let l = k.before.before in let s = start l in
+    let i = c.before in let n = i.before in let k = n.before.before in let l = k.before.before in let s = start l in
     let z = at_most s.args.c.figure.money.currency n.places-n.result s.args.m.rows in
     let below : i.row_of-i.result < 16 = lt_of_le-ne (let x : i.row_of-i.result ≤ 16 = omega (arith, z, n.places-n.ensures.1, i.row_of-i.ensures) in x) c.if-i-eq16.false in
     (below, n.places-n.ensures.0, i.row_of-i.ensures)

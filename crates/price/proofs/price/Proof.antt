@@ -1,4 +1,4 @@
-use Rattle.prelude.proofs.{Prelude.{sym, ◌∙◌, arith, not-false}, Ways.ways}
+use Rattle.prelude.proofs.{Prelude.{sym, ◌∙◌, arith}, Ways.ways}
 use Rattle.closing.proofs.Small.{small}
 use Rattle.price.specs.Price.{price_of}
 use Rattle.price.proofs.price.Statement.{statement}
