@@ -1,12 +1,11 @@
 -- What writing answers and leaves, by how many octets there are.
-use Rattle.prelude.proofs.Prelude.{ℕ, ◌+◌, ◌≤◌, ◌<◌, arith, ◌≡◌, refl, ap, sym, Bool, true, not, ◌∙◌, List, ◌++◌, length, length-append, ltb}
+use Rattle.prelude.proofs.Prelude.{ℕ, ◌+◌, ◌≤◌, ◌<◌, arith, ◌≡◌, refl, ap, sym, Bool, true, false, ◌∙◌, List, ◌++◌, length, length-append, ltb}
 use Rattle.prelude.proofs.{Prelude.{ltb-true, ltb-false}, Ways.by_cases}
 use Rattle.coding.{specs.inner.Written.Wrote, specs.inner.Written.Room, specs.inner.Written.lead, proofs.Basic.and_left, proofs.Writing.lead_length, proofs.Writing.lead_length_short}
 use Rattle.coding.{proofs.Writing.lead_length_long, proofs.Writing.Split, proofs.Writing.room_first, proofs.Writing.room_rest, proofs.Writing.wrote_parts, proofs.Writing.split_length}
 use Rattle.types.specs.{declared.Record.Record, Frames.component}
 use Rattle.write_heads.specs.inner.{Fronts.{front_fine, front_octets}, Halves.{fine_of, charge_octets, body_of}}
 use Rattle.write_heads.proofs.{Sizes.front_least, Valid.valid_parts}
-use Rattle.write_rate.proofs.Prices.{was_false}
 use Rattle.write.specs.{declared.Written.Written, Outcome.done, Outcome.no, Outcome.write_of, Outcome.left_of}
 use Rattle.write.proofs.Octets.{write_parts}
 use Rattle.write.proofs.Family as Family
@@ -34,7 +33,7 @@ module _ (r : Record) (before : List ℕ) where
 pub not_fine : (r : Record) (before : List ℕ) {b : Bool} {w : Written} → r.front.id < 0x10000 → b ≡ fine_of r.front r.charge → b ≡ false → w ≡ no 10
     → Answers r before w before
 unfolding write_of left_of
-not_fine r before l is t e = rw e (Family.refused_10 component r before (valid_parts r l ∙ was_false is t))
+not_fine r before l is t e = rw e (Family.refused_10 component r before (valid_parts r l ∙ sym is ∙ t))
 
 -- a record that may be written, whose charge is n octets
 pub record Known (r : Record) (n : ℕ) : Type 0 where
