@@ -1,6 +1,6 @@
 -- A component with its element's profile octet: 91 reads document 01's family, 9F the trunks', any other is 17, before all else.
 use Rattle.std.specs.Prelude.{ℕ, cond, List, eqb}
-use Rattle.std.specs.Borrow.{Bor}
+use Rattle.std.specs.Borrow.{MutBor}
 use denote.Triple.Both.{Both}
 use Rattle.types.specs.declared.Record.{Record}
 use Rattle.types.specs.declared.Answer.{Answer}
@@ -35,10 +35,10 @@ read_by profile s = cond (eqb profile 0x91) (of_line (read_of s)) (cond (eqb pro
 -- ---- as it lies in the caller's parts
 
 -- the record of a public line that lies in four lent arrays, and that of a trunk in five, by what they hold at the return
-abbrev pub left_line : (front figure numbers rows : Both (Bor (List ℕ)) (Bor (List ℕ))) → Record
+abbrev pub left_line : (front figure numbers rows : Both (MutBor (List ℕ)) (MutBor (List ℕ))) → Record
 left_line front figure numbers rows = record_in front.exit.now figure.exit.now numbers.exit.now rows.exit.now
 
-abbrev pub left_trunk : (front extension figure numbers rows : Both (Bor (List ℕ)) (Bor (List ℕ))) → Trunk
+abbrev pub left_trunk : (front extension figure numbers rows : Both (MutBor (List ℕ)) (MutBor (List ℕ))) → Trunk
 left_trunk front extension figure numbers rows =
     trunk_in front.exit.now extension.exit.now (stored_charge figure.exit.now numbers.exit.now rows.exit.now)
 
