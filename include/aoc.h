@@ -22,8 +22,8 @@
 #include <stdint.h>
 #include <string.h>
 
-#define AOC_VERSION 50003       /* 5.0.3: ten thousand times the first number, a hundred times the second, the third */
-#define AOC_VERSION_TEXT "5.0.3"
+#define AOC_VERSION 50002       /* 5.0.2: ten thousand times the first number, a hundred times the second, the third */
+#define AOC_VERSION_TEXT "5.0.2"
 
 #ifdef __cplusplus
 extern "C" {

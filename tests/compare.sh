@@ -7,31 +7,30 @@ seed=${1:-1} whole=${2:-200000}
 work=$(mktemp -d) || exit 2
 trap 'rm -rf "$work"' EXIT
 
+sh tools/archive && sh tools/cc "$work/driver" tests/driver.c || exit 1
 # differences NAME INPUTS SECOND OURS [DRIVER]: prints the first of them
 differences() {
     cmp -s "$3" "$4" && return 0
     python3 tests/differences.py "$@"
     return 1
 }
-# second COUNT NAME [FAMILY]: what the second program answers to so many inputs
-second() {
-    # shellcheck disable=SC2086
-    python3 second/inputs.py "$seed" "$1" $3 | tee "$work/$2" | python3 second/answer.py >"$work/$2.second"
-    [ "$(wc -l <"$work/$2.second")" -eq "$1" ] || { echo "compare: the second program did not answer"; exit 1; }
-}
-# library NAME: the library's answers to the same inputs are those
+# library COUNT NAME [FAMILY]: so many answers of the library are the second program's
 library() {
+    count=$1
+    shift
+    # shellcheck disable=SC2086
+    python3 second/inputs.py "$seed" "$count" $2 | tee "$work/$1" | python3 second/answer.py >"$work/$1.second"
+    [ "$(wc -l <"$work/$1.second")" -eq "$count" ] || { echo "compare: the second program did not answer"; exit 1; }
     sh tools/exec "$work/driver" <"$work/$1" >"$work/$1.library" || exit 1
     differences "the library" "$work/$1" "$work/$1.second" "$work/$1.library" "$work/driver" || exit 1
 }
-# side by side, so that no processor waits for the second program; the library is asked for last, since it may still be under way
-second "$whole" inputs & lines=$!
-second "$whole" trunks trunks & trunks=$!
-second $((whole / 2)) extensions extensions & extensions=$!
+# side by side, so that no processor waits for the second program
+library "$whole" inputs & lines=$!
+library "$whole" trunks trunks & trunks=$!
+library $((whole / 2)) extensions extensions & extensions=$!
 status=0
 for family in $lines $trunks $extensions; do wait "$family" || status=1; done
-[ "$status" -eq 0 ] && sh tools/archive && sh tools/cc "$work/driver" tests/driver.c || exit 1
-for family in inputs trunks extensions; do library "$family"; done
+[ "$status" -eq 0 ] || exit 1
 
 sh tools/prove lines || exit 1
 python3 tests/line_inputs.py "$seed" "$work/inputs" "$work/text" "$work/second" || exit 1

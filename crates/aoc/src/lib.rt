@@ -42,9 +42,9 @@ ghost use Rattle.element_write.specs.Round.{element_into, element_by};
 // What the header says as AOC_VERSION, of the archive that a host is linked with.
 #[unsafe(no_mangle)]
 pub extern "C" fn aoc_version() -> u32
-    ensures { result ≡ 50003 }
+    ensures { result ≡ 50002 }
 {
-    50003
+    50002
 }
 
 // The number in its name is the layout's. The header's inline functions mention it, so that an archive with another layout is not linked.
