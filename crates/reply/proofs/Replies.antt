@@ -5,7 +5,7 @@ use Rattle.coding.{specs.Reader.Ans, specs.Reader.after, specs.Reader.entered_an
 use Rattle.coding.{specs.Leaves.identifier, specs.inner.Written.lead, specs.inner.Written.full_number, specs.declared.Extent.Extent, proofs.Basic.and_both, proofs.Laws.Octets, proofs.Combine.prim_laws}
 use Rattle.coding.{proofs.Leaves.identifier_laws, proofs.Small.small_length, proofs.Small.id_range, proofs.Small.id_length, proofs.Small.null_length, proofs.Writing.lead_length_short}
 use Rattle.types.{specs.declared.Record.Record, specs.Arguments.no_charge, specs.Frames.component, specs.Frames.outside, specs.Frames.rejects, specs.Frames.read_of, specs.Frames.accepted}
-use Rattle.types.{proofs.ArgumentLaws.charge_equal, proofs.Theorems.Reads-back, proofs.Places.pick}
+use Rattle.types.{proofs.ArgumentLaws.charge_equal, proofs.Theorems.reads_back, proofs.Places.pick}
 use Rattle.write.{specs.declared.Written.Written, proofs.Octets.write_parts, specs.Outcome.write_of}
 use Rattle.write_heads.{specs.inner.{Fronts.{front_fine, front_octets, id_octets, problem_fine}, Halves.{front_of, body_of}}, proofs.Valid.valid_parts}
 use Rattle.read_heads.proofs.Entered.{tags, entered_ends}
