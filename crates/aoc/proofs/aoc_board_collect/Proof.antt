@@ -1,7 +1,0 @@
--- The walk of `Boards` for it.
-use Rattle.aoc.proofs.Boards.{collect_spec}
-use Rattle.aoc.proofs.aoc_board_collect as own
-
-pub aoc_board_collect_spec : {M : Type 1} → own.Statement.statement M
-unfolding own.Code.routine
-aoc_board_collect_spec 𝓤 𝓛 𝓜 𝓡 = collect_spec 𝓛 𝓜 𝓡 own.Code.env own.Code.calls-board::collect-in (own.Code.unfolded 𝓤 𝓛.H 𝓜 𝓡)
