@@ -20,13 +20,16 @@ told e o r = record { event = e; octets = o; outcome = r }
 -- ---- a component does to the account what the rules over the list say, whatever its outcome is
 
 mark_or : (b c : Bool) (q : Request) → (cond (b || c) no_request q).mark ≡ cond b 0 (cond c no_request q).mark
-mark_or b c q = elim b [ true ↦ refl | false ↦ refl ]
+mark_or true c q = refl
+mark_or false c q = refl
 
 id_or : (b c : Bool) (q : Request) → (cond (b || c) no_request q).id ≡ cond b 0 (cond c no_request q).id
-id_or b c q = elim b [ true ↦ refl | false ↦ refl ]
+id_or true c q = refl
+id_or false c q = refl
 
 flag_or : (b c : Bool) → flag (b || c) ≡ cond b 1 (flag c)
-flag_or b c = elim b [ true ↦ refl | false ↦ refl ]
+flag_or true c = refl
+flag_or false c = refl
 
 set_more : (b : Bool) (s : ℕ) (x y z : Bool) →
     cond b (with (record { s = flag x; d = flag y; e = flag z }) s) (record { s = flag x; d = flag y; e = flag z })

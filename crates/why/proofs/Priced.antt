@@ -1,5 +1,5 @@
 -- The reason is 2 exactly where the account has a closing figure, and its event has that figure.
-use Rattle.prelude.proofs.Prelude.{ℕ, ◌+◌, ◌≡◌, refl, sym, ◌∙◌, Bool, false, not, cond, List, [], ◌∷◌, reverse, arith, length, eqb, eq-eqb, ne_eqb, not-true, not-false}
+use Rattle.prelude.proofs.Prelude.{ℕ, ◌+◌, ◌≡◌, refl, sym, ap, ◌∙◌, Bool, false, not, cond, List, [], ◌∷◌, reverse, arith, length, eqb, eq-eqb, ne_eqb, not-true, not-false}
 use Rattle.types.specs.{declared.Charge.Charge, Arguments.no_charge}
 use Rattle.phases.{specs.Phases.Ended, specs.Phases.D, specs.Phases.E, specs.Phases.Given, proofs.Choice.by_number, proofs.Choice.never}
 use Rattle.prelude.proofs.Ways.{by_cases}
@@ -38,7 +38,12 @@ module _ (s : ℕ) (same : (h : List Given) → (first_final (known (judged h)) 
       (λ q. by_cases (has_final s (judged h))
       (λ f. never (sym (only_final (known (judged h)) g.event g.octets s (same h ∙ f)) ∙ q))
       (λ f. rw (q, not-false (eqb e 0) (sym (any_found (λ j. its s 22 j.outcome) (judged h)) ∙ f), eq-eqb n n refl)))
-      (λ q. rw (q, kept e n, ne_eqb e n (λ z. omega (arith, at_most (λ j. its s 22 j.outcome) (judged h)))) (gives h))
+      (λ q.
+      let w : earliest (λ j. its s 22 j.outcome) (judged (g ∷ h)) ≡ e = rw q (kept e n) in
+      let later : eqb e n ≡ false = ne_eqb e n (λ z. omega (arith, at_most (λ j. its s 22 j.outcome) (judged h))) in
+      let past : charge_at e (judged (g ∷ h)) ≡ charge_at e (judged h) = rw later refl in
+      let same_last : final s (judged (g ∷ h)) ≡ final s (judged h) = rw q refl in
+      same_last ∙ gives h ∙ sym past ∙ sym (ap (λ k. charge_at k (judged (g ∷ h))) w))
 
 -- ---- by the phase and the finals
 

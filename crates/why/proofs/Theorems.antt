@@ -51,9 +51,9 @@ record Least (m n : ℕ) (r : Reason) : Type 0 where
   reason : r.reason ≤ m
   event : r.reason ≡ m → r.event ≤ n
 
-still_open : (m n : ℕ) (ended : Bool) (rest : Reason) → 1 < m → Least m n rest → Least m n (cond ended rest (because 1 0))
-still_open m n true rest h l = l
-still_open m n false rest h l = record { reason = omega arith; event = λ z. omega arith }
+still_open_lem : (m n : ℕ) (ended : Bool) (rest : Reason) → 1 < m → Least m n rest → Least m n (cond ended rest (because 1 0))
+still_open_lem m n true rest h l = l
+still_open_lem m n false rest h l = record { reason = omega arith; event = λ z. omega arith }
 
 skip : (k m n e : ℕ) (rest : Reason) → k < m → Least m n rest → Least m n (if_found k e rest)
 skip k m n e rest h l = by_cases (eqb e 0) (λ q. rw q l) (λ q. rw q (record { reason = omega arith; event = λ z. omega arith }))
@@ -64,7 +64,7 @@ hit m n e rest p = rw (ne_eqb e 0 p.0) (record { reason = omega arith; event = �
 last_one : Least 7 0 (because 7 0)
 last_one = record { reason = omega arith; event = λ _. omega arith }
 
-ruleset order = (still_open, skip, hit, last_one, lit<, tt)
+ruleset order = (still_open_lem, skip, hit, last_one, lit<, tt)
 
 least : {h : List Judged} {m n : ℕ} → Holds h m n → Least m n (explained h)
 unfolding explained

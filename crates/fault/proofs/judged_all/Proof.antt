@@ -57,5 +57,5 @@ judged_all_spec =
     (omega arith) (omega arith) (omega arith)
     (λ c. omega (arith, ends c.before))
     (λ c κs. let in_loop = c.before.before.before in let call = in_loop.before.before in (call.before.before.before.requires, omega (arith, in_loop.loop-i-test.true)))
-    (λ c. let n = c.before.before.before in omega (arith, n.before.loop-i-test.true, (start n).well-formed.0.0))
+    (λ c. let n = c.before.before.before in omega (arith, n.before.loop-i-test.true, (start n).well_formed.0.0))
     (omega arith) loop-again (omega arith) returns)

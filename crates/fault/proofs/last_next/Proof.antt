@@ -8,7 +8,7 @@ use Rattle.fault.proofs.last_next.Tie as tie
 -- what the event leaves, by whether it is counted money (b) and in an equal currency (s)
 module _ (m : tie.After-counted_money) where
   abbrev read : tie.After-read-a
-  read = m.before.before.before
+  read = m.before.before.before.before
 
   abbrev start : tie.Start
   start = read.before.before
@@ -31,8 +31,8 @@ last_next_spec =
     (λ c. sym (leaves c.before (sym c.if-not-counted_money.true) refl))
     (omega arith)
     (λ c. let e = c.before.before in
-    sym (leaves e.before (sym e.if-not-counted_money.false) (sym c.if-not-same_currency.true ∙ c.before.same_currency.ensures)))
+    sym (leaves e.before.before (sym e.if-not-counted_money.false) (sym c.if-not-same_currency.true ∙ c.before.same_currency.ensures)))
     (omega arith)
     (λ c. let q = c.before.before in let e = q.before in
     c.last_by.ensures
-    ∙ sym (leaves e.before (sym e.if-not-counted_money.false) (sym c.before.if-not-same_currency.false ∙ q.same_currency.ensures))))
+    ∙ sym (leaves e.before.before (sym e.if-not-counted_money.false) (sym c.before.if-not-same_currency.false ∙ q.same_currency.ensures))))

@@ -30,5 +30,5 @@ unfolding next_of
 next_spec =
     tie.close (tie.spec
     (omega arith) (omega arith) (omega arith) (λ c κs. search rules) (omega arith)
-    (λ c. let read = c.before.before.before.before.before.before.before in let start = read.before.before.before.before.before.before.before in omega (arith, start.well-formed.1.0.0, start.requires.1))
+    (λ c. let read = c.before.before.before.before.before.before.before in let start = read.before.before.before.before.before.before.before in omega (arith, start.well_formed.1.0.0, start.requires.1))
     (omega arith) (omega arith) (omega arith) returns)

@@ -9,7 +9,7 @@ returns-2 : tie.Need-returns-then-next_phase-eq-IDLE
 unfolding claim_of
 returns-2 c = search (ways, next_none _ _ _ c.before.before.next_phase.ensures c.before.if-next_phase-eq-IDLE.true)
 
-cast-no-service : tie.Need-overflow-cast-no-service
+cast-no-service : tie.Need-overflow_cast-a
 cast-no-service c =
     let m = c.before.before.before.read-a in
     let h : m.result.number ≤ 255 = rw (ap (λ (x : Answer). x.number) m.ensures) (number_fits _) in
@@ -29,7 +29,7 @@ returns-3 c = let r = c.before.before.before.before in rw (← r.read-a.ensures)
 
 returns-4 : tie.Need-returns
 unfolding claim_of
-returns-4 c = let r = c.before.before.before.before in rw (c.claimed.ensures, ← r.read-a.ensures) (search (ways, heard r))
+returns-4 c = let r = c.before.before.before.before.before in rw (c.claimed.ensures, ← r.read-a.ensures) (search (ways, heard r))
 
 pub claim_spec : {M : Type 1} → statement M
 unfolding claim_of

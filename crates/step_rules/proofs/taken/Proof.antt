@@ -16,7 +16,7 @@ read_apart : (lent stored o : List ℕ) {r : Refusal} {numbers rows : List ℕ} 
     → whole_answer r lent stored numbers rows ≡ read_of o → front ≡ front_in lent → figure ≡ figure_in stored → apart r front figure numbers rows ≡ read_of o
 read_apart lent stored o {r} {numbers} {rows} e i f = (λ k. apart r (i k) (f k) numbers rows) ∙ e
 
-cast-plain : tie.Need-overflow-cast-plain
+cast-plain : tie.Need-overflow_cast-answer
 cast-plain c =
     let m = c.before.before.before.before.read_into-answer in
     let h : m.result.number ≤ 255 = rw (ap (λ (x : Answer). x.number) m.ensures) (number_fits _) in
@@ -39,8 +39,8 @@ returns-2 c =
     let i = g.before.before in
     let m = i.before.before.before in
     let x = m.before.before.before.before.before.before.args in
-    let l = m.read_into-answer.new.1 in
-    let read = read_apart l.0 l.1.0 x.octets.now m.read_into-answer.ensures n.front_of-front.ensures g.figure_of-figure.ensures in
+    let l = m.read_into-answer.new in
+    let read = read_apart l.front l.figure x.octets.now m.read_into-answer.ensures n.front_of-front.ensures g.figure_of-figure.ensures in
     taken_unkept x.a x.octets.now read i.if-answer-ne0.false k.claimed-claim.result r.resolved-outcome.result p.before.noted-status.result
     k.claimed-claim.ensures r.resolved-outcome.ensures p.before.noted-status.ensures c.still.result (sym p.place_of-place.ensures ∙ c.before.if-place-eq-NONE.true) c.still.ensures
 
@@ -54,8 +54,8 @@ returns-3 c =
     let i = g.before.before in
     let m = i.before.before.before in
     let x = m.before.before.before.before.before.before.args in
-    let l = m.read_into-answer.new.1 in
-    let read = read_apart l.0 l.1.0 x.octets.now m.read_into-answer.ensures n.front_of-front.ensures g.figure_of-figure.ensures in
+    let l = m.read_into-answer.new in
+    let read = read_apart l.front l.figure x.octets.now m.read_into-answer.ensures n.front_of-front.ensures g.figure_of-figure.ensures in
     taken_kept x.a x.octets.now read i.if-answer-ne0.false k.claimed-claim.result r.resolved-outcome.result p.before.noted-status.result
     k.claimed-claim.ensures r.resolved-outcome.ensures p.before.noted-status.ensures p.place_of-place.result p.place_of-place.ensures c.if-place-eq-NONE.false
 

@@ -59,7 +59,7 @@ returns-2 : tie.Need-returns invariant-loop decreases-loop
 returns-2 c =
     let l = c.before in
     let over = from_over (start l).args.s.now l.loop-at.at l.loop-at.under l.loop-at.invariant.0.place c.loop-at-test.false in
-    rw (not-false (start l).args.given l.before.if-not-given.false) (progress_ends (progress_as (ap component_events over) l.loop-at.invariant.1))
+    rw l.before.if-not-given.false (progress_ends (progress_as (ap component_events over) l.loop-at.invariant.1))
 
 pub put_elements_spec : {M : Type 1} → statement M
 put_elements_spec =

@@ -62,7 +62,7 @@ loop-again c =
     let t = turn c.before in
     let l = t.before.before in
     let h = here t in
-    (h.rest, h.onward-found c.onward-found.ensures, progress_more _ (progress_as (ap component_events h.parts) l.loop-found.invariant.2) (laid c.before).put_component-q.ensures)
+    (h.rest, h.onward c.onward-found.ensures, progress_more _ (progress_as (ap component_events h.parts) l.loop-found.invariant.2) (laid c.before).put_component-q.ensures)
 
 returns-2 : tie.Need-returns invariant-loop decreases-loop
 returns-2 c =

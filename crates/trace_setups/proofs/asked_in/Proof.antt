@@ -52,7 +52,7 @@ loop-again c =
     let t = q.before.before in
     let l = t.before.before in (
       (here t).rest,
-      (here t).onward-found c.onward-found.ensures,
+      (here t).onward c.onward-found.ensures,
       asked_next _ (here t).parts q.asked_by-q.ensures c.before.if-q-ne0.false ∙ l.loop-found.invariant.2,
     )
 
