@@ -1,6 +1,6 @@
 -- The numbers of an object identifier, octet by octet.
 use Rattle.prelude.proofs.Prelude.{ℕ, ◌+◌, ◌≤◌, ◌<◌, ◌≡◌, sym, ◌∙◌, List, Bool, true, false, arith, length, get_or, ltb, eqb, ne_eqb, ◌&&◌}
-use Rattle.coding.{specs.Reader.Ruling, specs.Reader.Fault, specs.Reader.part, proofs.Parts.part_cons, proofs.Parts.part_none, proofs.Parts.part_length, specs.inner.Shown.verdict}
+use Rattle.coding.{specs.Reader.part, proofs.Parts.part_cons, proofs.Parts.part_none, proofs.Parts.part_length, specs.inner.Shown.verdict}
 use Rattle.trunk_types.specs.Extensions.{arcs, object_identifier}
 
 module _ (s : List ℕ) (fresh : Bool) (i stop : ℕ) (h : i < stop) (l : stop ≤ length s) where

@@ -1,12 +1,11 @@
 -- What is in an extension are elements laid end to end: read as such they have the same shortest form.
-use Rattle.prelude.proofs.Prelude.{ℕ, ◌+◌, ◌≤◌, ◌<◌, ◌≡◌, refl, sym, ap, ap₂, ◌∙◌, List, [], ◌∷◌, ◌++◌, append-nil, Bool, true, false, inl, inr, arith, length, leb, lt-leb, le-leb}
-use Rattle.coding.{specs.Reader.got, specs.Reader.after, specs.Contents.every, specs.Codec.Run, specs.Codec.prim, specs.Codec.cons, specs.Codec.pair, specs.Codec.any_more, specs.Codec.MeansAll, specs.Codec.write_all, specs.Codec.length_octets}
+use Rattle.prelude.proofs.Prelude.{ℕ, ◌≤◌, ◌<◌, ◌≡◌, refl, sym, ap, ap₂, ◌∙◌, List, [], ◌∷◌, ◌++◌, append-nil, true, false, arith, length, leb, lt-leb, le-leb}
+use Rattle.coding.{specs.Reader.got, specs.Contents.every, specs.Codec.Run, specs.Codec.prim, specs.Codec.cons, specs.Codec.pair, specs.Codec.any_more, specs.Codec.MeansAll, specs.Codec.write_all, specs.Codec.length_octets}
 use Rattle.coding.specs.Normal.{is_octet, as_judged, octet_string, Any, of_octets, of_elements, Several, none, more, write_any, write_several, MeansAny, MeansSeveral, any_element, several_at}
 use Rattle.coding.{proofs.Laws.Octets, proofs.Laws.RunLaws, proofs.Basic.picked, proofs.Basic.unpicked, proofs.Basic.followed, proofs.Basic.and_left, proofs.Basic.and_both, proofs.Basic.or_no}
 use Rattle.coding.{proofs.Value.valued, proofs.Value.starts, proofs.Normal.any_element_laws, proofs.Normal.several_unfolds, proofs.Normal.any_unfolds}
 use Rattle.any_elements.specs.inner.Forms.{sized, is_read, forms_of}
-use Rattle.trunk_types.specs.Extensions.{object_identifier, one_extension, many_extensions}
-use Rattle.trunk_types.proofs.ExtensionLaws.{one_laws, list_laws}
+use Rattle.trunk_types.specs.Extensions.{one_extension, many_extensions}
 
 any_starts : (x : Any) (s : List ℕ) (a n : ℕ) → MeansAny x s a n → a < n
 unfolding any_element

@@ -1,5 +1,5 @@
 -- Entries of a list of extensions: the loop over them.
-use Rattle.prelude.proofs.Prelude.{ℕ, ◌+◌, ◌≤◌, ◌<◌, arith, ◌≡◌, refl, ◌∙◌, List, [], ◌∷◌, ◌++◌, length, get_or, length-append, le-leb, lt-leb, le-ltb, lt-ltb, eq-eqb, ne_eqb}
+use Rattle.prelude.proofs.Prelude.{ℕ, ◌+◌, ◌≤◌, ◌<◌, arith, ◌≡◌, refl, ◌∙◌, List, [], ◌∷◌, ◌++◌, length, get_or, length-append, le-leb, lt-leb}
 use Rattle.coding.{specs.Reader.Ans.got, specs.Reader.after, specs.Reader.entries, specs.Reader.list_of, specs.inner.Shown.shown, proofs.Lists.Going, proofs.Lists.going_start, proofs.Lists.going_more}
 use Rattle.coding.proofs.Lists.{list_done, list_fault, list_limit, list_strange}
 use Rattle.trunk_read_extensions.specs.inner.Judges.{entry_told, list_told}

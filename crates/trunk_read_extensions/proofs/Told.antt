@@ -1,8 +1,8 @@
 -- What is in an extension, read in the code's steps.
-use Rattle.prelude.proofs.{Prelude.{ℕ, zero, suc, ◌≤◌, ◌<◌, ◌≡◌, refl, sym, ap, ◌∙◌, List, [], ◌∷◌, Bool, cond, leb, eqb}, Ways.by_cases}
+use Rattle.prelude.proofs.{Prelude.{ℕ, zero, suc, ◌≡◌, refl, sym, ◌∙◌, List, ◌∷◌, leb, eqb}, Ways.by_cases}
 use Rattle.coding.{specs.Reader.Ans, specs.Reader.Reader, specs.Reader.Ruling, specs.Reader.got, specs.Reader.halt, specs.Reader.after, specs.Reader.opened, specs.Reader.closed, specs.Reader.constructed}
 use Rattle.coding.{specs.Reader.primitive, specs.Reader.ruled, specs.Reader.mapped, specs.Reader.part, specs.Reader.tagged, specs.Reader.entries, specs.Codec.prim, specs.Codec.cons, specs.Codec.pair}
-use Rattle.coding.{specs.Codec.any_more, specs.Normal.as_judged, specs.Normal.Any, specs.Normal.any_element, proofs.Basic.after_same, proofs.Reading.after_assoc, proofs.Reading.some_code, specs.inner.Shown.shown}
+use Rattle.coding.{specs.Codec.any_more, specs.Normal.as_judged, specs.Normal.Any, specs.Normal.any_element, proofs.Basic.after_same, proofs.Reading.after_assoc}
 use Rattle.any_elements.specs.inner.Forms.{told}
 use Rattle.trunk_types.specs.Extensions.{object_identifier, one_extension, many_extensions}
 use Rattle.trunk_read_extensions.specs.inner.Judges.{one_told, entry_told, list_told}

@@ -16,11 +16,11 @@ bodied : (c : tie.Else-b-ne0) →
     let o = b.before.before.before.before.before.before.before in
     let g = o.before.before.args in
     let e = o.open_at-e.result in
-    let w = b.inner_at-b.new.1.1.1.1 in
+    let w = b.inner_at-b.new in
     (shown no_body (after (any_extension.read g.s.now b.inner_at-b.result.next e.value.stop) (λ y n.
-    closed (with_extension y (inner_in w.0 (stored_charge w.1.0 w.1.1.0 w.1.1.1.0))) n e.value.stop e.next))
+    closed (with_extension y (inner_in w.front (stored_charge w.figure w.numbers w.rows))) n e.value.stop e.next))
     ≡ shown no_body ((extended (inner_of g.form)).read g.s.now g.at g.end))
-    × Spare w.0 × Bounded g.s.now e.value.stop × (g.extension.now ≡ replicate 244 0)
+    × Spare w.front × Bounded g.s.now e.value.stop × (g.extension.now ≡ replicate 244 0)
 bodied c =
     let b = c.before.before in
     let o = b.before.before.before.before.before.before.before in

@@ -56,7 +56,7 @@ priced_at_spec =
     (search (surplus, step, remains) depth 8 fits 4000 ∙ m.0, money_unassociated _ m.1))
     (omega arith) (omega arith) (omega arith) (omega arith) (omega arith) (omega arith)
     (λ c.
-    let l = c.before.before.before.before.before.before in
+    let l = c.before.before.before.before.before.before.before in
     let v = l.before.before.billing_at-b.result.value in
     let w = (priced l).before.before.before.money_at-contents.new.figure in
     let m = amount (priced l) in (

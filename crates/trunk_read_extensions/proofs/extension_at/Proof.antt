@@ -48,9 +48,9 @@ extension_at_spec =
       (omega (arith, o.open_at-e.ensures.1.1), o.open_at-e.ensures.1.0),
       ((r.0, rw e.if-last-stop.false at f.forms_size-size.ensures), (omega arith, room_in _ o.before.before.requires.1 (omega (arith, r.1)))),
     ))
-    (λ c. omega arith) (λ c. omega (arith, c.before.before.before.if-size-gt242.false)) (λ c. omega arith) (λ c κs. search rules)
+    (λ c. omega arith) (λ c. omega (arith, c.if-size-gt242.false)) (λ c. omega arith) (λ c κs. search rules)
     (λ c.
-    let p = c.before in
+    let p = c.before.before in
     let e = p.before.before in
     let f = e.before.before in
     let o = f.before.before.before.before.before.before in

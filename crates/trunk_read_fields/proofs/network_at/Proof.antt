@@ -37,7 +37,7 @@ network_at_spec =
     let m = addressed h.before.before.before in
     (search (storing, reading) ∙ m.0, m.5)) (omega arith) (omega arith) (omega arith)
     (λ c.
-    let a = c.before.before.before in
+    let a = c.before.before.before.before in
     let e = a.before.before.before.before.before in
     let u = e.before.before.before in
     let n = u.before.before.before.before.before in

@@ -1,4 +1,4 @@
-use Rattle.prelude.proofs.Prelude.{arith, sym, ◌∙◌, not-true, not-false}
+use Rattle.prelude.proofs.Prelude.{arith, sym, ◌∙◌}
 use Rattle.coding.proofs.{Reading.gives, Frames.any_told, Frames.any_lacks, Frames.any_strange, Frames.any_over, Frames.any_enters}
 use Rattle.read_heads.{specs.inner.Heads.outside_code, proofs.Codes.outside_code_lem, proofs.Entered.{by_lengths, alone, refused}}
 use Rattle.trunk_read_heads.proofs.enter.Statement.{statement}

@@ -17,6 +17,7 @@ pub is_frame_spec : {M : Type 1} → statement M
 unfolding one_of
 is_frame_spec =
     tie.close (tie.spec
-    (λ c. rw c.in-170.is) (λ c. among _ c.before.if-tag-lt161.false c.if-tag-lt165.true)
-    (λ c. sym (none_of (leb 0xa1) tags c.before.before.args.tag refl (lt-leb 0xa1 _ c.if-tag-lt161.true)))
-    (λ c. above _ c.before.before.match.rest.1 c.if-tag-lt165.false))
+    (λ c. rw c.in-170.is)
+    (λ c. among c.args.tag (omega arith) (omega arith))
+    (λ c. sym (none_of (leb 0xa1) tags c.args.tag refl (lt-leb 0xa1 c.args.tag (omega arith))))
+    (λ c. above c.args.tag (omega arith) (omega arith)))

@@ -1,5 +1,5 @@
 -- The operations are those from 59 to 65.
-use Rattle.prelude.proofs.Prelude.{refl, sym, ltb, leb, le-ltb, lt-leb}
+use Rattle.prelude.proofs.Prelude.{arith, refl, sym, ltb, leb, le-ltb, lt-leb}
 use Rattle.trunk_types.specs.Components.{trunk_operations}
 use Rattle.read_heads.proofs.Codes.{none_of, count, counted}
 use Rattle.trunk_read_heads.proofs.known_operation.Statement.{statement}
@@ -9,5 +9,6 @@ pub known_operation_spec : {M : Type 1} → statement M
 unfolding count
 known_operation_spec =
     tie.close (tie.spec
-    (λ c. sym (counted 59 7 _ c.before.if-n-lt59.false c.if-n-lt66.true)) (λ c. sym (none_of (leb 59) trunk_operations _ refl (lt-leb _ _ c.if-n-lt59.true)))
-    (λ c. sym (none_of (λ k. ltb k 66) trunk_operations _ refl (le-ltb _ _ c.if-n-lt66.false))))
+    (λ c. sym (counted 59 7 _ (omega arith) (omega arith)))
+    (λ c. sym (none_of (leb 59) trunk_operations _ refl (lt-leb _ _ (omega arith))))
+    (λ c. sym (none_of (λ k. ltb k 66) trunk_operations _ refl (le-ltb _ _ (omega arith)))))
