@@ -1,5 +1,5 @@
 -- What writing answers and leaves, by how many octets there are.
-use Rattle.prelude.proofs.Prelude.{ℕ, ◌+◌, ◌≤◌, ◌<◌, arith, ◌≡◌, refl, ap, sym, Bool, true, not, ◌∙◌, List, ◌++◌, length, length-append, ltb}
+use Rattle.prelude.proofs.Prelude.{ℕ, ◌+◌, ◌≤◌, ◌<◌, arith, ◌≡◌, refl, ap, sym, Bool, true, false, not, ◌∙◌, List, ◌++◌, length, length-append, ltb}
 use Rattle.prelude.proofs.{Prelude.{ltb-true, ltb-false}, Ways.by_cases}
 use Rattle.coding.{specs.inner.Written.Wrote, specs.inner.Written.Room, specs.inner.Written.lead, proofs.Basic.and_left, proofs.Writing.lead_length, proofs.Writing.lead_length_short}
 use Rattle.coding.{proofs.Writing.lead_length_long, proofs.Writing.Split, proofs.Writing.room_first, proofs.Writing.room_rest, proofs.Writing.wrote_parts, proofs.Writing.split_length}
@@ -34,7 +34,7 @@ module _ (r : Record) (before : List ℕ) where
 pub not_fine : (r : Record) (before : List ℕ) {b : Bool} {w : Written} → r.front.id < 0x10000 → b ≡ fine_of r.front r.charge → b ≡ false → w ≡ no 10
     → Answers r before w before
 unfolding write_of left_of
-not_fine r before l is t e = rw e (Family.refused_10 component r before (valid_parts r l ∙ was_false is t))
+not_fine r before l is t e = rw e (Family.refused_10 component r before (valid_parts r l ∙ sym is ∙ t))
 
 -- a record that may be written, whose charge is n octets
 pub record Known (r : Record) (n : ℕ) : Type 0 where
