@@ -46,7 +46,7 @@ abbrev led : tie.After-put_contents-arg-1 → tie.After-put_lead-p
 led c = c.before.before.before
 
 abbrev roomy : tie.After-put_lead-p → tie.Else-buf-whole
-roomy c = c.before.before.before
+roomy c = c.before.before.before.before
 
 -- ---- the needs
 
@@ -59,12 +59,12 @@ returns-2 c =
     let z = f.before.before in
     not_fine (held z.before.before) _ (sym z.spare_zero.ensures ∙ f.before.if-not-spare_zero.false) f.trunk_fine.ensures c.before.if-not-trunk_fine.true c.refuse-then-not-trunk_fine.ensures
 
-add-put-lead : tie.Need-overflow-add-put-lead
-add-put-lead c = let m = measured c.before.before.before in omega (arith, known_frame (parts (start m)) (sized m).fine)
+add-put-lead : tie.Need-overflow_add-front
+add-put-lead c = let m = measured c.before.before.before.before in omega (arith, known_frame (parts (start m)) (sized m).fine)
 
 put-lead-requires : tie.Need-put_lead-p-requires
 unfolding trunk_in
-put-lead-requires c κs = let w = c.before.before in (omega arith, lead_room (fitted w.before) w.if-buf-whole.false)
+put-lead-requires c κs = let w = c.before.before.before in (omega arith, lead_room (fitted w.before) w.if-buf-whole.false)
 
 put-contents-requires : tie.Need-put_contents-q-requires
 unfolding trunk_in

@@ -20,7 +20,7 @@ inner_size_spec =
     (λ c. (size_detail (form_detail _ (start c.before).requires (inl c.in-1.is)), omega arith))
     (λ c. (size_detail (form_detail _ (start c.before).requires (inr c.in-2.is)), omega arith))
     (λ c.
-    let t = c.before.before in
+    let t = c.before.before.before in
     let f = form_59 _ (start t.before).requires (long t.before) t.in-59.is in
     (size_59 _ f c.wide.ensures.0, omega (arith, c.wide.ensures.0, f.asked.0)))
     (λ c. let t = c.before in

@@ -9,18 +9,18 @@ abbrev start : tie.Then-form-eq-GET_FINAL_CHARGE → tie.Start
 start t = t.before.before
 
 put-null-requires : tie.Need-put_null-requires
-put-null-requires c κs = let z = c.before in let t = z.before.before in room_as (start t).requires.room (asked_plain _ _ t.if-form-eq-GET_FINAL_CHARGE.true z.if-extension-eq-NOT.true)
+put-null-requires c κs = let z = c.before in let t = z.before.before.before in room_as (start t).requires.room (asked_plain _ _ t.if-form-eq-GET_FINAL_CHARGE.true z.if-extension-eq-NOT.true)
 
 returns : tie.Need-returns-then-extension-eq-NOT
 returns c = let w = c.before.before in let z = w.before.before in wrote_is (asked_plain _ _ z.before.before.if-form-eq-GET_FINAL_CHARGE.true z.if-extension-eq-NOT.true) w.put_null.ensures
 
 put-extension-requires : tie.Need-put_extension-requires
 put-extension-requires c κs =
-    let z = c.before in let t = z.before.before in form_room (form_asked _ _ (start t).requires.valid t.if-form-eq-GET_FINAL_CHARGE.true z.if-extension-eq-NOT.false) (start t).requires.room
+    let z = c.before in let t = z.before.before.before in form_room (form_asked _ _ (start t).requires.valid t.if-form-eq-GET_FINAL_CHARGE.true z.if-extension-eq-NOT.false) (start t).requires.room
 
 returns-2 : tie.Need-returns-then-form-eq-GET_FINAL_CHARGE
 returns-2 c =
-    let w = c.before.before in let z = w.before.before in let t = z.before.before in
+    let w = c.before.before in let z = w.before.before in let t = z.before.before.before in
     form_wrote (form_asked _ _ (start t).requires.valid t.if-form-eq-GET_FINAL_CHARGE.true z.if-extension-eq-NOT.false) w.put_extension.ensures
 
 -- ---- any other form

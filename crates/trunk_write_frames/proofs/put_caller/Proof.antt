@@ -2,7 +2,7 @@ use Rattle.trunk_write_frames.proofs.{Cited.{arith, room_as, wrote_is}, Sizes.{c
 use Rattle.trunk_write_frames.proofs.put_caller.Tie as tie
 
 abbrev start : tie.After-t6-1 → tie.Start
-start i = i.before.before
+start i = i.before.before.before
 
 pub put_caller_spec : {M : Type 1} → statement M
 put_caller_spec =

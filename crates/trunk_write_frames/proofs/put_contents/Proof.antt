@@ -4,7 +4,7 @@ use Rattle.trunk_write_frames.proofs.put_contents.Statement.{statement}
 use Rattle.trunk_write_frames.proofs.put_contents.Tie as tie
 
 abbrev start : tie.After-kind-1 → tie.Start
-start k = k.before.before
+start k = k.before.before.before
 
 pub put_contents_spec : {M : Type 1} → statement M
 put_contents_spec =

@@ -3,7 +3,7 @@ use Rattle.trunk_write_frames.proofs.{Cited.{arith, room_as, wrote_is}, Extensio
 use Rattle.trunk_write_frames.proofs.put_extension.Tie as tie
 
 abbrev start : tie.After-kind-1 → tie.Start
-start k = k.before.before
+start k = k.before.before.before
 
 pub put_extension_spec : {M : Type 1} → statement M
 put_extension_spec =

@@ -5,7 +5,7 @@ use Rattle.trunk_write_frames.proofs.{Forms.{form_detail, form_59, form_64, form
 use Rattle.trunk_write_frames.proofs.put_inner.Tie as tie
 
 abbrev start : tie.After-detail-1 → tie.Start
-start o = o.before.before.before.before
+start o = o.before.before.before.before.before
 
 long : (o : tie.After-detail-1) → length (start o).args.front.now ≡ 48
 long o = omega arith

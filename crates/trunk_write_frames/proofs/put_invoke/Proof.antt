@@ -4,7 +4,7 @@ use Rattle.trunk_write_frames.proofs.{Frames.{invoke_body, invoke_operation, inv
 use Rattle.trunk_write_frames.proofs.put_invoke.Tie as tie
 
 abbrev start : tie.After-id_of → tie.Start
-start i = i.before.before.before.before
+start i = i.before.before.before.before.before
 
 put-small-requires : tie.Need-put_small-q-requires
 put-small-requires c κs =

@@ -2,7 +2,7 @@ use Rattle.trunk_write_frames.proofs.{Cited.{arith, room_2, wrote_two}, Dispatch
 use Rattle.trunk_write_frames.proofs.put_modes.Tie as tie
 
 abbrev start : tie.After-wide-n → tie.Start
-start w = w.before.before.before
+start w = w.before.before.before.before
 
 pub put_modes_spec : {M : Type 1} → statement M
 put_modes_spec =

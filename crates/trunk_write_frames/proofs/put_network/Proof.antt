@@ -8,7 +8,7 @@ abbrev source : tie.After-put_address-q → tie.After-put_small-p
 source b = b.before.before.before.before
 
 abbrev start : tie.After-put_small-p → tie.Start
-start a = a.before.before.before.before
+start a = a.before.before.before.before.before
 
 put-address-requires-2 : tie.Need-put_address-requires
 unfolding network_octets

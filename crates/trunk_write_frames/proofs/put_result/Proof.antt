@@ -6,7 +6,7 @@ abbrev sized : tie.After-put_id-p → tie.After-body_size-n
 sized i = i.before.before.before
 
 abbrev start : tie.After-body_size-n → tie.Start
-start b = b.before.before.before.before
+start b = b.before.before.before.before.before
 
 put-lead-requires : tie.Need-put_lead-q-requires
 put-lead-requires c κs =
