@@ -1,6 +1,6 @@
 -- What writing answers and leaves, by how many octets the frame holds.
-use Rattle.prelude.proofs.Prelude.{ℕ, ◌+◌, ◌≤◌, ◌<◌, arith, ◌≡◌, ap, sym, ◌∙◌, Bool, true, not, List, ◌++◌, length, ltb, ltb-true, ltb-false}
-use Rattle.prelude.proofs.{Prelude.not-true, Ways.by_cases}
+use Rattle.prelude.proofs.Prelude.{ℕ, ◌+◌, ◌≤◌, ◌<◌, arith, ◌≡◌, ap, sym, ◌∙◌, Bool, true, false, List, ◌++◌, length, ltb, ltb-true, ltb-false}
+use Rattle.prelude.proofs.Ways.{by_cases}
 use Rattle.coding.{specs.Codec.frames, specs.inner.Written.Wrote, specs.inner.Written.Room, specs.inner.Written.lead, proofs.Basic.picked, proofs.Basic.unpicked, proofs.Writing.lead_length}
 use Rattle.coding.proofs.Writing.{lead_length_short, lead_length_long, Split, split_length, room_first, room_rest, wrote_parts}
 use Rattle.trunk_types.specs.Components.{trunk_component}

@@ -1,5 +1,5 @@
 -- What is all of zeros: no extension, no modes and no user.
-use Rattle.prelude.proofs.Prelude.{ℕ, ◌+◌, ◌≡◌, refl, sym, ap, ◌∙◌, List, ◌++◌, Bool, true, not, ◌&&◌, arith, length, drop, replicate, eqb, leb_zero, take-append-drop}
+use Rattle.prelude.proofs.Prelude.{ℕ, ◌≡◌, refl, sym, ap, ◌∙◌, List, ◌++◌, Bool, true, not, ◌&&◌, arith, length, drop, replicate, eqb, leb_zero, take-append-drop}
 use Rattle.prelude.proofs.{Prelude.drop-drop, Ways.by_cases}
 use Rattle.coding.{specs.Reader.part, specs.Codec.same_list, specs.Codec.sort, specs.Codec.canonical, specs.Codec.over, specs.Codec.nothing, specs.Codec.pad}
 use Rattle.types.specs.{Charges.no_association}

@@ -1,7 +1,7 @@
 -- The tests of a component's parts, in the order in which the code makes them.
-use Rattle.prelude.proofs.Prelude.{ℕ, ◌+◌, ◌-◌, ◌≤◌, ◌<◌, ◌≡◌, refl, sym, ap, ap₂, ◌∙◌, List, [], ◌∷◌, ◌++◌, Bool, true, false, not, ◌&&◌, ◌||◌, cond, arith, length, get_or, take}
+use Rattle.prelude.proofs.Prelude.{ℕ, ◌+◌, ◌-◌, ◌≤◌, ◌<◌, ◌≡◌, refl, sym, ap, ap₂, ◌∙◌, List, [], ◌∷◌, ◌++◌, Bool, true, false, ◌&&◌, ◌||◌, cond, arith, length, get_or, take}
 use Rattle.prelude.proofs.Prelude.{drop, length-drop, take-take, take_all, drop-drop, drop-append_seam, replicate, ltb, leb, eqb, lt-ltb, eq-eqb, ne_eqb, eqb-true, eqb-false}
-use Rattle.prelude.proofs.{Prelude.{leb-true, le-leb, lt-leb, ltb-true, not-true, not-false}, Ways.by_cases}
+use Rattle.prelude.proofs.{Prelude.{leb-true, le-leb, lt-leb, ltb-true}, Ways.by_cases}
 use Rattle.coding.{specs.Reader.part, specs.Contents.every, specs.Codec.all, specs.Codec.same_list, proofs.Parts.part_length, proofs.Parts.part_split}
 use Rattle.coding.{specs.Codec.sort, specs.Codec.canonical, specs.Codec.over, specs.Codec.nothing, specs.Codec.Run, specs.Codec.cons}
 use Rattle.coding.proofs.Tests.{ands, and-true, and_assoc}
@@ -176,15 +176,15 @@ module _ (s : List ℕ) (e : length s ≡ 244) where
       extension_long h = rw (extension_is form, fits, lt-leb count 242 h)
 
       module _ (short : count ≤ 242) {r : Bool} (z : r ≡ zero_past) where
-        pub extension_past : not r ≡ true → false ≡ extension_fine form (extension_in s)
-        extension_past h = rw (extension_is form, fits, le-leb count 242 short, ← z, not-true r h)
+        pub extension_past : r ≡ false → false ≡ extension_fine form (extension_in s)
+        extension_past h = rw (extension_is form, fits, le-leb count 242 short, ← z, h)
 
-        module _ (clear : not r ≡ false) where
+        module _ (clear : r ≡ true) where
           pub extension_none : kind ≡ 0 → eqb count 0 ≡ extension_fine form (extension_in s)
-          extension_none q = rw (extension_is form, fits, le-leb count 242 short, ← z, not-false r clear, eq-eqb kind 0 q)
+          extension_none q = rw (extension_is form, fits, le-leb count 242 short, ← z, clear, eq-eqb kind 0 q)
 
           pub extension_judged : (kind ≡ 0 → ⊥) → {b : Bool} → b ≡ (inside_of kind).valid (part s 2 (2 + count)) → b ≡ extension_fine form (extension_in s)
-          extension_judged q j = rw (extension_is form, fits, le-leb count 242 short, ← z, not-false r clear, ne_eqb kind 0 q) j
+          extension_judged q j = rw (extension_is form, fits, le-leb count 242 short, ← z, clear, ne_eqb kind 0 q) j
 
 -- ---- the whole, in the order in which the code tests
 

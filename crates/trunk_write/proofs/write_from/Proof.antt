@@ -1,4 +1,4 @@
-use Rattle.prelude.proofs.Prelude.{sym, ◌∙◌, arith, rules, not-false}
+use Rattle.prelude.proofs.Prelude.{sym, ◌∙◌, arith, rules}
 use Rattle.trunk_types.specs.Stored.{trunk_in}
 use Rattle.trunk_write_frames.{specs.inner.Octets.{Parts, whole}, proofs.Frames.known_frame}
 use Rattle.trunk_write.specs.Outcome.{spare_zero, Offered}

@@ -1,4 +1,4 @@
-use Rattle.prelude.proofs.Prelude.{sym, ap, ◌∙◌, true, false, arith, rules, eq-eqb}
+use Rattle.prelude.proofs.Prelude.{sym, ap, ◌∙◌, true, arith, rules, eq-eqb}
 use Rattle.coding.proofs.{Tests.tests, Basic.picked}
 use Rattle.types.specs.{Charges.money, Stored.money_in}
 use Rattle.write_tests.proofs.Truth.{answered, test_no, test_yes}

@@ -1,4 +1,4 @@
-use Rattle.prelude.proofs.Prelude.{ap, ◌∙◌, false, rules, not-true, not-false}
+use Rattle.prelude.proofs.Prelude.{ap, ◌∙◌, rules}
 use Rattle.trunk_write_tests.specs.inner.Fine.{other_fine}
 use Rattle.trunk_write_tests.proofs.other_fine.Statement.{statement}
 use Rattle.trunk_write_tests.proofs.other_fine.Tie as tie

@@ -1,4 +1,4 @@
-use Rattle.prelude.proofs.Prelude.{◌<◌, arith, rules}
+use Rattle.prelude.proofs.Prelude.{◌<◌, arith}
 use Rattle.types.specs.{declared.Record.Record, Stored.with_list}
 use Rattle.write_rate.proofs.Prices.{was_true}
 use Rattle.write_heads.specs.inner.Halves.{record_of}
