@@ -1,6 +1,6 @@
 -- What is in an extension, passed over: where it ends, or its fault.
 use Rattle.std.specs.Prelude.{ℕ, cond, eqb, List}
-use Rattle.coding.specs.Reader.{Reader}
+use Rattle.coding.specs.Reader.{Reader, got, after, entries}
 use Rattle.coding.specs.Codec.{Run, cons, pick_run}
 use Rattle.any_elements.specs.inner.Forms.{told}
 use Rattle.trunk_types.specs.Extensions.{one_extension, in_one, many_extensions, in_list}
