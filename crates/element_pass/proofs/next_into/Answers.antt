@@ -16,7 +16,7 @@ pub returns : goal.returns
 returns c =
     c.without.ensures
     ∙ elim c.if-after-ne0.branch [
-      then-after-ne0+else-octets w ↦ rw w.number-is (pass_some lines _ _ c.find-f.result _ c.find-f.ensures.value w.if-after-ne0.true
+      | then-after-ne0+else-octets w ↦ rw w.number-is (pass_some lines _ _ c.find-f.result _ c.find-f.ensures.value w.if-after-ne0.true
           (sym (unpicked _ _ (ne_eqb _ _ w.if-octets.false))))
       | else-after-ne0 w ↦ rw (w.number-is, w.if-after-ne0.false) (pass_none lines _ _ c.find-f.result c.find-f.ensures.value w.if-after-ne0.false)
     ]

@@ -6,7 +6,6 @@ use Rattle.types.specs.Rates.{volume}
 use Rattle.read_rate.proofs.volume_at.Statement.{statement}
 use Rattle.read_rate.proofs.volume_at.Tie as tie
 
-
 pub volume_at_spec : {M : Type 1} → statement M
 unfolding volume cons canonical over pair constructed
 volume_at_spec =
