@@ -2,7 +2,7 @@
 use Rattle.prelude.proofs.Prelude.{ℕ, ◌+◌, ◌≡◌, refl, sym, subst, List, Bool, true, false, true≢false, cond, ◌&&◌, inr, eqb, eqb-true}
 use Rattle.coding.specs.{Reader.Ans, Reader.after, Reader.blamed, Reader.Ans.got, Reader.Ans.halt, Codec.one_of, Codec.pick_run, Codec.leads, Codec.over, Codec.marked, Codec.canonical}
 use Rattle.types.specs.Frames.{caller_of}
-use Rattle.trunk_types.specs.{declared.Body.Body, declared.TrunkAnswer.TrunkAnswer, Bodies.network, Components.no_trunk, Components.trunk_invoke, Components.trunk_result}
+use Rattle.trunk_types.specs.{declared.Body.Body, declared.Trunk.Trunk, Bodies.network, Components.trunk_answered, Components.trunk_invoke, Components.trunk_result}
 use Rattle.trunk_types.specs.Components.{trunk_by, lead_by, trunk_error, rejected, facility, in_network, tags, trunk_frame, trunk_component, read_whole_trunk, read_trunk}
 use Rattle.reply_rules.specs.Rejects.{first_of, identifier_read, is_silent_to, is_named, reject_to}
 use Rattle.reply_rules.proofs.Caller.{Stops, Begins}
@@ -32,12 +32,16 @@ unfolding one_of
 called true n h = absurd (true≢false (sym h))
 called false n h = h
 
+number_read : (r : Ans Trunk) → (trunk_answered r).number ≡ number_by r
+number_read (got x n) = refl
+number_read (halt w p) = refl
+
 -- where a reply is sent for a refusal that names the component, the component's identifier was read, and the reject is for that identifier
 pub named_reply_by : (s : List ℕ) → is_silent_to (trunk_calls s) s ≡ false → is_named (trunk_calls s) ≡ true
     → (i n : ℕ) × (identifier_read s ≡ got i n) × (caller_of (reject_to (trunk_calls s) s) ≡ inr i)
 unfolding read_trunk read_whole_trunk trunk_component
 named_reply_by s q h =
     named_by tags (λ r. 0xa0 + r.lead.frame) trunk_frame (trunk_calls s) s q h
-    (subst (λ n. is_named n ≡ true) (number_by _ no_trunk (λ (x : TrunkAnswer). x.number) (λ n p x. refl) (read_whole_trunk s))
+    (subst (λ n. is_named n ≡ true) (number_read (read_whole_trunk s))
     (called (eqb (first_of s) 0xaa && eqb (read_trunk s).number 6) (read_trunk s).number h))
     (λ other a e o. led s a e (first_of s) other)
