@@ -194,9 +194,9 @@ def ends(name, out, says=NO_OUTPUT, **more):
 if os.path.exists("/dev/full"):
     with open("/dev/full", "wb") as f:
         ends("a full disk ends it", f)
-# the signal of a broken pipe ends it before it can say anything
-ends("a reader that goes away ends it", subprocess.PIPE, b"")
-# Python starts its children with that signal set to its default; here the failed write alone is what ends the program.
+# a program of today's Rattle passes over the signal of a broken pipe, so the failed write ends it, and it says so
+ends("a reader that goes away ends it", subprocess.PIPE)
+# Python starts its children with that signal set to its default; here it is not.
 ends("a reader that goes away ends it, without the signal", subprocess.PIPE, restore_signals=False)
 ends("a closed output ends it", None, preexec_fn=lambda: os.close(1))
 
