@@ -3,7 +3,7 @@
 #     proves each commit from nothing and prints one line for each: the commit, its crates, whether all were proved with
 #     this machine's kit, and the CPU seconds (user and system) that `rt all verdict` took.
 #
-# The times of the landing notes are made with it; those up to version 5.0.3 with `rt prove` of an older kit, whose commits this one does not
+# The times of the landing notes are made with it; those up to the unfinished 5.0.3 with `rt prove` of an older kit, whose commits this one does not
 # prove. Run it on a machine that does nothing else. RT_JOBS is the number of
 # checks at a time, two if it is not set. Each commit is proved in a new clone, which is removed afterwards.
 set -u
