@@ -131,8 +131,8 @@ for pattern in ("crates/**/*.rt", "crates/**/*.antt", "include/*", "tests/*", "s
             words.update(re.findall(r"[^\W\d][\w'·-]*", text(path)))
             words.add(os.path.basename(path).split(".")[0])
 words.update(folder for path in glob.glob("crates/**/", recursive=True) for folder in path.split("/"))
-# (docs/PORT.md is history: it tells of names and files that went)
-pages = sorted(set(glob.glob("docs/*.md")) - {"docs/PORT.md"}) + ["README.md", "CONTRIBUTING.md", "examples/README.md", "second/README.md"]
+# (docs/PORT.md and docs/DESIGN-PASS.md are history: they tell of names and files that went)
+pages = sorted(set(glob.glob("docs/*.md")) - {"docs/PORT.md", "docs/DESIGN-PASS.md"}) + ["README.md", "CONTRIBUTING.md", "examples/README.md", "second/README.md"]
 for page in pages:
     if page == "docs/EDITS.md":
         continue

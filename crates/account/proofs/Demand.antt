@@ -1,4 +1,5 @@
 -- The step and the rules over the list agree. None of this looks at code or into the reading of octets.
+use Rattle.std.proofs.Common.{None}
 use Rattle.prelude.proofs.Prelude.{ℕ, ◌≡◌, refl, sym, ◌∙◌, ap, List, [], ◌∷◌, ◌++◌, Bool, true, false, ◌&&◌, ◌||◌, and-false, cond, eqb, eqb-true}
 use Rattle.types.specs.{declared.Charge.Charge, Charges.flag, Arguments.no_charge}
 use Rattle.requests.specs.Sets.{with}
@@ -8,7 +9,7 @@ use Rattle.phases.{specs.Phases.clashes, specs.Phases.allowed, specs.Phases.Give
 use Rattle.prelude.proofs.Ways.{by_cases}
 use Rattle.phases.{proofs.Choice.first_of, proofs.Transitions.to_idle, proofs.Transitions.setup_idle, proofs.Transitions.to_ended, proofs.Transitions.component_stays}
 use Rattle.account.specs.declared.Account.{Account}
-use Rattle.account.specs.History.{Judged, any, last, phase, has_final, final, no_closing, closing, current_rate, running, known, judged, account_by, fresh, stepped_by, Shown, shown, picked}
+use Rattle.account.specs.History.{Judged, any, last, phase, has_final, final, no_closing, closing, known, judged, account_by, fresh, stepped_by, Shown, shown, picked}
 use Rattle.account.specs.{History.{Calls, Obeys, answers}, Step.{known_of, change_by, put, change_of, stepped_of, closing_of, ours}}
 use Rattle.coding.specs.Reader.{among}
 use Rattle.outcomes.specs.{Outcome.{is_refusal, judge, charge_in, was, its, settles}, Status.{is_given, noted, status_after}}
@@ -162,7 +163,7 @@ module _ (t : ℕ → Bool) (none : none_of t counting ≡ true) (r : Outcome) (
   pub notes_nothing : (s : Status) → noted s r ≡ s
   notes_nothing s = simp (other 23 refl, other 24 refl, other 25 refl, other 29 refl)
 
-  pub keeps_nothing : (s : Status) (c : Charge) → change_by r s c ≡ record { outcome = r; place = 0; status = s; charge = no_charge }
+  pub keeps_nothing : (s : Status) (c : Charge) → change_by r s c ≡ record { outcome = r; place = None; status = s; charge = no_charge }
   keeps_nothing s c = simp (other 20 refl, other 21 refl, other 22 refl, other 24 refl)
 
   pub moves_nothing : (s : Status) (e : Event) → status_after s e r ≡ s

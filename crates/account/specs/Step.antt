@@ -1,5 +1,5 @@
 -- What the step does to an account, whatever its values are, and what is read off it.
-use Rattle.std.specs.Prelude.{ℕ, List, cond, eqb}
+use Rattle.std.specs.Prelude.{ℕ, List, cond, eqb, is_some}
 use Rattle.types.specs.declared.Charge.{Charge}
 use Rattle.types.specs.Arguments.{no_charge}
 use Rattle.phases.specs.declared.Event.{Event}
@@ -12,7 +12,8 @@ use Rattle.account.specs.declared.Stepped.{Stepped}
 use Rattle.account.specs.declared.Change.{Change}
 use Rattle.phases.specs.Phases.{Ended, D, E}
 use Rattle.outcomes.specs.Outcome.{Known, judge, charge_in}
-use Rattle.outcomes.specs.Status.{is_given, first_figure, requests_of, status_after, place_of}
+use Rattle.outcomes.specs.Status.{is_given, first_figure, requests_of, status_after, place_of, is_at}
+use Rattle.outcomes.specs.declared.Place.TheVariants.{Rate, Running, FinalOfD, FinalOfE}
 use Rattle.account.specs.History.{no_closing, stepped, Calls}
 
 -- ---- what an account knows
@@ -29,7 +30,7 @@ known_of a = record {
 
 -- a charge that is kept nowhere is not handed over
 abbrev pub change_by : Outcome → Status → Charge → Change
-change_by r t c = record { outcome = r; place = place_of r; status = t; charge = cond (eqb (place_of r) 0) no_charge c }
+change_by r t c = record { outcome = r; place = place_of r; status = t; charge = cond (is_some (place_of r)) c no_charge }
 
 unfoldable pub change_of : Account → Event → List ℕ → Change
 change_of a e o = change_by (judge (known_of a) e o) (status_after a.status e (judge (known_of a) e o)) (charge_in o)
@@ -39,10 +40,10 @@ change_of a e o = change_by (judge (known_of a) e o) (status_after a.status e (j
 abbrev pub put : Account → Change → Account
 put a w = record {
   status = w.status;
-  rate = cond (eqb w.place 1) w.charge a.rate;
-  running = cond (eqb w.place 2) w.charge a.running;
-  dfinal = cond (eqb w.place 3) w.charge a.dfinal;
-  efinal = cond (eqb w.place 4) w.charge a.efinal;
+  rate = cond (is_at Rate w.place) w.charge a.rate;
+  running = cond (is_at Running w.place) w.charge a.running;
+  dfinal = cond (is_at FinalOfD w.place) w.charge a.dfinal;
+  efinal = cond (is_at FinalOfE w.place) w.charge a.efinal;
 }
 
 abbrev pub changed : Account → Change → Stepped

@@ -12,6 +12,7 @@ ghost use Rattle.account.specs.History.{judged, account_by, current_rate, runnin
 ghost use Rattle.account.specs.Step.{closing_of, marks_of};
 ghost use Rattle.account.specs.Events.{plain_event, setup_event};
 
+use outcomes::Place;
 use phases::{Event, Outcome, Status};
 use requests::{Services, Three, closing_service};
 use types::{Charge, charge_kind};
@@ -34,12 +35,11 @@ pub struct Stepped {
     pub account: Account,
 }
 
-// What an event changes. place: where the charge is kept, 1 the rate, 2 the running figure, 3 the final of D, 4 the final of E; 0 nowhere, and the charge is none.
-#[repr(C)]
+// What an event changes. place: where the charge is kept, if it is; else the charge is none.
 #[derive(Drop)]
 pub struct Change {
     pub outcome: Outcome,
-    pub place: u16,
+    pub place: Option<Place>,
     pub status: Status,
     pub charge: Charge,
 }
@@ -80,9 +80,8 @@ pub fn fresh() -> Account
     ensures { result ≡ fresh }
 {
     let none = no_charge();
-    let status = phases::bare(phases::IDLE);
     Account {
-        status,
+        status: phases::bare(phases::IDLE),
         rate: none,
         running: none,
         dfinal: none,
@@ -90,7 +89,7 @@ pub fn fresh() -> Account
     }
 }
 
-// ---- reading off
+// ---- reading off: a function for each part, since C calls each (`aoc_rate_of`, `aoc_running_of`, `aoc_closing_of` and so on)
 
 pub fn rate_of(a: Account) -> Charge
     ensures one { result ≡ a.rate }
@@ -135,9 +134,10 @@ pub fn marks_of(a: Account) -> Marks
     ensures one { result ≡ marks_of a }
     ensures rules { (h : List Given) → a ≡ account_by (judged h) → result ≡ marks (judged h) }
 {
-    let absent = a.status.absent;
-    let conflict = a.status.conflict;
-    Marks { absent, conflict }
+    Marks {
+        absent: a.status.absent,
+        conflict: a.status.conflict,
+    }
 }
 
 pub fn pending_of(a: Account) -> Pending
@@ -145,9 +145,8 @@ pub fn pending_of(a: Account) -> Pending
     ensures rules { (h : List Given) → a ≡ account_by (judged h) → result ≡ pending_of (requests (judged h)) }
 {
     let t = a.status;
-    let asked = t.asked;
     Pending {
-        asked,
+        asked: t.asked,
         unused: 0,
         s: t.s,
         d: t.d,

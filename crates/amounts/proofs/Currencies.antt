@@ -1,6 +1,9 @@
 -- Currencies that differ in trailing spaces alone are equal, and no others; so equality is an equivalence. Assumes nothing.
 use Rattle.prelude.proofs.Prelude.{ℕ, zero, suc, ◌≤◌, ◌<◌, ◌≡◌, refl, sym, ap, ◌∙◌, List, [], ◌∷◌, ◌++◌, append_assoc, append-nil, Bool, true, false, ◌↔◌, arith, dec_lt, ℕ_discrete}
-use Rattle.prelude.proofs.Prelude.{not-suc-le-zero, length, get_or, replicate, length-take, List·getD-eq-default, get_or-take, eqb, eq-eqb, ne_eqb}
+use Rattle.prelude.proofs.Prelude.{not-suc-le-zero, length, get_or, replicate, length-take, List·getD-eq-default, get_or-take, eqb, eq-eqb, ne_eqb, eqb-true, true≢false}
+use Rattle.std.specs.List.{list_all, range_with_len}
+use Rattle.prelude.proofs.Ways.{by_cases}
+use Rattle.amounts.proofs.Range.{all_in_range, each_in_range}
 use Rattle.coding.proofs.Padded.{eqb_equal, list_equal}
 use Rattle.types.specs.declared.Currency.{Currency}
 use Rattle.amounts.specs.Currency.{ahead, trimmed, counted, equal_currency}
@@ -88,17 +91,30 @@ is_false : (b : Bool) → (b ≡ true → ⊥) → b ≡ false
 is_false true h = absurd (h refl)
 is_false false h = refl
 
--- a place where they differ
-pub differ : (c d : Currency) (i : ℕ) → (get_or (counted c) i 0x20 ≡ get_or (counted d) i 0x20 → ⊥) → equal_currency c d ≡ false
-differ c d i h = is_false (equal_currency c d) (λ e. h (sym (stays (counted c) i) ∙ (ap (λ (l : List ℕ). get_or l i 0x20) ((means c d).0 e) ∙ stays (counted d) i)))
+pub few : (c : Currency) (n : ℕ) → length c.octets ≡ n → length (counted c) ≤ n
+few c n h = simp length-take (omega arith)
 
--- no such place among the first n, which have all their octets
+-- the first n places, which have all their octets, are the same
 pub agree : (c d : Currency) (n : ℕ) → length (counted c) ≤ n → length (counted d) ≤ n → ((i : ℕ) → i < n → get_or (counted c) i 0x20 ≡ get_or (counted d) i 0x20) →
     equal_currency c d ≡ true
 agree c d n p q h = (means c d).1 (same_places (counted c) (counted d) (λ i. elim (dec_lt i n) [
   | yes l ↦ h i l
   | no m ↦ List·getD-eq-default (counted c) 0x20 (omega arith) ∙ sym (List·getD-eq-default (counted d) 0x20 (omega arith))
 ]))
+
+pub agreed : (c d : Currency) → equal_currency c d ≡ true → (i : ℕ) → get_or (counted c) i 0x20 ≡ get_or (counted d) i 0x20
+agreed c d e i = sym (stays (counted c) i) ∙ (ap (λ (l : List ℕ). get_or l i 0x20) ((means c d).0 e) ∙ stays (counted d) i)
+
+-- whether the octets at a place are the same
+abbrev pub same_at : Currency → Currency → ℕ → Bool
+same_at c d i = eqb (get_or (counted c) i 0x20) (get_or (counted d) i 0x20)
+
+-- a test of the ten places there are
+pub ten_places : (c d : Currency) → length c.octets ≡ 10 → length d.octets ≡ 10 → list_all (same_at c d) (range_with_len 0 10) ≡ equal_currency c d
+ten_places c d p q =
+    by_cases (equal_currency c d)
+    (λ e. rw e (all_in_range (same_at c d) 0 10 (λ i _ _. eq-eqb _ _ (agreed c d e i))))
+    (λ e. rw e (is_false _ (λ t. true≢false (sym (agree c d 10 (few c 10 p) (few d 10 q) (λ i l. eqb-true _ _ (each_in_range (same_at c d) 0 10 t i (omega arith) l))) ∙ e))))
 
 -- ---- the octet at a place
 
@@ -112,6 +128,3 @@ place_in c i p h = any_default c.octets i 0 0x20 h ∙ sym (get_or-take c.count 
 
 pub place_past : (c : Currency) (i : ℕ) → c.count ≤ i → 0x20 ≡ get_or (counted c) i 0x20
 place_past c i p = sym (List·getD-eq-default (counted c) 0x20 (simp length-take (omega arith)))
-
-pub few : (c : Currency) (n : ℕ) → length c.octets ≡ n → length (counted c) ≤ n
-few c n h = simp length-take (omega arith)

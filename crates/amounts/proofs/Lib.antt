@@ -1,3 +1,4 @@
 pub mod Bounded
+pub mod Range
 pub mod Currencies
 pub mod Examples

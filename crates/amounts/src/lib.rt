@@ -31,21 +31,15 @@ fn letter(c: Currency, i: usize) -> u8
     if i < n { c.octets[i] } else { 0x20 }
 }
 
-// Whether two currencies are equal, whatever spaces trail.
+// Whether two currencies are equal, whatever spaces trail. No derived `==`: that would tell EUR from EUR with a space (`equal_currency`).
 pub fn same_currency(a: Currency, b: Currency) -> bool
     ensures { result ≡ equal_currency a b }
 {
-    let mut i: usize = 0;
-    while i < 10 {
-        if letter(a, i) != letter(b, i) {
-            return false;
-        }
-        i += 1;
-    }
-    true
+    (0..10).all(|i| letter(a, i) == letter(b, i))
 }
 
-// Whether two amounts are equal, in equal currencies.
+// Whether two amounts are equal, in equal currencies. No derived `==`: 50 with multiplier 1 is 500 with multiplier 0 (`equal_money`).
+#[tactic(auto, unfolding(crate::specs::Amounts::equal_money))]
 pub fn same_money(a: Money, b: Money) -> bool
     ensures { result ≡ equal_money a b }
 {

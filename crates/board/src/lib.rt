@@ -6,48 +6,46 @@
 ghost use Rattle.std.specs.Prelude.{◌≡◌};
 ghost use Rattle.board_rules.specs.Board.{boarded, event_on, emptied, collect_on, view_on};
 
-use board_rules::{Board, Collected, Viewed};
+use board_rules::{Board, Collected, Seat, Viewed};
 use phases::{Event, Outcome};
-use requests::service;
 
 // An event of a reference. If it is refused, nothing is stored. If the reference holds a slot, the step updates the account there.
 pub fn event_in(t: &mut Board, reference: u16, e: Event, octets: &[u8]) -> Outcome
     ensures { boarded result t.new ≡ event_on t.old reference e octets.now }
 {
-    let seat = board_rules::seat_of(t.keys, reference, e);
-    let at = seat.at % 64;
-    if seat.number == board_rules::OWN_SLOT {
-        return step::step_in(&mut t.calls[at], e, octets);
+    match board_rules::seat_of(t.keys, reference, e) {
+        Seat::Own(at) => step::step_in(&mut t.calls[at], e, octets),
+        Seat::Refused(number) => phases::no_service(number),
+        Seat::Free(at) => {
+            let w = board_rules::taken_up(reference, e);
+            t.calls[at] = w.account;
+            t.keys[at] = w.key;
+            w.outcome
+        }
     }
-    if seat.number != 0 {
-        return Outcome {
-            number: seat.number,
-            service: service::NONE,
-        };
-    }
-    let w = board_rules::taken_up(reference, e);
-    t.calls[at] = w.account;
-    t.keys[at] = w.key;
-    w.outcome
 }
 
 // A collection: the closing figure, or its lack, once the call has ended; the slot is free then.
 pub fn collect_in(t: &mut Board, reference: u16) -> Collected
     ensures { emptied result t.new ≡ collect_on t.old reference }
 {
-    let slot = board_rules::slot_at(t.keys, reference);
-    let at = slot % 64;
-    let w = board_rules::free(t.calls[at], t.keys[at], slot);
-    t.calls[at] = w.account;
-    t.keys[at] = w.key;
-    w.answer
+    match board_rules::slot_at(t.keys, reference) {
+        None => board_rules::not_collected(),
+        Some(at) => {
+            let w = board_rules::free(t.calls[at], t.keys[at]);
+            t.calls[at] = w.account;
+            t.keys[at] = w.key;
+            w.answer
+        }
+    }
 }
 
 // A reading of the call that a reference holds.
 pub fn view_in(t: &Board, reference: u16) -> Viewed
     ensures { result ≡ view_on t.now reference }
 {
-    let slot = board_rules::slot_at(t.keys, reference);
-    let at = slot % 64;
-    board_rules::view(t.calls[at], slot)
+    match board_rules::slot_at(t.keys, reference) {
+        None => board_rules::not_viewed(),
+        Some(at) => board_rules::view(t.calls[at]),
+    }
 }

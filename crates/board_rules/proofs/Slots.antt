@@ -1,9 +1,13 @@
 -- Keys and slots: what a search finds, and what another key in a slot changes. Lists alone.
-use Rattle.prelude.proofs.Prelude.{ℕ, zero, suc, ◌+◌, ◌<◌, ◌≤◌, ◌≡◌, refl, sym, ◌∙◌, ap, List, [], ◌∷◌, Bool, true, false, not, ◌&&◌, ◌||◌, cond, eqb, eqb-false, eq-eqb, ne_eqb}
-use Rattle.prelude.proofs.{Prelude.{not-true, arith, length, get_or, set, drop}, Ways.by_cases}
+use Rattle.prelude.proofs.Prelude.{ℕ, zero, suc, ◌<◌, ◌≤◌, ◌≡◌, refl, sym, ◌∙◌, ap, List, [], ◌∷◌, Bool, true, false, not, ◌&&◌, ◌||◌, cond, eqb, eqb-false, eq-eqb, ne_eqb, lt-ltb, le-ltb}
+use Rattle.prelude.proofs.{Prelude.{not-true, arith, length, get_or, set}, Ways.by_cases}
 use Rattle.phases.proofs.Choice.{by_number, never, first_of, second_of}
 use Rattle.coding.specs.Reader.{among}
+use Rattle.std.proofs.Common.{Option, Some, None, is_some}
+use Rattle.std.specs.List.{position, position_or_len}
+use Rattle.std.proofs.lemmas.List.Recursion.{is_position_or_len}
 use Rattle.board_rules.specs.Board.{lowest, held_in}
+use Rattle.board_rules.specs.inner.ByValue.{slot_with}
 
 -- ---- what a search finds
 
@@ -150,32 +154,27 @@ one_slot (x ∷ l) q (suc i) zero n e =
     never (rw (ne_eqb 0 x (λ y. n (e ∙ sym y)), z) at (first_of (eqb 0 x || not (among x l)) (differ l) q))
 one_slot (x ∷ l) q (suc i) (suc j) n e = ap suc (one_slot l (second_of (eqb 0 x || not (among x l)) (differ l) q) i j n e)
 
--- ---- the search, slot by slot
+-- ---- the search
 
-pub search_begins : (k : ℕ) (l : List ℕ) → 0 + lowest k (drop 0 l) ≡ lowest k l
-search_begins k l = omega arith
-
-pub search_goes : (k : ℕ) (l : List ℕ) (i : ℕ) → i < length l → (get_or l i 0 ≡ k → ⊥) → i + 1 + lowest k (drop (i + 1) l) ≡ i + lowest k (drop i l)
+lowest_is : (k : ℕ) (l : List ℕ) → lowest k l ≡ position_or_len (λ x. eqb k x) l
 unfolding lowest
-search_goes k [] i h n = absurd (omega arith)
-search_goes k (x ∷ l) zero h n = rw (ne_eqb k x (λ e. n (sym e))) (omega arith)
-search_goes k (x ∷ l) (suc i) h n = let e : suc i + 1 ≡ suc (i + 1) = omega arith in let z = search_goes k l i (omega arith) n in rw e (omega (arith, z))
+lowest_is k l = is_position_or_len (lowest k) (λ x. eqb k x) refl (λ x xs. ap (cond (eqb k x) 0) (omega arith)) l
 
-pub search_finds : (k : ℕ) (l : List ℕ) (i : ℕ) → i < length l → get_or l i 0 ≡ k → i + lowest k (drop i l) ≡ i
-unfolding lowest
-search_finds k [] i h e = absurd (omega arith)
-search_finds k (x ∷ l) zero h e = rw (eq-eqb k x (sym e)) refl
-search_finds k (x ∷ l) (suc i) h e = let z = search_finds k l i (omega arith) e in omega (arith, z)
+pub position_is : (k : ℕ) (l : List ℕ) → position (λ x. eqb k x) l ≡ slot_with k l
+position_is k l = rw (← lowest_is k l) (by_cases (among k l)
+    (λ q. rw (q, lt-ltb (lowest k l) (length l) (found k l q).0) refl)
+    (λ q. rw (q, le-ltb (lowest k l) (length l) (omega (arith, missing k l q))) refl))
 
-pub search_ends : (k : ℕ) (l : List ℕ) (i : ℕ) → length l ≤ i → lowest k (drop i l) ≡ 0
-unfolding lowest
-search_ends k [] zero h = refl
-search_ends k [] (suc i) h = refl
-search_ends k (x ∷ l) zero h = absurd (omega arith)
-search_ends k (x ∷ l) (suc i) h = search_ends k l i (omega arith)
+-- what was found, and that nothing was
+abbrev value_or_zero : Option ℕ → ℕ
+value_or_zero None = 0
+value_or_zero (Some i) = i
 
--- 64 slots: the search stops at 64 exactly where no slot has the key
-pub at_end_lem : (k : ℕ) (l : List ℕ) → length l ≡ 64 → eqb (lowest k l) 64 ≡ not (among k l)
-at_end_lem k l n = by_cases (among k l)
-    (λ q. rw q (ne_eqb (lowest k l) 64 (λ e. let z = (found k l q).0 in omega (arith, z, n, e))))
-    (λ q. rw q (eq-eqb (lowest k l) 64 (missing k l q ∙ n)))
+pub slot_some : (k : ℕ) (l : List ℕ) (i : ℕ) → slot_with k l ≡ Some i → (among k l ≡ true) × (lowest k l ≡ i)
+slot_some k l i e =
+    by_cases (among k l)
+    (λ q. (q, ap value_or_zero (rw q at e)))
+    (λ q. never (ap is_some (rw q at e)))
+
+pub slot_none : (k : ℕ) (l : List ℕ) → slot_with k l ≡ None → among k l ≡ false
+slot_none k l e = by_cases (among k l) (λ q. never (sym (ap is_some (rw q at e)))) (λ q. q)

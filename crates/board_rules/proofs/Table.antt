@@ -1,8 +1,8 @@
 -- One operation on the table: its answer and what it leaves are what the rules say over what the reference holds, and no other reference sees it.
-use Rattle.prelude.proofs.Prelude.{ℕ, suc, ◌-◌, ◌<◌, ◌≡◌, refl, sym, ◌∙◌, ap, subst, List, [], ◌∷◌, Bool, true, false, cond, Option, none, some, eqb, eqb-true}
+use Rattle.prelude.proofs.Prelude.{ℕ, suc, ◌-◌, ◌<◌, ◌≡◌, refl, sym, ◌∙◌, ap, subst, List, [], ◌∷◌, Bool, true, false, cond, Option, none, some, eqb}
 use Rattle.prelude.proofs.{Prelude.{eqb-false, arith, length, get_or, set, length-set}, Ways.by_cases}
 use lib.Seq.{get_or-set_same, get_or-set_other, set-get_or}
-use Rattle.phases.specs.{Phases.Given, Phases.Setup, Phases.Ended, Phases.no_service, declared.Outcome.Outcome}
+use Rattle.phases.specs.{Phases.Given, Phases.Ended, Phases.no_service, declared.Outcome.Outcome}
 use Rattle.coding.specs.Reader.{among}
 use Rattle.outcomes.specs.Outcome.{was, judge}
 use Rattle.account.{specs.declared.Account.Account, specs.History.judged, specs.History.known, specs.History.phase, specs.History.closing}

@@ -4,11 +4,11 @@
 // The crate board has the caller's table and changes it by these functions.
 #![tactic(auto)]
 
-ghost use Rattle.std.specs.Prelude.{◌+◌, ◌≡◌};
-ghost use Rattle.account.specs.History.{fresh_status};
+ghost use Rattle.std.specs.Prelude.{◌+◌, ◌≡◌, ◌<◌, IfSome};
+ghost use Rattle.account.specs.History.{fresh, fresh_status};
 ghost use Rattle.phases.specs.inner.ByNumber.{moving_of};
-ghost use Rattle.board_rules.specs.Board.{lowest, uncollected};
-ghost use Rattle.board_rules.specs.inner.ByValue.{seated, seat_of, taken_up, freed, free_of, viewed_of};
+ghost use Rattle.board_rules.specs.Board.{uncollected};
+ghost use Rattle.board_rules.specs.inner.ByValue.{slot_with, Inside, seat_of, taken_up, free_of};
 
 use account::{Account, Closing};
 use coding::refusal;
@@ -44,14 +44,12 @@ pub struct Viewed {
     pub account: Account,
 }
 
-// The number of a seat at the slot that its reference holds: no refusal of a Setup, and no refusal of the board.
-pub const OWN_SLOT: u8 = 1;
-
-// Where an event goes. number: 0 for a Setup that takes a free slot, 1 for another event at the slot that its reference holds, else the number by which it is refused.
+// Where an event goes: a free slot for a Setup, the slot that its reference holds for another event, or nowhere, with the number by which it is refused.
 #[derive(Drop)]
-pub struct Seat {
-    pub at: usize,
-    pub number: u8,
+pub enum Seat {
+    Free(usize),
+    Own(usize),
+    Refused(u8),
 }
 
 // What a slot holds after a Setup, with the Setup's outcome.
@@ -72,18 +70,12 @@ pub struct Freed {
 
 // ---- which slot
 
-// The lowest slot with a key, or 64.
-pub fn slot_of(keys: [u32; 64], key: u32) -> usize
-    ensures { result ≡ lowest key keys }
+// The lowest slot with a key, if one has it.
+pub fn slot_of(keys: [u32; 64], key: u32) -> Option<usize>
+    ensures which { result ≡ slot_with key keys }
+    ensures inside { IfSome result (λ i. i < 64) }
 {
-    let mut i: usize = 0;
-    while i < 64 {
-        if keys[i] == key {
-            return i;
-        }
-        i += 1;
-    }
-    64
+    keys.iter().position(|&held| key == held)
 }
 
 fn key_of(reference: u16) -> u32
@@ -92,9 +84,10 @@ fn key_of(reference: u16) -> u32
     reference as u32 + 1
 }
 
-// The slot that a reference holds, or 64.
-pub fn slot_at(keys: [u32; 64], reference: u16) -> usize
-    ensures { result ≡ lowest (reference + 1) keys }
+// The slot that a reference holds, if it holds one.
+pub fn slot_at(keys: [u32; 64], reference: u16) -> Option<usize>
+    ensures which { result ≡ slot_with (reference + 1) keys }
+    ensures inside { IfSome result (λ i. i < 64) }
 {
     slot_of(keys, key_of(reference))
 }
@@ -106,49 +99,44 @@ fn begin(e: Event) -> Moving
     phases::phase_step(phases::bare(phases::IDLE), e)
 }
 
-fn seated(at: usize, number: u8) -> Seat
-    ensures { result ≡ seated at number }
-{
-    Seat { at, number }
-}
-
 // 35, 36 and 37 come before 01's checks.
+#[tactic(auto, unfolding(crate::specs::inner::ByValue::seat_of))]
 pub fn seat_of(keys: [u32; 64], reference: u16, e: Event) -> Seat
-    ensures { result ≡ seat_of keys reference e }
+    ensures which { result ≡ seat_of keys reference e }
+    ensures inside { Inside result }
 {
-    let slot = slot_at(keys, reference);
+    let own = slot_at(keys, reference);
     if e.kind != phases::SETUP {
-        if slot == 64 {
-            return seated(0, refusal::NOT_HELD);
-        }
-        return seated(slot, OWN_SLOT);
+        return match own {
+            Some(at) => Seat::Own(at),
+            None => Seat::Refused(refusal::NOT_HELD),
+        };
     }
-    if slot != 64 {
-        return seated(0, refusal::IN_USE);
+    if own.is_some() {
+        return Seat::Refused(refusal::IN_USE);
     }
-    let free = slot_of(keys, 0);
-    if free == 64 {
-        return seated(0, refusal::FULL);
+    let Some(at) = slot_of(keys, 0) else {
+        return Seat::Refused(refusal::FULL);
+    };
+    match begin(e).outcome.number {
+        0 => Seat::Free(at),
+        number => Seat::Refused(number),
     }
-    let m = begin(e);
-    seated(free, m.outcome.number)
 }
 
 // ---- what a slot holds then
 
 // A Setup on a fresh account, which the reference holds.
+#[tactic(auto, unfolding(crate::specs::inner::ByValue::taken_up))]
 pub fn taken_up(reference: u16, e: Event) -> Held
     ensures { result ≡ taken_up reference e }
 {
     let m = begin(e);
-    let outcome = m.outcome;
-    let status = m.status;
     let mut account = account::fresh();
-    account.status = status;
-    let key = key_of(reference);
+    account.status = m.status;
     Held {
-        outcome,
-        key,
+        outcome: m.outcome,
+        key: key_of(reference),
         account,
     }
 }
@@ -160,44 +148,46 @@ fn uncollected(number: u32) -> Collected
     Collected { number, closing }
 }
 
-fn answered(answer: Collected, key: u32, account: Account) -> Freed
-    ensures { result ≡ freed answer key account }
+// A collection for a reference that holds no slot.
+pub fn not_collected() -> Collected
+    ensures { result ≡ uncollected 37 }
 {
-    Freed {
-        answer,
-        key,
-        account,
-    }
+    uncollected(NOT_HELD)
 }
 
-// A collection of the call in a slot; 64 is no slot.
-pub fn free(a: Account, key: u32, slot: usize) -> Freed
-    ensures { result ≡ free_of a key slot }
+// A collection of the call in a slot.
+#[tactic(auto, unfolding(crate::specs::inner::ByValue::free_of))]
+pub fn free(a: Account, key: u32) -> Freed
+    ensures { result ≡ free_of a key }
 {
-    if slot == 64 {
-        return answered(uncollected(NOT_HELD), key, a);
-    }
     if a.status.phase != phases::ENDED {
-        return answered(uncollected(WRONG_PHASE), key, a);
-    }
-    let closing = account::closing_of(a);
-    let answer = Collected { number: 0, closing };
-    answered(answer, 0, account::fresh())
-}
-
-// A reading of the call in a slot; 64 is no slot.
-pub fn view(a: Account, slot: usize) -> Viewed
-    ensures { result ≡ viewed_of a slot }
-{
-    if slot == 64 {
-        let account = account::fresh();
-        return Viewed {
-            number: NOT_HELD,
-            account,
+        return Freed {
+            answer: uncollected(WRONG_PHASE),
+            key,
+            account: a,
         };
     }
-    Viewed {
-        number: 0,
-        account: a,
+    let closing = account::closing_of(a);
+    Freed {
+        answer: Collected { number: 0, closing },
+        key: 0,
+        account: account::fresh(),
     }
+}
+
+// A reading for a reference that holds no slot.
+pub fn not_viewed() -> Viewed
+    ensures { result ≡ record { number = 37; account = fresh } }
+{
+    Viewed {
+        number: NOT_HELD,
+        account: account::fresh(),
+    }
+}
+
+// A reading of the call in a slot.
+pub fn view(account: Account) -> Viewed
+    ensures { result ≡ record { number = 0; account = account } }
+{
+    Viewed { number: 0, account }
 }

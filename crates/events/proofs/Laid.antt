@@ -3,7 +3,7 @@ use Rattle.prelude.proofs.Prelude.{◌≡◌, refl, sym, ap, ◌∙◌, ℕ, ◌
 use Rattle.prelude.proofs.Prelude.{append_assoc, length, length-append, get_or, le-leb, eqb-false}
 use Rattle.prelude.proofs.Prelude.{get_or-append-add, take-append_seam, drop-append_seam}
 use Rattle.requests.specs.declared.Services.{Services}
-use Rattle.phases.{specs.Phases.Given, specs.Phases.event, proofs.Choice.by_number}
+use Rattle.phases.{specs.Phases.Given, proofs.Choice.by_number}
 use Rattle.events.specs.{Events.{set_of, row_at, count_at, events_from, events_of, rows_fit, adds_up}, Laid.{bits_of, laid_row, rows_of, octets_of}}
 
 -- ---- one list after another

@@ -22,31 +22,23 @@ pub mod in_row {
     pub const COUNT: usize = 5;
 }
 
-fn wide(n: u16) -> usize
-    ensures { result ≡ n }
-{
-    n as usize
-}
-
 // Whether the counts of the rows add up to the octets.
 fn rows_fit(rows: &[u16], total: usize) -> bool
     ensures { result ≡ rows_fit rows.now 0 (length rows.now / 6) total }
 {
-    let n = rows.len() / 6;
     let mut left = total;
-    let mut i: usize = 0;
-    while i < n {
-        let count = wide(rows[i * 6 + in_row::COUNT]);
+    for i in 0..rows.len() / 6 {
+        let count = count_at(rows, i);
         if left < count {
             return false;
         }
         left -= count;
-        i += 1;
     }
     left == 0
 }
 
 // Whether the slices are an event list.
+#[tactic(auto, unfolding(crate::specs::Events::adds_up))]
 pub fn adds_up(rows: &[u16], total: usize) -> bool
     ensures { result ≡ adds_up rows.now total }
 {
@@ -56,7 +48,7 @@ pub fn adds_up(rows: &[u16], total: usize) -> bool
 fn kind_of(n: u16) -> u8
     ensures { result ≡ kind_of n }
 {
-    if n <= 255 { n as u8 } else { 0 }
+    u8::try_from(n).unwrap_or(0)
 }
 
 fn set_of(n: u16) -> requests::Services
@@ -90,7 +82,7 @@ pub fn count_at(rows: &[u16], i: usize) -> usize
     requires { i < length rows.now / 6 }
     ensures { result ≡ count_at rows.now i }
 {
-    wide(rows[i * 6 + in_row::COUNT])
+    usize::from(rows[i * 6 + in_row::COUNT])
 }
 
 // ---- a row written
@@ -112,7 +104,7 @@ pub fn put_row(rows: &mut [u16], at: usize, e: phases::Event, count: u16) -> usi
     requires { Room rows.old at (laid_row e count) }
     ensures { Wrote rows.old rows.new at (laid_row e count) result }
 {
-    rows[at] = e.kind as u16;
+    rows[at] = u16::from(e.kind);
     rows[at + in_row::ASKED] = bits_of(e.asked);
     rows[at + in_row::S] = e.s;
     rows[at + in_row::D] = e.d;

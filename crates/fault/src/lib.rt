@@ -86,6 +86,7 @@ fn last_next(l: Last, c: Currency, e: Event, o: Outcome, octets: &[u8]) -> Last
     last_by(money)
 }
 
+#[tactic(auto, unfolding(crate::specs::inner::Going::turn_of))]
 fn turn(t: State, c: Currency, e: Event, octets: &[u8]) -> State
     ensures { result ≡ turn_of t c e octets.now }
 {
@@ -106,13 +107,11 @@ fn last_in(rows: &[u16], octets: &[u8], k: usize, c: Currency) -> Last
         last: NO_LAST,
     };
     let mut at: usize = 0;
-    let mut i: usize = 0;
-    while i < k {
+    for i in 0..k {
         let end = at + events::count_at(rows, i);
         let e = events::row_at(rows, i);
         state = turn(state, c, e, &octets[at..end]);
         at = end;
-        i += 1;
     }
     state.last
 }
@@ -187,6 +186,7 @@ fn other_next(x: Latest, l: Latest, d: bool, kind: u8, m: Money, o: Outcome) -> 
 }
 
 // The event after the first k, with its part of the octets.
+#[tactic(auto, unfolding(crate::specs::inner::Running::next_of))]
 fn next(t: Progress, rows: &[u16], octets: &[u8], k: usize, e: Event, part: &[u8]) -> Progress
     requires { (adds_up rows.now (length octets.now) ≡ true) × (k ≤ length rows.now / 6) }
     ensures { result ≡ next_of t (judged (before rows.now octets.now k)) e part.now (k + 1) }
@@ -222,7 +222,6 @@ fn judged_all(rows: &[u16], octets: &[u8]) -> FaultAnswer
     requires { adds_up rows.now (length octets.now) ≡ true }
     ensures { result ≡ fault_of (events_of rows.now octets.now) }
 {
-    let n = rows.len() / 6;
     let account = account::fresh();
     let seen = Seen {
         free: 0,
@@ -237,18 +236,17 @@ fn judged_all(rows: &[u16], octets: &[u8]) -> FaultAnswer
         other: NO_LATEST,
     };
     let mut at: usize = 0;
-    let mut i: usize = 0;
-    while i < n {
+    for i in 0..rows.len() / 6 {
         let end = at + events::count_at(rows, i);
         let e = events::row_at(rows, i);
         state = next(state, rows, octets, i, e, &octets[at..end]);
         at = end;
-        i += 1;
     }
     fault_rules::concluded(state.seen)
 }
 
 // Whether the exchange kept the rules, from an event list in slices.
+#[tactic(auto, unfolding(crate::specs::Rules::fault_at))]
 pub fn fault(rows: &[u16], octets: &[u8]) -> FaultAnswer
     ensures { result ≡ fault_at rows.now octets.now }
 {

@@ -51,6 +51,7 @@ fn is_counted(o: Outcome) -> bool
     o.number == outcomes::NEW_RUNNING || o.number == outcomes::FINAL
 }
 
+#[tactic(auto, unfolding(outcomes::specs::Outcome::is_refusal))]
 fn is_refused(n: u8) -> bool
     ensures { result ≡ is_refusal n }
 {
@@ -86,13 +87,10 @@ fn zero_units(e: Entries, count: u8) -> bool
     ensures { result ≡ zero_units e count }
 {
     let n = same_final::places(count as u32, 32);
-    let mut i: usize = 0;
-    while i < n {
-        let at = 2 * i;
-        if !is_nothing(e.octets[at], e.numbers[i]) {
+    for i in 0..n {
+        if !is_nothing(e.octets[2 * i], e.numbers[i]) {
             return false;
         }
-        i += 1;
     }
     true
 }

@@ -27,3 +27,5 @@ module _ (e : Entries) (n i : ℕ) where
     pub count_ends : (s : ℕ) → s ≡ count_absent e i (n - i) s
     unfolding count_absent
     count_ends s = rw none_left refl
+
+pub ruleset entries = (sum_goes, count_goes, sum_ends, count_ends)

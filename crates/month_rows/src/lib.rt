@@ -4,6 +4,8 @@
 #![tactic(auto)]
 
 ghost use Rattle.std.specs.Prelude.{◌≡◌, ◌<◌, ◌≤◌};
+ghost use Rattle.std.specs.List.{position};
+ghost use Rattle.amounts.specs.Currency.{equal_currency};
 ghost use Rattle.types.specs.Entries.{unit_at};
 ghost use Rattle.month_rows.specs.Rows.{row_of, new_row, one_more, raise};
 ghost use Rattle.month_rows.specs.Sums.{add_unit, add_absent, sum_units, count_absent};
@@ -38,20 +40,20 @@ pub struct Sums {
 
 // ---- currencies
 
-// The first of n rows with an equal currency, or n.
+// The first row with an equal currency.
+fn found(rows: &[Row], c: Currency) -> Option<usize>
+    ensures { result ≡ position (λ r. equal_currency r.currency c) rows.now }
+{
+    rows.iter()
+        .position(|r| amounts::same_currency(r.currency, c))
+}
+
+// The place of a currency's row: the first of n rows with an equal one, or the next place.
 pub fn row_of(rows: [Row; 16], n: usize, c: Currency) -> usize
     requires { n ≤ 16 }
     ensures { result ≡ row_of c n rows }
 {
-    let mut i: usize = 0;
-    while i < n {
-        let r = rows[i];
-        if amounts::same_currency(r.currency, c) {
-            return i;
-        }
-        i += 1;
-    }
-    n
+    found(&rows[..n], c).unwrap_or(n)
 }
 
 fn new_row(c: Currency, t: u64) -> Row
@@ -68,12 +70,10 @@ fn new_row(c: Currency, t: u64) -> Row
 fn raised_row(r: Row, t: u64) -> Row
     ensures { result ≡ one_more r t }
 {
-    let c = r.currency;
     Row {
-        currency: c,
-        unused: r.unused,
-        calls: std::num::wrapping_add_u32(r.calls, 1),
-        sum: std::num::wrapping_add_u64(r.sum, t),
+        calls: r.calls.wrapping_add(1),
+        sum: r.sum.wrapping_add(t),
+        ..r
     }
 }
 
@@ -86,8 +86,7 @@ pub fn with_row(mut rows: [Row; 16], i: usize, n: usize, c: Currency, t: u64) ->
         rows[i] = new_row(c, t);
         return rows;
     }
-    let r = rows[i];
-    rows[i] = raised_row(r, t);
+    rows[i] = raised_row(rows[i], t);
     rows
 }
 
@@ -104,15 +103,14 @@ fn unit_at(e: Entries, i: usize) -> Units
     }
 }
 
-fn add_unit(mut sums: [u64; 17], u: Units) -> [u64; 17]
-    ensures { result ≡ add_unit u sums }
+fn add_unit(sums: &mut [u64; 17], u: Units)
+    ensures { sums.new ≡ add_unit u sums.old }
 {
     if u.known != 1 {
-        return sums;
+        return;
     }
-    let k = same_final::places(u.kind as u32, 16);
-    sums[k] = std::num::wrapping_add_u64(sums[k], u.number as u64);
-    sums
+    let k = same_final::places(u32::from(u.kind), 16);
+    sums[k] = sums[k].wrapping_add(u64::from(u.number));
 }
 
 fn add_absent(n: u32, u: Units) -> u32
@@ -121,23 +119,21 @@ fn add_absent(n: u32, u: Units) -> u32
     if u.known == 1 {
         return n;
     }
-    std::num::wrapping_add_u32(n, 1)
+    n.wrapping_add(1)
 }
 
 // The first n entries of a list are added.
+#[tactic(auto, using(crate::proofs::Entries::entries))]
 pub fn sum_units(units: [u64; 17], absent: u32, e: Entries, n: usize) -> Sums
     requires { n ≤ 32 }
     ensures { result ≡ record { units = sum_units e 0 n units; absent = count_absent e 0 n absent } }
 {
     let mut sums = units;
     let mut none = absent;
-    let mut i: usize = 0;
-    while i < n {
+    for i in 0..n {
         let u = unit_at(e, i);
-        let next = add_unit(sums, u);
-        sums = next;
+        add_unit(&mut sums, u);
         none = add_absent(none, u);
-        i += 1;
     }
     Sums {
         units: sums,
@@ -159,14 +155,14 @@ fn billing_column(billed: u8, billing: u8) -> usize
     if billed == 0 {
         return 8;
     }
-    same_final::places(billing as u32, 7)
+    same_final::places(u32::from(billing), 7)
 }
 
 fn raised_at(mut t: [[u32; 9]; 2], s: usize, b: usize) -> [[u32; 9]; 2]
     requires { (s < 2) × (b < 9) }
     ensures { result ≡ raised_at t s b }
 {
-    t[s][b] = std::num::wrapping_add_u32(t[s][b], 1);
+    t[s][b] = t[s][b].wrapping_add(1);
     t
 }
 
@@ -176,20 +172,14 @@ pub fn grid_of(cells: [[u32; 9]; 2]) -> Grid
     Grid { cells }
 }
 
-fn cells_of(g: Grid) -> [[u32; 9]; 2]
-    ensures { result ≡ g.cells }
-{
-    g.cells
-}
-
 // One figure more of a service and a billing identification.
 pub fn placed(g: Grid, service: u32, billed: u8, billing: u8) -> Grid
     ensures { result ≡ placed g service billed billing }
 {
     let cells = raised_at(
-        cells_of(g),
+        g.cells,
         service_line(service),
         billing_column(billed, billing),
     );
-    grid_of(cells)
+    Grid { cells }
 }

@@ -41,11 +41,10 @@ pub struct Added {
 fn with_units(mut m: Month, e: Entries, count: u8) -> Month
     ensures { result ≡ with_units m e (up_to 32 count) }
 {
-    let units = m.units;
-    let n = same_final::places(count as u32, 32);
-    let s = month_rows::sum_units(units, m.absent, e, n);
-    let sums = s.units;
-    m.units = sums;
+    let n = same_final::places(u32::from(count), 32);
+    let s = month_rows::sum_units(m.units, m.absent, e, n);
+    let units = s.units;
+    m.units = units;
     m.absent = s.absent;
     m
 }
@@ -53,7 +52,7 @@ fn with_units(mut m: Month, e: Entries, count: u8) -> Month
 fn with_free(mut m: Month) -> Month
     ensures { result ≡ with_free m }
 {
-    m.free = std::num::wrapping_add_u32(m.free, 1);
+    m.free = m.free.wrapping_add(1);
     m
 }
 
@@ -62,14 +61,11 @@ fn with_money(mut m: Month, x: Money, i: usize, n: usize) -> Month
     requires { (i < 16) × (n ≡ used m) × (i ≡ row_of x.currency n m.rows) }
     ensures { result ≡ with_money m x }
 {
-    let c = x.currency;
-    let rows = m.rows;
-    let next = month_rows::with_row(rows, i, n, c, amounts::thousandths(x.number, x.multiplier));
-    m.rows = next;
-    if i != n {
-        return m;
+    let t = amounts::thousandths(x.number, x.multiplier);
+    m.rows = month_rows::with_row(m.rows, i, n, x.currency, t);
+    if i == n {
+        m.count = n as u32 + 1;
     }
-    m.count = n as u32 + 1;
     m
 }
 
@@ -77,9 +73,8 @@ fn with_money(mut m: Month, x: Money, i: usize, n: usize) -> Month
 fn with_place(mut m: Month, service: u32, billed: u8, billing: u8) -> Month
     ensures { result ≡ with_place m service billed billing }
 {
-    let grid = month_rows::placed(m.grid, service, billed, billing);
-    m.grid = grid;
-    m.added = std::num::wrapping_add_u32(m.added, 1);
+    m.grid = month_rows::placed(m.grid, service, billed, billing);
+    m.added = m.added.wrapping_add(1);
     m
 }
 
@@ -93,27 +88,23 @@ pub fn answer(number: u64, month: Month) -> Added
 pub fn add_figure(m: Month, service: u32, c: Charge) -> Added
     ensures { result ≡ add_figure m service c }
 {
-    let f = c.figure;
-    let x = f.money;
-    let rows = m.rows;
     if 4096 <= m.added {
         return answer(MONTH_FULL, m);
     }
-    if f.kind == charge_kind::MONEY {
-        let n = same_final::places(m.count, 16);
-        let i = month_rows::row_of(rows, n, x.currency);
-        if i == 16 {
-            return answer(CURRENCIES_FULL, m);
+    let f = c.figure;
+    let next = match f.kind {
+        charge_kind::MONEY => {
+            let n = same_final::places(m.count, 16);
+            let i = month_rows::row_of(m.rows, n, f.money.currency);
+            if i == 16 {
+                return answer(CURRENCIES_FULL, m);
+            }
+            with_money(m, f.money, i, n)
         }
-        let paid = with_money(m, x, i, n);
-        return answer(0, with_place(paid, service, f.billed, f.billing));
-    }
-    if f.kind == charge_kind::FREE {
-        let free = with_free(m);
-        return answer(0, with_place(free, service, f.billed, f.billing));
-    }
-    let used = with_units(m, c.entries, f.count);
-    answer(0, with_place(used, service, f.billed, f.billing))
+        charge_kind::FREE => with_free(m),
+        _ => with_units(m, c.entries, f.count),
+    };
+    answer(0, with_place(next, service, f.billed, f.billing))
 }
 
 pub fn empty_month() -> Month
@@ -128,15 +119,13 @@ pub fn empty_month() -> Month
         calls: 0,
         sum: 0,
     };
-    let rows = [row; 16];
-    let grid = month_rows::grid_of([[0; 9]; 2]);
     Month {
         added: 0,
         count: 0,
         absent: 0,
         free: 0,
         units: [0; 17],
-        rows,
-        grid,
+        rows: [row; 16],
+        grid: Grid { cells: [[0; 9]; 2] },
     }
 }

@@ -1,5 +1,5 @@
 // What reading and writing share: an octet as a number, tests of octets, and octets copied.
-#![tactic(auto)]
+#![tactic(auto, using(crate::proofs::Slices::slices))]
 
 ghost use Rattle.std.specs.Prelude.{◌≤◌, ◌<◌, ◌≡◌, ◌&&◌, length, take, replicate, eqb, ltb};
 ghost use Rattle.coding.specs.Reader.{part};
@@ -14,13 +14,13 @@ pub fn wide(x: u8) -> usize
     ensures value { result ≡ x }
     ensures small { result < 256 }
 {
-    x as usize
+    usize::from(x)
 }
 
 pub fn wide32(x: u8) -> u32
     ensures { result ≡ x }
 {
-    x as u32
+    u32::from(x)
 }
 
 // ---- tests
@@ -30,48 +30,18 @@ pub fn below(s: &[u8], from: usize, to: usize, limit: u8) -> bool
     requires { (from ≤ to) × (to ≤ length s.now) }
     ensures { result ≡ every (λ x. ltb x limit) (part s.now from to) }
 {
-    let mut i = from;
-    while i < to {
-        if limit <= s[i] {
-            return false;
-        }
-        i += 1;
-    }
-    true
+    s[from..to].iter().all(|&x| x < limit)
 }
 
-// A test goes on over another octet. No loop over these has a way out but its end: several octets are then tested at a time.
-pub fn still(clear: bool, x: u32) -> bool
-    ensures { result ≡ clear && eqb 0 x }
+// Whether all are the same value x. The loop has no way out but its end: several octets are then tested at a time.
+pub fn all_are<T: PartialEq + Copy>(s: &[T], x: T) -> bool
+    ensures { result ≡ same_list T.eq (replicate (length s.now) x) s.now }
 {
-    if x != 0 {
-        return false;
+    let mut same = true;
+    for y in s {
+        same &= x == *y;
     }
-    clear
-}
-
-pub fn zeros(s: &[u8]) -> bool
-    ensures { result ≡ same_list eqb (replicate (length s.now) 0) s.now }
-{
-    let mut clear = true;
-    let mut i = 0;
-    while i < s.len() {
-        clear = still(clear, wide32(s[i]));
-        i += 1;
-    }
-    clear
-}
-
-pub fn zero_numbers(s: &[u32]) -> bool
-    ensures { result ≡ same_list eqb (replicate (length s.now) 0) s.now }
-{
-    let mut clear = true;
-    let mut i = 0;
-    while i < s.len() {
-        clear = still(clear, s[i]);
-        i += 1;
-    }
-    clear
+    same
 }
 
 // ---- copies
@@ -81,10 +51,6 @@ pub fn put_octets(buf: &mut [u8], at: usize, s: &[u8], n: usize) -> usize
     requires { (n ≤ length s.now) × Room buf.old at (take n s.now) }
     ensures { Wrote buf.old buf.new at (take n s.now) result }
 {
-    let mut i = 0;
-    while i < n {
-        buf[at + i] = s[i];
-        i += 1;
-    }
+    buf[at..at + n].copy_from_slice(&s[..n]);
     at + n
 }

@@ -1,4 +1,3 @@
-mod Cited
 pub mod Refusals
 pub mod Judging
 pub mod Claims

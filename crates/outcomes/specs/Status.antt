@@ -1,11 +1,13 @@
 -- What a status says, and what an event does to it; where an outcome keeps its figure.
-use Rattle.std.specs.Prelude.{ℕ, Bool, not, ◌||◌, cond, eqb}
+use Rattle.std.specs.Prelude.{ℕ, Bool, false, not, ◌||◌, cond, eqb, Option, Some, None}
 use Rattle.types.specs.declared.Charge.{Charge}
 use Rattle.requests.specs.Sets.{with}
 use Rattle.phases.specs.declared.Event.{Event}
 use Rattle.phases.specs.declared.Outcome.{Outcome}
 use Rattle.phases.specs.declared.Status.{Status}
 use Rattle.phases.specs.Phases.{Component, leads_to, S, D, E, moved}
+use Rattle.outcomes.specs.declared.Place.{Place}
+use Rattle.outcomes.specs.declared.Place.TheVariants.{Rate, Running, FinalOfD, FinalOfE}
 use Rattle.outcomes.specs.Outcome.{is_not_available, Requests, First, was, its, settles}
 
 -- ---- what is kept: a figure of kind 0 is none
@@ -43,9 +45,20 @@ status_after t e r =
     cond (eqb e.kind Component) (noted t r)
     (cond (was 0 r) (moved t e (leads_to e.kind t.phase)) t)
 
--- ---- where a figure is kept: 1 the rate, 2 the running figure, 3 the final of D, 4 the final of E; 0 nowhere
+-- ---- where a figure is kept, if it is
 
-abbrev pub place_of : Outcome → ℕ
+abbrev pub place_of : Outcome → Option Place
 place_of r =
-    cond (was 20 r || its S 24 r) 1
-    (cond (was 21 r) 2 (cond (its D 22 r) 3 (cond (its E 22 r) 4 0)))
+    cond (was 20 r || its S 24 r) (Some Rate)
+    (cond (was 21 r) (Some Running) (cond (its D 22 r) (Some FinalOfD) (cond (its E 22 r) (Some FinalOfE) None)))
+
+abbrev pub place_number : Place → ℕ
+place_number Rate = 1
+place_number Running = 2
+place_number FinalOfD = 3
+place_number FinalOfE = 4
+
+-- whether a figure is kept at a place
+abbrev pub is_at : Place → Option Place → Bool
+is_at p None = false
+is_at p (Some q) = eqb (place_number p) (place_number q)

@@ -3,18 +3,18 @@
 // Services are numbered 1 S, 2 D, 3 E. Phases: 0 Idle, 1 Establishment, 2 Active, 3 Clearing, 4 Ended, 5 Suspended.
 #![tactic(auto)]
 
-ghost use Rattle.std.specs.Prelude.{◌≡◌, not, ◌&&◌, eqb};
+ghost use Rattle.std.specs.Prelude.{◌≡◌};
+ghost use Rattle.requests.specs.Advice.{service_number, number_or_none};
 ghost use Rattle.phases.specs.Phases.{outcome};
 ghost use Rattle.outcomes.specs.Outcome.{service_of, holder_of, judge_final, judge_failure, invoke_service, its};
 ghost use Rattle.outcomes.specs.Status.{requests_of, first_figure, noted, place_of};
 ghost use Rattle.outcomes.specs.inner.ByNumber.{runs_by, closes_by, claim_figure, claim_invoke, fits_by, claim_result, claim_frame, claim_record};
-ghost use Rattle.types.specs.Stored.{with_list};
 
 use phases::{Outcome, Status, no_service, outcome_of};
-use requests::service;
-use types::{Charge, Front, charge_kind, frame, operation};
+use requests::{Advice, service};
+use types::{Charge, Entries, Figure, Front, charge_kind, frame, operation};
 
-// The outcomes of a component, each by its name in include/aoc.h.
+// The outcomes of a component, each by its name in include/aoc.h. Numbers and no enum: C reads them in `Outcome`.
 pub const NEW_RATE: u8 = 20;
 
 pub const NEW_RUNNING: u8 = 21;
@@ -41,63 +41,67 @@ pub const MISFIT: u8 = 31;
 
 pub const NOT_OURS: u8 = 32;
 
-// Where an account keeps the figure of a component, if at all.
-pub mod place {
-    pub const NONE: u16 = 0;
-
-    pub const RATE: u16 = 1;
-
-    pub const RUNNING: u16 = 2;
-
-    pub const D_FINAL: u16 = 3;
-
-    pub const E_FINAL: u16 = 4;
+// Where an account keeps the figure of a component.
+#[derive(Clone, Copy, PartialEq, Eq)]
+pub enum Place {
+    Rate,
+    Running,
+    FinalOfD,
+    FinalOfE,
 }
 
 // ---- the outcome of a component, but for comparing finals: one that is claimed is 22
 
-fn service_of(operation: u8) -> u8
-    ensures { result ≡ service_of operation }
+fn service_of(operation: u8) -> Advice
+    ensures { service_number result ≡ service_of operation }
 {
     if operation <= operation::S_SPECIAL {
-        return service::S;
+        return Advice::S;
     }
     if operation <= operation::D_UNITS {
-        return service::D;
+        return Advice::D;
     }
-    service::E
+    Advice::E
 }
 
-fn runs(phase: u8, service: u8, kind: u8, total: u8) -> bool
-    ensures { result ≡ runs_by phase service kind total }
+fn of_service(n: u8, service: Advice) -> Outcome
+    ensures { result ≡ outcome n (service_number service) }
 {
+    outcome_of(n, service as u8)
+}
+
+fn runs(phase: u8, service: Advice, kind: u8, total: u8) -> bool
+    ensures { result ≡ runs_by phase (service_number service) kind total }
+{
+    if service != Advice::D {
+        return false;
+    }
     if kind == charge_kind::FREE {
-        return service == service::D && (phase == phases::ESTABLISHMENT || phase == phases::ACTIVE);
+        return phase == phases::ESTABLISHMENT || phase == phases::ACTIVE;
     }
-    service == service::D && (total == 0 && phase == phases::ACTIVE)
+    total == 0 && phase == phases::ACTIVE
 }
 
-fn closes(phase: u8, service: u8, kind: u8, total: u8) -> bool
-    ensures { result ≡ closes_by phase service kind total }
+fn closes(phase: u8, service: Advice, kind: u8, total: u8) -> bool
+    ensures { result ≡ closes_by phase (service_number service) kind total }
 {
-    phase == phases::CLEARING
-        && (service == service::E || (kind == charge_kind::FREE || total == 1))
+    phase == phases::CLEARING && (service == Advice::E || kind == charge_kind::FREE || total == 1)
 }
 
 // A figure of a service that has no request pending.
-fn figure_outcome(phase: u8, service: u8, kind: u8, total: u8) -> Outcome
-    ensures { result ≡ claim_figure phase service kind total }
+fn figure_outcome(phase: u8, service: Advice, kind: u8, total: u8) -> Outcome
+    ensures { result ≡ claim_figure phase (service_number service) kind total }
 {
-    if service == service::S {
-        return outcome_of(NEW_RATE, service);
+    if service == Advice::S {
+        return of_service(NEW_RATE, service);
     }
     if runs(phase, service, kind, total) {
-        return outcome_of(NEW_RUNNING, service);
+        return of_service(NEW_RUNNING, service);
     }
     if closes(phase, service, kind, total) {
-        return outcome_of(FINAL, service);
+        return of_service(FINAL, service);
     }
-    outcome_of(OUT_OF_PHASE, service)
+    of_service(OUT_OF_PHASE, service)
 }
 
 fn invoke_outcome(t: Status, operation: u8, kind: u8, total: u8) -> Outcome
@@ -107,66 +111,59 @@ fn invoke_outcome(t: Status, operation: u8, kind: u8, total: u8) -> Outcome
         return no_service(NOT_OURS);
     }
     let service = service_of(operation);
-    if t.asked.has(service) {
-        return outcome_of(IGNORED, service);
+    if t.asked.has(service as u8) {
+        return of_service(IGNORED, service);
     }
     if kind == charge_kind::NONE {
-        return outcome_of(NOT_AVAILABLE, service);
+        return of_service(NOT_AVAILABLE, service);
     }
     figure_outcome(t.phase, service, kind, total)
 }
 
-fn matches(mark: u8, own: u16, id: u16) -> bool
-    ensures { result ≡ not (eqb mark 0) && eqb own id }
-{
-    mark != 0 && own == id
-}
-
 // The service whose pending request has the identifier.
-fn holder(t: Status, id: u16) -> u8
-    ensures { result ≡ holder_of (requests_of t) id }
+fn holder(t: Status, id: u16) -> Option<Advice>
+    ensures { number_or_none result ≡ holder_of (requests_of t) id }
 {
-    let asked = t.asked;
-    if matches(asked.s, t.s, id) {
-        return service::S;
+    if t.asked.has_s() && t.s == id {
+        return Some(Advice::S);
     }
-    if matches(asked.d, t.d, id) {
-        return service::D;
+    if t.asked.has_d() && t.d == id {
+        return Some(Advice::D);
     }
-    if matches(asked.e, t.e, id) {
-        return service::E;
+    if t.asked.has_e() && t.e == id {
+        return Some(Advice::E);
     }
-    service::NONE
+    None
 }
 
-fn fits(service: u8, kind: u8) -> bool
-    ensures { result ≡ fits_by service kind }
+fn fits(service: Advice, kind: u8) -> bool
+    ensures { result ≡ fits_by (service_number service) kind }
 {
-    if service != service::S {
+    if service != Advice::S {
         return kind == charge_kind::NONE;
     }
     kind == charge_kind::RATES || kind == charge_kind::ARRANGEMENT
 }
 
-fn result_outcome(service: u8, kind: u8) -> Outcome
-    ensures { result ≡ claim_result service kind }
+fn result_outcome(holder: Option<Advice>, kind: u8) -> Outcome
+    ensures { result ≡ claim_result (number_or_none holder) kind }
 {
-    if service == service::NONE {
+    let Some(service) = holder else {
         return no_service(NO_REQUEST);
-    }
+    };
     if fits(service, kind) {
-        return outcome_of(GRANTED, service);
+        return of_service(GRANTED, service);
     }
-    outcome_of(MISFIT, service)
+    of_service(MISFIT, service)
 }
 
-fn failure_outcome(service: u8) -> Outcome
-    ensures { result ≡ judge_failure service }
+fn failure_outcome(holder: Option<Advice>) -> Outcome
+    ensures { result ≡ judge_failure (number_or_none holder) }
 {
-    if service == service::NONE {
+    let Some(service) = holder else {
         return no_service(NO_REQUEST);
-    }
-    outcome_of(FAILED, service)
+    };
+    of_service(FAILED, service)
 }
 
 fn frame_outcome(t: Status, f: Front, kind: u8, total: u8) -> Outcome
@@ -175,57 +172,50 @@ fn frame_outcome(t: Status, f: Front, kind: u8, total: u8) -> Outcome
     if f.frame == frame::INVOKE {
         return invoke_outcome(t, f.operation, kind, total);
     }
-    let service = holder(t, f.id);
+    let holder = holder(t, f.id);
     if f.frame == frame::RESULT {
-        return result_outcome(service, kind);
+        return result_outcome(holder, kind);
     }
     if f.unnamed == 1 {
         return no_service(NO_REQUEST);
     }
-    failure_outcome(service)
+    failure_outcome(holder)
 }
 
-// The service of an invoke that is no request, and 0 for any other component.
-fn service_by(f: Front) -> u8
-    ensures { result ≡ invoke_service f }
+// The service of an invoke that is no request; another component has none.
+fn service_by(f: Front) -> Option<Advice>
+    ensures { number_or_none result ≡ invoke_service f }
 {
-    if f.frame != frame::INVOKE {
-        return service::NONE;
+    if f.frame == frame::INVOKE && f.operation != operation::CHARGING_REQUEST {
+        Some(service_of(f.operation))
+    } else {
+        None
     }
-    if f.operation == operation::CHARGING_REQUEST {
-        return service::NONE;
-    }
-    service_of(f.operation)
 }
 
+#[tactic(auto, unfolding(crate::specs::inner::ByNumber::claim_record))]
 pub fn claimed(t: Status, f: Front, kind: u8, total: u8) -> Outcome
     ensures { result ≡ claim_record t.phase (requests_of t) f kind total }
 {
-    if t.phase == phases::SUSPENDED {
-        return outcome_of(OUT_OF_PHASE, service_by(f));
+    if t.phase != phases::SUSPENDED {
+        return frame_outcome(t, f, kind, total);
     }
-    frame_outcome(t, f, kind, total)
+    match service_by(f) {
+        Some(service) => of_service(OUT_OF_PHASE, service),
+        None => no_service(OUT_OF_PHASE),
+    }
 }
 
 // ---- what a component does
 
 // A final, beside the first one of its service. Its charge is put together only where there is one to compare it with.
-pub fn final_outcome(
-    first: Charge,
-    figure: types::Figure,
-    numbers: &[u32; 32],
-    rows: &[u8; 192],
-    service: u8,
-) -> Outcome
-    ensures { result ≡ judge_final (first_figure first) service (with_list figure numbers.now rows.now) }
+pub fn final_outcome(first: Charge, figure: Figure, entries: &Entries, service: u8) -> Outcome
+    ensures { result ≡ judge_final (first_figure first) service (record { figure = figure; entries = entries.now }) }
 {
     if first.figure.kind == charge_kind::NONE {
         return outcome_of(FINAL, service);
     }
-    let entries = types::Entries {
-        numbers: *numbers,
-        octets: *rows,
-    };
+    let entries = *entries;
     if same_final::same(first, Charge { figure, entries }) {
         return outcome_of(REPEATED, service);
     }
@@ -236,20 +226,20 @@ pub fn final_outcome(
 fn settled(mut t: Status, service: u8) -> Status
     ensures { result ≡ noted t (outcome 24 service) }
 {
-    if service == service::S {
-        t.asked.s = 0;
-        t.s = 0;
-        return t;
-    }
-    if service == service::D {
-        t.asked.d = 0;
-        t.d = 0;
-        return t;
-    }
-    if service == service::E {
-        t.asked.e = 0;
-        t.e = 0;
-        return t;
+    match service {
+        service::S => {
+            t.asked.s = 0;
+            t.s = 0;
+        }
+        service::D => {
+            t.asked.d = 0;
+            t.d = 0;
+        }
+        service::E => {
+            t.asked.e = 0;
+            t.e = 0;
+        }
+        _ => {}
     }
     t
 }
@@ -258,14 +248,12 @@ fn settled(mut t: Status, service: u8) -> Status
 pub fn noted(mut t: Status, o: Outcome) -> Status
     ensures { result ≡ noted t o }
 {
-    let number = o.number;
-    match number {
+    match o.number {
         NOT_AVAILABLE => {
             t.absent = t.absent.with(o.service);
             t
         }
-        GRANTED => settled(t, o.service),
-        FAILED => settled(t, o.service),
+        GRANTED | FAILED => settled(t, o.service),
         CONFLICT => {
             t.conflict = t.conflict.with(o.service);
             t
@@ -274,24 +262,16 @@ pub fn noted(mut t: Status, o: Outcome) -> Status
     }
 }
 
-pub fn place_of(o: Outcome) -> u16
+// Where the figure of a component is kept, if it is.
+pub fn place_of(o: Outcome) -> Option<Place>
     ensures { result ≡ place_of o }
 {
-    let number = o.number;
-    let service = o.service;
-    match number {
-        NEW_RATE => place::RATE,
-        NEW_RUNNING => place::RUNNING,
-        FINAL => match service {
-            service::D => place::D_FINAL,
-            service::E => place::E_FINAL,
-            _ => place::NONE,
-        },
-        GRANTED => match service {
-            service::S => place::RATE,
-            _ => place::NONE,
-        },
-        _ => place::NONE,
+    match (o.number, o.service) {
+        (NEW_RATE, _) | (GRANTED, service::S) => Some(Place::Rate),
+        (NEW_RUNNING, _) => Some(Place::Running),
+        (FINAL, service::D) => Some(Place::FinalOfD),
+        (FINAL, service::E) => Some(Place::FinalOfE),
+        _ => None,
     }
 }
 

@@ -4,15 +4,15 @@
 // Services are numbered 1 S, 2 D, 3 E. Phases: 0 Idle, 1 Establishment, 2 Active, 3 Clearing, 4 Ended, 5 Suspended.
 #![tactic(auto)]
 
-ghost use Rattle.std.specs.Prelude.{◌≡◌, ◌&&◌, eqb, ℕ};
+ghost use Rattle.std.specs.Prelude.{◌≡◌, ◌&&◌, eqb};
 ghost use Rattle.requests.specs.Sets.{empty_set};
 ghost use Rattle.phases.specs.Phases.{clash, asking, clashes, moved, outcome, no_service};
-ghost use Rattle.phases.specs.inner.ByNumber.{next_phase, moving, moving_of};
+ghost use Rattle.phases.specs.inner.ByNumber.{next_phase, kept, moving, moving_of};
 
 use coding::refusal;
 use requests::{Services, service};
 
-// The phases and the kinds of events, each by its name in include/aoc.h.
+// The phases and the kinds of events, each by its name in include/aoc.h. Numbers and no enum: C passes them in `Status` and `Event`, where a host may have any value.
 pub const IDLE: u8 = 0;
 
 pub const ESTABLISHMENT: u8 = 1;
@@ -126,36 +126,44 @@ pub fn bare(phase: u8) -> Status
     }
 }
 
-// Where each kind of event leads, in hexadecimal: the digit at a phase, counted from the right, is the phase that it leads to from there.
-// 0 means that it is not allowed, since nothing leads to Idle.
-const NEXT: [u32; 8] = [0, 0x1, 0x20, 0x300330, 0x4000, 0x503210, 0x500, 0x200000];
-
-pub fn next_phase(kind: u8, phase: u8) -> u8
+// The phase that an event leads to, if it is allowed.
+#[tactic(auto, unfolding(crate::specs::Phases::allowed, crate::specs::Phases::leads_to))]
+pub fn next_phase(kind: u8, phase: u8) -> Option<u8>
     ensures { result ≡ next_phase kind phase }
 {
-    if kind > 7 {
-        return 0;
+    match (kind, phase) {
+        (SETUP, IDLE) => Some(ESTABLISHMENT),
+        (CONNECT, ESTABLISHMENT) => Some(ACTIVE),
+        (CLEAR, ESTABLISHMENT | ACTIVE | SUSPENDED) => Some(CLEARING),
+        (RELEASED, CLEARING) => Some(ENDED),
+        (SUSPEND, ACTIVE) => Some(SUSPENDED),
+        (RESUME, SUSPENDED) => Some(ACTIVE),
+        (COMPONENT, ESTABLISHMENT | ACTIVE | CLEARING | SUSPENDED) => Some(phase),
+        _ => None,
     }
-    if phase > 7 {
-        return 0;
-    }
-    let row = NEXT[kind as usize];
-    ((row >> ((phase as u32) * 4)) % 16) as u8
+}
+
+// What is asked for a service: the identifier of a request, if its mark is not 0.
+fn request(mark: u8, id: u16) -> Option<u16>
+    ensures { kept result ≡ asking mark id }
+{
+    if mark == 0 { None } else { Some(id) }
 }
 
 // Whether two requests have one identifier.
-fn clash(mark: u8, id: u16, other: u8, its: u16) -> bool
-    ensures { result ≡ clash (asking mark id) (asking other its) }
+fn clash(one: Option<u16>, other: Option<u16>) -> bool
+    ensures { result ≡ clash (kept one) (kept other) }
 {
-    mark != 0 && (other != 0 && id == its)
+    one.is_some() && one == other
 }
 
 fn clashes(e: Event) -> bool
     ensures { result ≡ clashes e }
 {
-    let asked = e.asked;
-    clash(asked.s, e.s, asked.d, e.d)
-        || (clash(asked.s, e.s, asked.e, e.e) || clash(asked.d, e.d, asked.e, e.e))
+    let s = request(e.asked.s, e.s);
+    let d = request(e.asked.d, e.d);
+    let e = request(e.asked.e, e.e);
+    clash(s, d) || clash(s, e) || clash(d, e)
 }
 
 // A Setup with two requests that have one identifier.
@@ -163,19 +171,6 @@ fn bad_setup(e: Event) -> bool
     ensures { result ≡ eqb e.kind 1 && clashes e }
 {
     e.kind == SETUP && clashes(e)
-}
-
-// A mark as it is kept: 1 where something is asked for.
-fn mark_of(mark: u8) -> u8
-    ensures { (id : ℕ) → result ≡ (asking mark id).mark }
-{
-    if mark == 0 { 0 } else { 1 }
-}
-
-fn id_of(mark: u8, id: u16) -> u16
-    ensures { result ≡ (asking mark id).id }
-{
-    if mark == 0 { 0 } else { id }
 }
 
 // The status after a phase event that is not refused, by the phase that it leads to.
@@ -186,35 +181,39 @@ fn moved(mut t: Status, e: Event, phase: u8) -> Status
     if e.kind != SETUP {
         return t;
     }
-    let s = mark_of(e.asked.s);
-    let d = mark_of(e.asked.d);
-    let f = mark_of(e.asked.e);
-    let set = Services { s, d, e: f };
-    t.asked = set;
-    t.s = id_of(e.asked.s, e.s);
-    t.d = id_of(e.asked.d, e.d);
-    t.e = id_of(e.asked.e, e.e);
+    let s = request(e.asked.s, e.s);
+    let d = request(e.asked.d, e.d);
+    let e = request(e.asked.e, e.e);
+    t.asked = Services {
+        s: s.is_some() as u8,
+        d: d.is_some() as u8,
+        e: e.is_some() as u8,
+    };
+    t.s = s.unwrap_or(0);
+    t.d = d.unwrap_or(0);
+    t.e = e.unwrap_or(0);
     t
 }
 
 fn going(number: u8, status: Status) -> Moving
     ensures { result ≡ moving number status }
 {
-    let outcome = no_service(number);
-    Moving { outcome, status }
+    Moving {
+        outcome: no_service(number),
+        status,
+    }
 }
 
 // What an event that is no component changes: it looks at the status alone, and changes no other part.
+#[tactic(auto, unfolding(crate::specs::inner::ByNumber::moving_of))]
 pub fn phase_step(t: Status, e: Event) -> Moving
     ensures { result ≡ moving_of t e }
 {
-    let phase = next_phase(e.kind, t.phase);
-    if phase == IDLE {
+    let Some(phase) = next_phase(e.kind, t.phase) else {
         return going(refusal::WRONG_PHASE, t);
-    }
+    };
     if bad_setup(e) {
         return going(refusal::BAD_SETUP, t);
     }
-    let next = moved(t, e, phase);
-    going(0, next)
+    going(0, moved(t, e, phase))
 }

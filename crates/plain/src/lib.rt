@@ -2,7 +2,7 @@
 #![tactic(auto)]
 
 ghost use Rattle.std.specs.Prelude.{◌≡◌, length, eqb};
-ghost use Rattle.outcomes.specs.Status.{place_of};
+ghost use Rattle.outcomes.specs.Status.{place_of, is_at};
 ghost use Rattle.events.specs.Events.{adds_up};
 ghost use Rattle.account.specs.History.{last};
 ghost use Rattle.plain_lists.specs.Lists.{history};
@@ -10,7 +10,7 @@ ghost use Rattle.plain.specs.Answers.{plain_outcome, plain_phase, plain_pending,
 
 use account::{Closing, Marks, Pending};
 use coding::refusal;
-use outcomes::place;
+use outcomes::Place;
 use phases::Outcome;
 use plain_lists::NO_OUTCOME;
 use requests::Services;
@@ -140,8 +140,8 @@ pub fn pending(rows: &[u16], octets: &[u8]) -> PlainPending
 }
 
 // The charge that is kept at a place.
-fn kept(rows: &[u16], octets: &[u8], place: u16) -> PlainCharge
-    ensures { result ≡ plain_charge rows.now octets.now (last (λ j. eqb (place_of j.outcome) place) (history rows.now octets.now)) }
+fn kept(rows: &[u16], octets: &[u8], place: Place) -> PlainCharge
+    ensures { result ≡ plain_charge rows.now octets.now (last (λ j. is_at place (place_of j.outcome)) (history rows.now octets.now)) }
 {
     if !is_list(rows, octets) {
         return PlainCharge {
@@ -156,13 +156,13 @@ fn kept(rows: &[u16], octets: &[u8], place: u16) -> PlainCharge
 pub fn rate(rows: &[u16], octets: &[u8]) -> PlainCharge
     ensures { result ≡ plain_current_rate rows.now octets.now }
 {
-    kept(rows, octets, place::RATE)
+    kept(rows, octets, Place::Rate)
 }
 
 pub fn running(rows: &[u16], octets: &[u8]) -> PlainCharge
     ensures { result ≡ plain_running rows.now octets.now }
 {
-    kept(rows, octets, place::RUNNING)
+    kept(rows, octets, Place::Running)
 }
 
 pub fn closing(rows: &[u16], octets: &[u8]) -> PlainClosing

@@ -3,7 +3,8 @@ use Rattle.prelude.proofs.Prelude.{ℕ, suc, ◌-◌, ◌/◌, ◌≤◌, ◌<�
 use Rattle.prelude.proofs.Ways.{by_cases}
 use Rattle.types.specs.{declared.Charge.Charge}
 use Rattle.phases.{specs.declared.Outcome.Outcome, specs.Phases.{S, D, E, Given}, proofs.Choice.by_number}
-use Rattle.outcomes.specs.{Outcome.{charge_in, was, its}, Status.{is_given, place_of}}
+use Rattle.outcomes.specs.{Outcome.{charge_in, was, its}, Status.{is_given, place_of, is_at}}
+use Rattle.outcomes.specs.declared.Place.TheVariants.{Rate, Running, FinalOfD, FinalOfE}
 use Rattle.account.specs.{declared.Closing.Closing, History.{Judged, any, last, phase, final, current_rate, running, closing, no_closing, judged}}
 use Rattle.account.proofs.Demand.{closing_stands}
 use Rattle.events.{specs.Events.events_of, specs.inner.Prefix.{octets_at, before}, proofs.Prefix.all_before}
@@ -37,8 +38,8 @@ last_alike : (t u : Outcome → Bool) → ((r : Outcome) → t r ≡ u r) → (h
 last_alike t u e [] = refl
 last_alike t u e (j ∷ h) = ap₂ (λ (b : Bool) (c : Charge). cond b (charge_in j.octets) c) (e j.outcome) (last_alike t u e h)
 
-place_is : (r : Outcome) → (eqb (place_of r) 1 ≡ (was 20 r || its S 24 r)) × (eqb (place_of r) 2 ≡ was 21 r) × (eqb (place_of r) 3 ≡ its D 22 r)
-    × (eqb (place_of r) 4 ≡ its E 22 r)
+place_is : (r : Outcome) → (is_at Rate (place_of r) ≡ (was 20 r || its S 24 r)) × (is_at Running (place_of r) ≡ was 21 r) × (is_at FinalOfD (place_of r) ≡ its D 22 r)
+    × (is_at FinalOfE (place_of r) ≡ its E 22 r)
 place_is r =
     by_number r.number 20 (λ e. rw e (refl, refl, refl, refl)) (λ a.
     by_number r.number 21 (λ e. rw e (refl, refl, refl, refl)) (λ b.
@@ -50,17 +51,17 @@ place_is r =
     (λ d. rw (a, b, c, d) (refl, refl, refl, refl)))))
 
 module _ (h : List Judged) where
-  pub rate_kept : last (λ j. eqb (place_of j.outcome) 1) h ≡ current_rate h
-  rate_kept = last_alike (λ r. eqb (place_of r) 1) (λ r. was 20 r || its S 24 r) (λ r. (place_is r).0) h
+  pub rate_kept : last (λ j. is_at Rate (place_of j.outcome)) h ≡ current_rate h
+  rate_kept = last_alike (λ r. is_at Rate (place_of r)) (λ r. was 20 r || its S 24 r) (λ r. (place_is r).0) h
 
-  pub running_kept : last (λ j. eqb (place_of j.outcome) 2) h ≡ running h
-  running_kept = last_alike (λ r. eqb (place_of r) 2) (was 21) (λ r. (place_is r).1) h
+  pub running_kept : last (λ j. is_at Running (place_of j.outcome)) h ≡ running h
+  running_kept = last_alike (λ r. is_at Running (place_of r)) (was 21) (λ r. (place_is r).1) h
 
-  d_kept : last (λ j. eqb (place_of j.outcome) 3) h ≡ final D h
-  d_kept = last_alike (λ r. eqb (place_of r) 3) (its D 22) (λ r. (place_is r).2) h
+  d_kept : last (λ j. is_at FinalOfD (place_of j.outcome)) h ≡ final D h
+  d_kept = last_alike (λ r. is_at FinalOfD (place_of r)) (its D 22) (λ r. (place_is r).2) h
 
-  e_kept : last (λ j. eqb (place_of j.outcome) 4) h ≡ final E h
-  e_kept = last_alike (λ r. eqb (place_of r) 4) (its E 22) (λ r. (place_is r).3) h
+  e_kept : last (λ j. is_at FinalOfE (place_of j.outcome)) h ≡ final E h
+  e_kept = last_alike (λ r. is_at FinalOfE (place_of r)) (its E 22) (λ r. (place_is r).3) h
 
 -- ---- the closing figure, by the phase and what is kept at the places 4 and 3
 
@@ -68,6 +69,6 @@ abbrev pub closing_by : ℕ → Charge → Charge → Closing
 closing_by p e d =
     cond (eqb p 4) (cond (is_given e) (record { service = E; value = e }) (cond (is_given d) (record { service = D; value = d }) no_closing)) no_closing
 
-pub closing_kept : (l : List Given) {p : ℕ} {e d : Charge} → p ≡ phase (judged l) → e ≡ last (λ j. eqb (place_of j.outcome) 4) (judged l)
-    → d ≡ last (λ j. eqb (place_of j.outcome) 3) (judged l) → closing_by p e d ≡ closing (judged l)
+pub closing_kept : (l : List Given) {p : ℕ} {e d : Charge} → p ≡ phase (judged l) → e ≡ last (λ j. is_at FinalOfE (place_of j.outcome)) (judged l)
+    → d ≡ last (λ j. is_at FinalOfD (place_of j.outcome)) (judged l) → closing_by p e d ≡ closing (judged l)
 closing_kept l met by-e by-d = rw (met, by-e ∙ e_kept (judged l), by-d ∙ d_kept (judged l)) (closing_stands l)

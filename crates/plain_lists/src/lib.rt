@@ -4,14 +4,14 @@
 ghost use Rattle.std.specs.Prelude.{◌≡◌, true, [], length, eqb};
 ghost use Rattle.types.specs.Charges.{flag};
 ghost use Rattle.outcomes.specs.Outcome.{its};
-ghost use Rattle.outcomes.specs.Status.{place_of};
+ghost use Rattle.outcomes.specs.Status.{place_of, is_at};
 ghost use Rattle.events.specs.Events.{adds_up, events_of};
 ghost use Rattle.account.specs.History.{any, last, phase, closing, no_closing};
 ghost use Rattle.plain_lists.specs.inner.Marked.{told_set};
 ghost use Rattle.plain_lists.specs.Lists.{outcome_at, history};
 
 use account::Closing;
-use outcomes::place;
+use outcomes::Place;
 use phases::Outcome;
 use requests::{Services, closing_service, service};
 use types::{Charge, charge_kind};
@@ -24,16 +24,21 @@ pub const NO_OUTCOME: Outcome = Outcome {
 
 // ---- what is kept and what was reported
 
-// The charge of the last event whose outcome keeps it at a place: 1 the rate, 2 the running figure, 3 the final of D, 4 the final of E.
-pub fn last_kept(rows: &[u16], octets: &[u8], place: u16) -> Charge
-    requires { adds_up rows.now (length octets.now) ≡ true }
-    ensures { result ≡ last (λ j. eqb (place_of j.outcome) place) (history rows.now octets.now) }
+// Whether an outcome keeps its charge at a place.
+fn is_at(place: Place, o: Outcome) -> bool
+    ensures { result ≡ is_at place (place_of o) }
 {
-    let mut i = rows.len() / 6;
-    while i > 0 {
-        i -= 1;
+    outcomes::place_of(o) == Some(place)
+}
+
+// The charge of the last event whose outcome keeps it at a place.
+pub fn last_kept(rows: &[u16], octets: &[u8], place: Place) -> Charge
+    requires { adds_up rows.now (length octets.now) ≡ true }
+    ensures { result ≡ last (λ j. is_at place (place_of j.outcome)) (history rows.now octets.now) }
+{
+    for i in (0..rows.len() / 6).rev() {
         let o = plain_scans::outcome_at(rows, octets, i);
-        if outcomes::place_of(o) == place {
+        if is_at(place, o) {
             return plain_scans::charge_at(rows, octets, i);
         }
     }
@@ -45,9 +50,7 @@ fn told(rows: &[u16], octets: &[u8], service: u8, number: u8) -> u8
     requires { adds_up rows.now (length octets.now) ≡ true }
     ensures { result ≡ flag (any (λ j. its service number j.outcome) (history rows.now octets.now)) }
 {
-    let mut i = rows.len() / 6;
-    while i > 0 {
-        i -= 1;
+    for i in (0..rows.len() / 6).rev() {
         let o = plain_scans::outcome_at(rows, octets, i);
         if outcomes::is_its(o, service, number) {
             return 1;
@@ -92,14 +95,14 @@ pub fn closing_in(rows: &[u16], octets: &[u8]) -> Closing
     if phase_in(rows, octets) != phases::ENDED {
         return no_closing();
     }
-    let e = last_kept(rows, octets, place::E_FINAL);
+    let e = last_kept(rows, octets, Place::FinalOfE);
     if e.figure.kind != charge_kind::NONE {
         return Closing {
             service: closing_service::E,
             value: e,
         };
     }
-    let d = last_kept(rows, octets, place::D_FINAL);
+    let d = last_kept(rows, octets, Place::FinalOfD);
     if d.figure.kind != charge_kind::NONE {
         return Closing {
             service: closing_service::D,

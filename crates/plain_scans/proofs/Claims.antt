@@ -1,15 +1,24 @@
 -- What the scans test is what the rules of outcomes say: an outcome of a service hangs on that service's request alone.
 use Rattle.prelude.proofs.Prelude.{ℕ, ◌≡◌, refl, sym, ◌∙◌, List, Bool, true, false, not, ◌&&◌, cond, eqb, eqb-true, eq-eqb, ne_eqb, and-false, ◌≤◌, leb, arith}
+use Rattle.std.specs.Prelude.{Option, is_some}
 use Rattle.prelude.proofs.Ways.{by_cases}
 use Rattle.types.specs.{declared.Charge.Charge, declared.Front.Front, Frames.read_of}
 use Rattle.requests.specs.Sets.{has}
 use Rattle.phases.specs.{declared.Event.Event, declared.Outcome.Outcome, Phases.{Suspended, Setup, Component, S, no_service, allowed, clashes, Request, clash}}
-use Rattle.phases.{proofs.Choice.{by_number, never, first_of, second_of}, specs.inner.ByNumber.moving_of}
+use Rattle.phases.{proofs.Choice.{by_number, never, first_of, second_of}, specs.inner.ByNumber.{moving_of, next_phase}}
 use Rattle.outcomes.specs.Outcome.{service_of, Requests, holder_of, Known, first_final, judge_failure, judge, charge_in, was, its, settles, is_refusal}
 use Rattle.outcomes.specs.inner.ByNumber.{runs_by, closes_by, fits_by, claim_figure, claim_invoke, claim_result, claim_frame, claim_record, compared}
 use Rattle.outcomes.proofs.{Refusals.{decoding_refusal, apart}, Claims.resolves}
 use Rattle.plain_rules.specs.inner.Deciding.{bare, sole}
 use Rattle.plain_scans.specs.inner.Claim.{three, claim_of}
+
+-- where an event leads nowhere it is not allowed
+module _ (k p : ℕ) {n : Option ℕ} (q : n ≡ next_phase k p) {b : Bool} (s : is_some n ≡ not b) where
+  pub not_allowed : b ≡ true → allowed k p ≡ false
+  not_allowed h = by_cases (allowed k p) (λ t. never (sym (rw (q, t, h) at s))) (λ t. t)
+
+  pub is_allowed : b ≡ false → allowed k p ≡ true
+  is_allowed h = by_cases (allowed k p) (λ t. t) (λ t. never (rw (q, t, h) at s))
 
 by_way : (P : Outcome → Type 0) (b : Bool) (x y : Outcome) → P x → P y → P (cond b x y)
 by_way P true x y p q = p

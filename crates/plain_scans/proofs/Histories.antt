@@ -1,7 +1,7 @@
 -- What the places found by the scans say of a history.
 use Rattle.prelude.proofs.Prelude.{ℕ, zero, suc, ◌+◌, ◌≤◌, ◌≡◌, refl, sym, ◌∙◌, ap, List, [], ◌∷◌, Bool, true, false, not, ◌&&◌, ◌||◌, cond, eqb, ltb, eqb-true}
 use Rattle.prelude.proofs.{Prelude.{eqb-false, eq-eqb, and-false, arith, ltb-true, ltb-false}, Ways.{by_cases, the_second}}
-use Rattle.phases.specs.{declared.Event.Event, Phases.{Idle, Setup, Component, S, D, E, Given, outcome, no_service, allowed, leads_to, clashes, Request}}
+use Rattle.phases.specs.{declared.Event.Event, Phases.{Idle, Setup, Component, S, D, E, Given, no_service, allowed, leads_to, clashes, Request}}
 use Rattle.phases.{specs.Phases.{no_request, request_for, clash}, proofs.Choice.{if_same, by_number, never, first_of, second_of}, proofs.Transitions.to_idle}
 use Rattle.phases.proofs.Transitions.{from_idle, setup_idle, component_stays}
 use Rattle.requests.specs.Sets.{has}

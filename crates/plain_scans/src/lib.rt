@@ -26,12 +26,10 @@ pub fn phase_before(rows: &[u16], k: usize) -> u8
     requires { k ≤ length rows.now / 6 }
     ensures { (o : List ℕ) → result ≡ phase (judged (before rows.now o k)) }
 {
-    let mut phase: u8 = phases::IDLE;
-    let mut i: usize = 0;
-    while i < k {
+    let mut phase = phases::IDLE;
+    for i in 0..k {
         let e = events::row_at(rows, i);
         phase = plain_rules::passed(phase, e);
-        i += 1;
     }
     phase
 }
@@ -43,13 +41,11 @@ fn setup_before(rows: &[u16], k: usize) -> Event
     requires { k ≤ length rows.now / 6 }
     ensures { (o : List ℕ) → Asks (judged (before rows.now o k)) result }
 {
-    let mut i: usize = 0;
-    while i < k {
+    for i in 0..k {
         let e = events::row_at(rows, i);
         if plain_rules::passed(phases::IDLE, e) != phases::IDLE {
             return e;
         }
-        i += 1;
     }
     phases::bare_event(0)
 }
@@ -63,7 +59,7 @@ fn claim(t: Status, kind: u8, octets: &[u8]) -> Outcome
     if kind != phases::COMPONENT {
         return no_service(refusal::WRONG_PHASE);
     }
-    if phases::next_phase(kind, t.phase) == phases::IDLE {
+    if phases::next_phase(kind, t.phase).is_none() {
         return no_service(refusal::WRONG_PHASE);
     }
     let a = read::read(octets);
@@ -89,10 +85,9 @@ fn first_before(
     requires { Scan rows.now octets.now k × (1 ≤ service) × (service ≤ 3) × Requested finals rows.now octets.now k service q place }
     ensures { FirstAt (λ j. sought finals service j.outcome) rows.now octets.now k result }
 {
-    let mut phase: u8 = phases::IDLE;
+    let mut phase = phases::IDLE;
     let mut at: usize = 0;
-    let mut i: usize = 0;
-    while i < k {
+    for i in 0..k {
         let end = at + events::count_at(rows, i);
         let e = events::row_at(rows, i);
         let p = plain_rules::until(q, place, i);
@@ -103,7 +98,6 @@ fn first_before(
         }
         phase = plain_rules::passed(phase, e);
         at = end;
-        i += 1;
     }
     k
 }
@@ -158,10 +152,8 @@ fn place_of(rows: &[u16], k: usize, total: usize) -> usize
     ensures { result ≡ place_at rows.now k }
 {
     let mut at: usize = 0;
-    let mut i: usize = 0;
-    while i < k {
+    for i in 0..k {
         at += events::count_at(rows, i);
-        i += 1;
     }
     at
 }

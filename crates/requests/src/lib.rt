@@ -37,7 +37,7 @@ pub fn three_identifiers(last: u16) -> Three
     Three { s, d, e }
 }
 
-// The services' numbers, each by its name in include/aoc.h; another number is no service.
+// The services' numbers, each by its name in include/aoc.h; another number is no service. C passes them in `Outcome` and to `aoc_with_service`.
 pub mod service {
     pub const NONE: u8 = 0;
 
@@ -46,6 +46,14 @@ pub mod service {
     pub const D: u8 = 2;
 
     pub const E: u8 = 3;
+}
+
+// A service, as functions have it that C does not call: advice of charge at the setup, during the call, or at its end.
+#[derive(Clone, Copy, PartialEq, Eq)]
+pub enum Advice {
+    S = 1,
+    D = 2,
+    E = 3,
 }
 
 // The service of a closing figure.
@@ -76,6 +84,7 @@ impl Services {
         Services::EMPTY
     }
 
+    // A function for each service: document 01 asks for them, and for EMPTY, by name (docs/DECISIONS.md, part 1).
     pub fn with_s(mut self) -> Self
         ensures { result ≡ with self 1 }
     {

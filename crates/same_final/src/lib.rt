@@ -10,43 +10,28 @@ use types::{Charge, Entries, charge_kind};
 pub fn places(count: u32, most: usize) -> usize
     ensures { (result ≡ up_to most count) × (result ≤ most) }
 {
-    let n = count as usize;
-    if n <= most { n } else { most }
+    most.min(count as usize)
 }
 
-// The first entries of two lists of units.
+// Whether the first entries of two lists of units are the same. Only those: the places after the count may differ (`equal_units`).
 fn same_entries(a: Entries, b: Entries, count: u8) -> bool
     ensures { result ≡ equal_units a b count }
 {
     let n = places(count as u32, 32);
-    let mut i: usize = 0;
-    while i < n {
-        let at = 2 * i;
-        let next = at + 1;
-        if a.numbers[i] != b.numbers[i] {
-            return false;
-        }
-        if a.octets[at] != b.octets[at] {
-            return false;
-        }
-        if a.octets[next] != b.octets[next] {
-            return false;
-        }
-        i += 1;
-    }
-    true
+    a.numbers[..n] == b.numbers[..n] && a.octets[..2 * n] == b.octets[..2 * n]
 }
 
+// Whether two finals are the same. No derived `==`: billing and association are not compared (`same_of`).
+#[tactic(auto, unfolding(crate::specs::Same::same_of))]
 pub fn same(a: Charge, b: Charge) -> bool
     ensures { result ≡ same_of a b }
 {
     let f = a.figure;
     let g = b.figure;
-    let kind = f.kind;
-    if kind != g.kind {
+    if f.kind != g.kind {
         return false;
     }
-    match kind {
+    match f.kind {
         charge_kind::FREE => true,
         charge_kind::MONEY => amounts::same_money(f.money, g.money),
         charge_kind::UNITS => f.count == g.count && same_entries(a.entries, b.entries, f.count),

@@ -4,35 +4,33 @@
 ghost use Rattle.std.specs.Prelude.{◌≡◌, List};
 ghost use Rattle.phases.specs.Phases.{Given, event};
 ghost use Rattle.account.specs.History.{judged, account_by, stepped, stepped_by};
-ghost use Rattle.account.specs.Step.{stepped_of};
+ghost use Rattle.account.specs.Step.{put, stepped_of};
 ghost use Rattle.account.specs.Events.{Took};
 
-use account::{Account, Stepped};
-use outcomes::place;
+use account::{Account, Change, Stepped};
+use outcomes::Place;
 use phases::{Event, Outcome};
+
+// Stores what an event changes.
+fn put(a: &mut Account, w: &Change)
+    ensures { a.new ≡ put a.old w.now }
+{
+    a.status = w.status;
+    match w.place {
+        Some(Place::Rate) => a.rate = w.charge,
+        Some(Place::Running) => a.running = w.charge,
+        Some(Place::FinalOfD) => a.dfinal = w.charge,
+        Some(Place::FinalOfE) => a.efinal = w.charge,
+        None => {}
+    }
+}
 
 // The account is the host's, and the step updates it there.
 pub fn step_in(a: &mut Account, e: Event, octets: &[u8]) -> Outcome
     ensures { Took a.old e octets.now (stepped result a.new) }
 {
     let w = step_rules::step(*a, e, octets);
-    a.status = w.status;
-    if w.place == place::RATE {
-        a.rate = w.charge;
-        return w.outcome;
-    }
-    if w.place == place::RUNNING {
-        a.running = w.charge;
-        return w.outcome;
-    }
-    if w.place == place::D_FINAL {
-        a.dfinal = w.charge;
-        return w.outcome;
-    }
-    if w.place == place::E_FINAL {
-        a.efinal = w.charge;
-        return w.outcome;
-    }
+    put(a, &w);
     w.outcome
 }
 

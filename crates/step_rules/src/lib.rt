@@ -1,59 +1,51 @@
 // Finds what one event of a call changes, by value.
 #![tactic(auto)]
 
-ghost use Rattle.std.specs.Prelude.{◌≡◌, List};
+ghost use Rattle.std.specs.Prelude.{◌≡◌, List, None};
 ghost use Rattle.types.specs.Arguments.{no_charge};
 ghost use Rattle.types.specs.Frames.{read_of};
 ghost use Rattle.phases.specs.Phases.{no_service, Given, event};
-ghost use Rattle.types.specs.Stored.{with_list};
 ghost use Rattle.account.specs.History.{judged, account_by, stepped_by};
 ghost use Rattle.account.specs.Step.{change_of, changed};
 ghost use Rattle.step_rules.specs.inner.Inner.{resolved, taken};
 
 use account::{Account, Change, no_charge};
 use coding::refusal;
-use outcomes::{claimed, final_outcome, noted, place, place_of};
+use outcomes::{claimed, final_outcome, noted, place_of};
 use phases::{Event, Outcome, Status, next_phase, phase_step};
 use requests::service;
-use types::Charge;
+use types::{Charge, Entries, Figure};
 
 // ---- what a component does
 
-fn resolved(
-    a: Account,
-    o: Outcome,
-    figure: types::Figure,
-    numbers: &[u32; 32],
-    rows: &[u8; 192],
-) -> Outcome
-    ensures { result ≡ resolved a o (with_list figure numbers.now rows.now) }
+fn resolved(a: Account, o: Outcome, figure: Figure, entries: &Entries) -> Outcome
+    ensures { result ≡ resolved a o (record { figure = figure; entries = entries.now }) }
 {
     if o.number != outcomes::FINAL {
         return o;
     }
-    if o.service == service::D {
-        let first = a.dfinal;
-        return final_outcome(first, figure, numbers, rows, o.service);
-    }
-    let first = a.efinal;
-    final_outcome(first, figure, numbers, rows, o.service)
+    let first = if o.service == service::D {
+        a.dfinal
+    } else {
+        a.efinal
+    };
+    final_outcome(first, figure, entries, o.service)
 }
 
 // A change that keeps no figure.
 fn still(outcome: Outcome, status: Status) -> Change
-    ensures { result ≡ record { outcome = outcome; place = 0; status = status; charge = no_charge } }
+    ensures { result ≡ record { outcome = outcome; place = None; status = status; charge = no_charge } }
 {
-    let charge = no_charge();
     Change {
         outcome,
-        place: place::NONE,
+        place: None,
         status,
-        charge,
+        charge: no_charge(),
     }
 }
 
 fn plain(number: u8, status: Status) -> Change
-    ensures { result ≡ record { outcome = no_service number; place = 0; status = status; charge = no_charge } }
+    ensures { result ≡ record { outcome = no_service number; place = None; status = status; charge = no_charge } }
 {
     still(phases::no_service(number), status)
 }
@@ -61,11 +53,19 @@ fn plain(number: u8, status: Status) -> Change
 fn taken(a: Account, octets: &[u8]) -> Change
     ensures { result ≡ taken a (read_of octets.now) }
 {
-    let mut lent: [u8; 8] = [0; 8];
-    let mut stored: [u8; 48] = [0; 48];
-    let mut numbers: [u32; 32] = [0; 32];
-    let mut rows: [u8; 192] = [0; 192];
-    let answer = read::read_into(octets, &mut lent, &mut stored, &mut numbers, &mut rows);
+    let mut lent = [0; 8];
+    let mut stored = [0; 48];
+    let mut entries = Entries {
+        numbers: [0; 32],
+        octets: [0; 192],
+    };
+    let answer = read::read_into(
+        octets,
+        &mut lent,
+        &mut stored,
+        &mut entries.numbers,
+        &mut entries.octets,
+    );
     let t = a.status;
     if answer.number != 0 {
         return plain(answer.number as u8, t);
@@ -73,22 +73,16 @@ fn taken(a: Account, octets: &[u8]) -> Change
     let figure = types_parts::figure_of(&stored);
     let front = types_parts::front_of(&lent);
     let claim = claimed(t, front, figure.kind, figure.total);
-    let outcome = resolved(a, claim, figure, &numbers, &rows);
+    let outcome = resolved(a, claim, figure, &entries);
     let status = noted(t, outcome);
-    let place = place_of(outcome);
-    if place == place::NONE {
-        return still(outcome, status);
-    }
-    let entries = types::Entries {
-        numbers,
-        octets: rows,
-    };
-    let charge = Charge { figure, entries };
-    Change {
-        outcome,
-        place,
-        status,
-        charge,
+    match place_of(outcome) {
+        None => still(outcome, status),
+        Some(place) => Change {
+            outcome,
+            place: Some(place),
+            status,
+            charge: Charge { figure, entries },
+        },
     }
 }
 
@@ -102,11 +96,9 @@ pub fn step(a: Account, e: Event, octets: &[u8]) -> Change
     let t = a.status;
     if e.kind != phases::COMPONENT {
         let m = phase_step(t, e);
-        let status = m.status;
-        return still(m.outcome, status);
+        return still(m.outcome, m.status);
     }
-    let phase = next_phase(e.kind, t.phase);
-    if phase == phases::IDLE {
+    if next_phase(e.kind, t.phase).is_none() {
         return plain(refusal::WRONG_PHASE, t);
     }
     taken(a, octets)

@@ -193,19 +193,16 @@ fn put_trace(
     requires { (lengths_add_up pairs.now (length octets.now) ≡ true) × (all_framed (messages_of pairs.now octets.now) ≡ true) × Rooms rows.old out.old p (trace_from call false (messages_of pairs.now octets.now)) }
     ensures { Puts rows.old rows.new out.old out.new p (trace_from call false (messages_of pairs.now octets.now)) result }
 {
-    let n = pairs.len() / 2;
     let mut q = p;
     let mut cleared = false;
     let mut at: usize = 0;
-    let mut i: usize = 0;
-    while i < n {
+    for i in 0..pairs.len() / 2 {
         let end = at + trace_framing::size(pairs[i * 2]);
         let network = pairs[i * 2 + 1] != 0;
         q = put_next(rows, out, q, &octets[at..end], network, cleared, call);
         let over = trace_messages::cleared_by(&octets[at..end], call, cleared);
         cleared = over;
         at = end;
-        i += 1;
     }
     q
 }

@@ -3,6 +3,8 @@ use Rattle.prelude.proofs.Prelude.{◌≡◌, refl, sym, ap, ◌∙◌, ℕ, zer
 use Rattle.prelude.proofs.Prelude.{take, drop, get_or, leb, eqb}
 use Rattle.prelude.proofs.{Prelude.{le-leb, lt-leb, leb-true, eq-eqb, ne_eqb, List·getD-eq-default}, Ways.by_cases}
 use Rattle.coding.proofs.Basic.{and_left, and_right}
+use Rattle.std.specs.Prelude.{None, Some}
+use Rattle.trace_framing.specs.Framing.{numbered, framed_verdict, judged_so}
 use Rattle.trace_framing.specs.Framing.{element_end, elements_fit, fit_from, Elements, headed, framed, message, message_length, by_network, lengths_fit, lengths_add_up, messages_from, messages_of, messages_left, first_unframed, Passing}
 
 -- ---- elements
@@ -151,3 +153,17 @@ framed_head s f =
     let h = and_left (headed s) _ f in
     let b = and_right (eqb (get_or s 0 0) 0x08) _ (and_right (leb 3 (length s)) _ h) in
     ((headed_long s h).0, (headed_long s h).1, leb-true (get_or s 1 0) 2 (and_left (leb (get_or s 1 0) 2) _ b))
+
+-- ---- the first message that is not framed
+
+pub numbered_some : {n : ℕ} (i : ℕ) → i + 1 ≡ n → Some (i + 1) ≡ numbered n
+numbered_some i e = rw (← e, ne_eqb (i + 1) 0 (λ x. omega arith))
+
+pub numbered_none : {n : ℕ} → n ≡ 0 → None ≡ numbered n
+numbered_none e = rw e
+
+pub verdict_none : (n : ℕ) → None ≡ numbered n → framed_verdict n ≡ judged_so 0 0
+verdict_none n e = by_cases (eqb n 0) (λ q. rw q) (λ q. let z : None ≡ Some n = rw q at e in absurd cc)
+
+pub verdict_some : (n m : ℕ) → Some m ≡ numbered n → framed_verdict n ≡ judged_so 49 m
+verdict_some n m e = by_cases (eqb n 0) (λ q. let z : Some m ≡ None = rw q at e in absurd cc) (λ q. let z : Some m ≡ Some n = rw q at e in let k : n ≡ m = cc in rw q (ap (judged_so 49) k))

@@ -1,5 +1,5 @@
 -- One layer 3 message: 08; 00, or 01 or 02 with that many reference octets; a type octet; elements to the exact end. And a trace of them.
-use Rattle.std.specs.Prelude.{ℕ, zero, suc, ◌+◌, ◌-◌, ◌*◌, ◌/◌, ◌%◌, ◌≤◌, ◌≡◌, List, [], ◌∷◌, Bool, true, false, not, ◌&&◌, cond, length, get_or, take, drop, eqb, leb}
+use Rattle.std.specs.Prelude.{ℕ, zero, suc, ◌+◌, ◌-◌, ◌*◌, ◌/◌, ◌%◌, ◌≤◌, ◌≡◌, List, [], ◌∷◌, Option, None, Some, Bool, true, false, not, ◌&&◌, cond, length, get_or, take, drop, eqb, leb}
 use Rattle.trace_framing.specs.declared.TraceVerdict.{TraceVerdict}
 
 -- ---- one message
@@ -67,6 +67,10 @@ messages_of pairs octets = messages_from pairs octets 0 (length pairs / 2) 0
 abbrev pub first_unframed : ℕ → List Message → ℕ
 first_unframed n [] = 0
 first_unframed n (m ∷ l) = cond (framed m.octets) (first_unframed (n + 1) l) n
+
+-- that number, if there is such a message
+abbrev pub numbered : ℕ → Option ℕ
+numbered n = cond (eqb n 0) None (Some n)
 
 abbrev pub judged_so : ℕ → ℕ → TraceVerdict
 judged_so number message = record { number = number; message = message }

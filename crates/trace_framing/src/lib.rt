@@ -4,7 +4,7 @@
 #![tactic(auto)]
 
 ghost use Rattle.std.specs.Prelude.{◌≡◌, true, ◌≤◌, ◌<◌, ◌/◌, length};
-ghost use Rattle.trace_framing.specs.Framing.{element_end, fit_from, headed, framed, lengths_fit, lengths_add_up, messages_of, first_unframed, verdict_of};
+ghost use Rattle.trace_framing.specs.Framing.{element_end, fit_from, headed, framed, lengths_fit, lengths_add_up, messages_of, first_unframed, numbered, verdict_of};
 
 use coding::refusal;
 
@@ -31,11 +31,10 @@ pub fn element_end(s: &[u8], at: usize) -> usize
     if s[at] >= 0x80 {
         return at + 1;
     }
-    let next = at + 1;
-    if next < s.len() {
-        return at + 2 + octets::wide(s[next]);
+    match s.get(at + 1) {
+        Some(&n) => at + 2 + usize::from(n),
+        None => at + 2,
     }
-    at + 2
 }
 
 // Whether elements fill the octets from a place to the exact end.
@@ -61,6 +60,7 @@ fn is_headed(s: &[u8]) -> bool
     s.len() >= 3 && (s[0] == 0x08 && (s[1] <= 2 && 3 + octets::wide(s[1]) <= s.len()))
 }
 
+#[tactic(auto, unfolding(crate::specs::Framing::framed))]
 fn is_framed(s: &[u8]) -> bool
     ensures { result ≡ framed s.now }
 {
@@ -78,43 +78,38 @@ pub fn size(n: u32) -> usize
 fn lengths_fit(pairs: &[u32], total: usize) -> bool
     ensures { result ≡ lengths_fit pairs.now 0 (length pairs.now / 2) total }
 {
-    let n = pairs.len() / 2;
     let mut left = total;
-    let mut i: usize = 0;
-    while i < n {
+    for i in 0..pairs.len() / 2 {
         let count = size(pairs[i * 2]);
         if left < count {
             return false;
         }
         left -= count;
-        i += 1;
     }
     left == 0
 }
 
+#[tactic(auto, unfolding(crate::specs::Framing::lengths_add_up))]
 fn adds_up(pairs: &[u32], total: usize) -> bool
     ensures { result ≡ lengths_add_up pairs.now total }
 {
     pairs.len() % 2 == 0 && lengths_fit(pairs, total)
 }
 
-// The number of the first message that is not framed, from 1; 0 if all are.
-fn first_unframed(pairs: &[u32], octets: &[u8]) -> usize
+// The number of the first message that is not framed, from 1.
+fn first_unframed(pairs: &[u32], octets: &[u8]) -> Option<usize>
     requires { lengths_add_up pairs.now (length octets.now) ≡ true }
-    ensures { result ≡ first_unframed 1 (messages_of pairs.now octets.now) }
+    ensures { result ≡ numbered (first_unframed 1 (messages_of pairs.now octets.now)) }
 {
-    let n = pairs.len() / 2;
     let mut at: usize = 0;
-    let mut i: usize = 0;
-    while i < n {
+    for i in 0..pairs.len() / 2 {
         let end = at + size(pairs[i * 2]);
-        i += 1;
         if !is_framed(&octets[at..end]) {
-            return i;
+            return Some(i + 1);
         }
         at = end;
     }
-    0
+    None
 }
 
 pub fn judge(pairs: &[u32], octets: &[u8]) -> TraceVerdict
@@ -126,15 +121,14 @@ pub fn judge(pairs: &[u32], octets: &[u8]) -> TraceVerdict
             message: 0,
         };
     }
-    let n = first_unframed(pairs, octets);
-    if n == 0 {
-        return TraceVerdict {
+    match first_unframed(pairs, octets) {
+        None => TraceVerdict {
             number: 0,
             message: 0,
-        };
-    }
-    TraceVerdict {
-        number: FRAMING,
-        message: n as u64,
+        },
+        Some(n) => TraceVerdict {
+            number: FRAMING,
+            message: n as u64,
+        },
     }
 }

@@ -1,7 +1,7 @@
 // Says which events a layer 3 message gives, by its type and reference. Also says which elements follow a Shift, and which Facility elements are used.
 #![tactic(auto)]
 
-ghost use Rattle.std.specs.Prelude.{◌≡◌, true, ◌&&◌, get_or, eqb};
+ghost use Rattle.std.specs.Prelude.{◌≡◌, true, get_or, eqb};
 ghost use Rattle.trace_framing.specs.Framing.{type_of, framed};
 ghost use Rattle.trace_messages.specs.Trace.{under_after, is_clearing, reference, gives_by, cleared_by};
 
@@ -11,19 +11,20 @@ ghost use Rattle.trace_messages.specs.Trace.{under_after, is_clearing, reference
 pub fn is_clearing(t: u8) -> bool
     ensures { result ≡ is_clearing t }
 {
-    t == 0x45 || (t == 0x4d || t == 0x5a)
+    matches!(t, 0x45 | 0x4d | 0x5a)
 }
 
 // The type of a framed message.
+#[tactic(auto, using(trace_framing::proofs::Laws::framed_head))]
 pub fn type_of(s: &[u8]) -> u8
     requires { framed s.now ≡ true }
     ensures { result ≡ type_of s.now }
 {
-    let place = 2 + octets::wide(s[1]);
-    s[place]
+    s[2 + usize::from(s[1])]
 }
 
 // The call reference without its flag.
+#[tactic(auto, using(trace_framing::proofs::Laws::framed_head))]
 pub fn reference_of(s: &[u8]) -> usize
     requires { framed s.now ≡ true }
     ensures { result ≡ reference s.now }
@@ -31,11 +32,11 @@ pub fn reference_of(s: &[u8]) -> usize
     if s[1] == 0 {
         return 32768;
     }
-    let high = octets::wide(s[2]) % 128;
+    let high = usize::from(s[2]) % 128;
     if s[1] == 1 {
         return high;
     }
-    high * 256 + octets::wide(s[3])
+    high * 256 + usize::from(s[3])
 }
 
 pub fn under_after(under: u8, x: u8) -> u8
@@ -63,26 +64,14 @@ pub struct Gives {
     pub released: bool,
 }
 
-fn both(a: bool, b: bool) -> bool
-    ensures { result ≡ a && b }
-{
-    if a {
-        return b;
-    }
-    false
-}
-
 pub fn gives_of(t: u8, network: bool, cleared: bool) -> Gives
     ensures { result ≡ gives_by t network cleared }
 {
-    let setup = both(!network, t == 0x05);
-    let clear = both(is_clearing(t), !cleared);
-    let connect = both(network, t == 0x07);
     Gives {
-        setup,
-        clear,
+        setup: !network && t == 0x05,
+        clear: is_clearing(t) && !cleared,
         components: network,
-        connect,
+        connect: network && t == 0x07,
         released: t == 0x5a,
     }
 }

@@ -4,12 +4,13 @@
 use Rattle.std.specs.Prelude.{ℕ, ◌≡◌, List, get_or, drop, replicate}
 use Rattle.coding.specs.Reader.{part}
 use Rattle.types.specs.declared.Charge.{Charge}
-use Rattle.types.specs.Stored.{two, association_in}
+use Rattle.types.specs.Stored.{two, association_in, stored_charge}
 use Rattle.trunk_types.specs.declared.Extension.{Extension}
 use Rattle.trunk_types.specs.declared.Modes.{Modes}
 use Rattle.trunk_types.specs.declared.Lead.{Lead}
 use Rattle.trunk_types.specs.declared.Body.{Body}
 use Rattle.trunk_types.specs.declared.Trunk.{Trunk}
+use Rattle.trunk_types.specs.declared.Parts.{Parts}
 use Rattle.trunk_types.specs.Bodies.{body_by}
 use Rattle.trunk_types.specs.Components.{lead_by, trunk_by}
 
@@ -32,3 +33,11 @@ body_in front extension charge =
 
 unfoldable pub trunk_in : List ℕ → List ℕ → Charge → Trunk
 trunk_in front extension charge = trunk_by (lead_in front) (body_in front extension charge)
+
+-- ---- what lies in lent parts
+
+abbrev pub lent_charge : Parts → Charge
+lent_charge p = stored_charge p.figure.now p.numbers.now p.rows.now
+
+abbrev pub trunk_of : Parts → Trunk
+trunk_of p = trunk_in p.front.now p.extension.now (lent_charge p)

@@ -1,6 +1,7 @@
 // The table of types of ECMA-212 (trunks between private exchanges) as definitions, their theorems, and the structs of a trunk's record as C sees them.
 //
-// No struct has padding, no field is a bool or an enum (a host's memory may hold anything), and what is not used is zero.
+// No struct has padding, no field is a bool or an enum (a host's memory may hold anything), and what is not used is zero. The C interface needs them so: kinds
+// and refusals are numbers, and a count stands beside its array.
 #![tactic(auto)]
 
 // All of a component but what it carries. frame: 1 invoke, 2 return result, 3 return error, 4 reject, 10 network facility extension.
@@ -65,6 +66,16 @@ pub struct TrunkAnswer {
     pub value: Trunk,
 }
 
+// The five arrays in which C lends a component: its front (the lead, and what lies beside it), its extension, and its charge's figure, numbers and rows.
+#[derive(Clone, Copy)]
+pub struct Parts<'a> {
+    pub front: &'a [u8; 48],
+    pub extension: &'a [u8; 244],
+    pub figure: &'a [u8; 48],
+    pub numbers: &'a [u32; 32],
+    pub rows: &'a [u8; 192],
+}
+
 // ---- numbers by the names of include/aoc.h
 
 pub mod extended {
@@ -76,7 +87,8 @@ pub mod extended {
 }
 
 // The form of a body is the operation of an invoke, else the frame, but for these three: the results of CHARGE_REQUEST and of COMPLETE, and the
-// error UNSPECIFIED.
+// error UNSPECIFIED. An enum would be no plainer: readers and writers have the operation as C's number, charge_for and inner_of go by it, and each
+// would turn it into one of twelve variants and back.
 pub mod form {
     pub const CHARGE_RESULT: u8 = 1;
 
@@ -115,13 +127,8 @@ pub mod in_front {
 
     pub const ENTITY: usize = 43;
 
+    // From here to the end.
     pub const ZERO: usize = 44;
-
-    pub const ZERO_1: usize = 45;
-
-    pub const ZERO_2: usize = 46;
-
-    pub const ZERO_3: usize = 47;
 }
 
 pub mod in_extension {

@@ -33,6 +33,11 @@ pub record Sized (o : Offered) (m : ℕ) : Type 0 where
   pub fine : trunk_component.valid o.trunk ≡ true
   pub contents : m ≡ length (contents_of o.trunk)
 
+-- by the tests that the code made
+pub sized_by : {o : Offered} {m : ℕ} {a b : Bool} → a ≡ o.spare → a ≡ true → b ≡ trunk_component.valid o.trunk → b ≡ true → m ≡ length (contents_of o.trunk)
+    → Sized o m
+sized_by e p f q l = record { clear = sym e ∙ p; fine = sym f ∙ q; contents = l }
+
 abbrev tag : Offered → ℕ
 tag o = 0xa0 + o.trunk.lead.frame
 

@@ -6,7 +6,7 @@ ghost use Rattle.write.specs.Outcome.{no};
 ghost use Rattle.trunk_write.specs.Outcome.{spare_zero, lent_trunk, trunk_write_of, trunk_left_of};
 
 use coding::refusal;
-use trunk_types::in_front;
+use trunk_types::{Parts, in_front};
 use write::Written;
 
 // As wide as the answer has them.
@@ -16,6 +16,7 @@ const LONG_RECORD: u32 = refusal::LONG_RECORD as u32;
 
 const NO_ROOM: u32 = refusal::NO_ROOM as u32;
 
+// The C interface has a refusal as a number.
 fn refuse(number: u32) -> Written
     ensures { result ≡ no number }
 {
@@ -26,16 +27,9 @@ fn refuse(number: u32) -> Written
 fn spare_zero(front: &[u8; 48]) -> bool
     ensures { result ≡ spare_zero front.now }
 {
-    if front[in_front::ZERO] != 0 {
-        return false;
-    }
-    if front[in_front::ZERO_1] != 0 {
-        return false;
-    }
-    if front[in_front::ZERO_2] != 0 {
-        return false;
-    }
-    front[in_front::ZERO_3] == 0
+    // As a slice the array shows its length to the proof.
+    let all: &[u8] = front;
+    all[in_front::ZERO..48].iter().all(|&x| x == 0)
 }
 
 // Writes the component that lies in the five parts into the caller's buffer.
@@ -53,10 +47,17 @@ pub fn write_from(
     if !spare_zero(front) {
         return refuse(BAD_RECORD);
     }
-    if !trunk_write_tests::trunk_fine(front, extension, figure, numbers, rows) {
+    let parts = Parts {
+        front,
+        extension,
+        figure,
+        numbers,
+        rows,
+    };
+    if !trunk_write_tests::trunk_fine(&parts) {
         return refuse(BAD_RECORD);
     }
-    let m = trunk_write_frames::contents_size(front, extension, figure, numbers, rows);
+    let m = trunk_write_frames::contents_size(&parts);
     if 251 < m {
         return refuse(LONG_RECORD);
     }
@@ -65,7 +66,7 @@ pub fn write_from(
         return refuse(NO_ROOM);
     }
     let p = write_elements::put_lead(buf, 0, 0xa0 + front[in_front::FRAME], m);
-    let q = trunk_write_frames::put_contents(buf, p, front, extension, figure, numbers, rows);
+    let q = trunk_write_frames::put_contents(buf, p, &parts);
     let count = q as u32;
     Written { number: 0, count }
 }

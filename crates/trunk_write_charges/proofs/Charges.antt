@@ -46,7 +46,8 @@ module _ (most : ℕ) (c : Charge) where
 
 -- ---- by the form
 
-module _ (form : ℕ) (c : Charge) (v : (charge_for form).valid c ≡ true) where
+-- f is the charge's figure, as the code took it out
+module _ (form : ℕ) (c : Charge) {f : Figure} (is : f ≡ c.figure) (v : (charge_for form).valid c ≡ true) where
   final_valid : form ≡ 61 → (with_association true (figures 7)).valid c ≡ true
   unfolding charge_for
   final_valid e = rw (eq-eqb form 61 e) at v
@@ -55,43 +56,44 @@ module _ (form : ℕ) (c : Charge) (v : (charge_for form).valid c ≡ true) wher
   unfolding with_association canonical over pair
   final_both e = and_right (same_charge (associated c.figure.association (associated no_association c)) c) _ (final_valid e)
 
-  pub final_figured : form ≡ 61 → Figured c.figure
-  final_figured e = figures_hold 7 (associated no_association c) (omega arith) (and_left ((figures 7).valid (associated no_association c)) _ (final_both e))
+  pub final_figured : form ≡ 61 → Figured f
+  final_figured e = rw is (figures_hold 7 (associated no_association c) (omega arith) (and_left ((figures 7).valid (associated no_association c)) _ (final_both e)))
 
-  pub final_association : form ≡ 61 → (association true).valid c.figure.association ≡ true
-  final_association e = and_right ((figures 7).valid (associated no_association c)) _ (final_both e)
+  pub final_association : form ≡ 61 → (association true).valid f.association ≡ true
+  final_association e = rw is (and_right ((figures 7).valid (associated no_association c)) _ (final_both e))
 
-  pub interim_figured : (form ≡ 61 → ⊥) → form ≡ 62 → Figured c.figure
+  pub interim_figured : (form ≡ 61 → ⊥) → form ≡ 62 → Figured f
   unfolding charge_for
-  interim_figured d e = figures_hold 2 c (omega arith) (rw (ne_eqb form 61 d, eq-eqb form 62 e) at v)
+  interim_figured d e = rw is (figures_hold 2 c (omega arith) (rw (ne_eqb form 61 d, eq-eqb form 62 e) at v))
 
-  pub tariff_fine : (form ≡ 61 → ⊥) → (form ≡ 62 → ⊥) → (c.figure.kind ≡ 0 → ⊥) → rates_fine true c.entries c.figure.count ≡ true
+  pub tariff_fine : (form ≡ 61 → ⊥) → (form ≡ 62 → ⊥) → (f.kind ≡ 0 → ⊥) → rates_fine true c.entries f.count ≡ true
   unfolding charge_for sort
   tariff_fine d e k0 =
-      let w : (rates true).valid c ≡ true = rw (ne_eqb form 61 d, ne_eqb form 62 e, ne_eqb c.figure.kind 0 k0) at v in
-      and_right (unmarked c.figure && bare_parts c) _ (and_right (eqb 4 c.figure.kind) _ (sym (rates_is true c) ∙ w))
+      let k : c.figure.kind ≡ 0 → ⊥ = rw is at k0 in
+      let w : (rates true).valid c ≡ true = rw (ne_eqb form 61 d, ne_eqb form 62 e, ne_eqb c.figure.kind 0 k) at v in
+      rw is (and_right (unmarked c.figure && bare_parts c) _ (and_right (eqb 4 c.figure.kind) _ (sym (rates_is true c) ∙ w)))
 
-module _ (form : ℕ) (c : Charge) where
-  pub final_octets : form ≡ 61 → (charge_for form).write c ≡ figure_octets c.figure ++ (association true).write c.figure.association
+module _ (form : ℕ) (c : Charge) {f : Figure} (is : f ≡ c.figure) where
+  pub final_octets : form ≡ 61 → (charge_for form).write c ≡ figure_octets f ++ (association true).write f.association
   unfolding charge_for with_association canonical over pair figure_octets priced_octets
-  final_octets e = rw (eq-eqb form 61 e) (ap (λ (xs : List ℕ). xs ++ (association true).write c.figure.association) (figures_write 7 (associated no_association c)))
+  final_octets e = rw (is, eq-eqb form 61 e) (ap (λ (xs : List ℕ). xs ++ (association true).write c.figure.association) (figures_write 7 (associated no_association c)))
 
-  pub interim_octets : (form ≡ 61 → ⊥) → form ≡ 62 → (charge_for form).write c ≡ figure_octets c.figure
+  pub interim_octets : (form ≡ 61 → ⊥) → form ≡ 62 → (charge_for form).write c ≡ figure_octets f
   unfolding charge_for
-  interim_octets d e = rw (ne_eqb form 61 d, eq-eqb form 62 e) (figures_write 2 c)
+  interim_octets d e = rw (is, ne_eqb form 61 d, eq-eqb form 62 e) (figures_write 2 c)
 
   module _ (d : form ≡ 61 → ⊥) (e : form ≡ 62 → ⊥) where
-    pub none_octets : c.figure.kind ≡ 0 → (charge_for form).write c ≡ lead 0x05 0
+    pub none_octets : f.kind ≡ 0 → (charge_for form).write c ≡ lead 0x05 0
     unfolding charge_for sort sign canonical over
-    none_octets k = rw (ne_eqb form 61 d, ne_eqb form 62 e, eq-eqb c.figure.kind 0 k) (null_write 0x05 tt)
+    none_octets k = let z : c.figure.kind ≡ 0 = rw is at k in rw (ne_eqb form 61 d, ne_eqb form 62 e, eq-eqb c.figure.kind 0 z) (null_write 0x05 tt)
 
-    pub tariff_octets : (c.figure.kind ≡ 0 → ⊥) → (charge_for form).write c ≡ rates_charge c.entries c.figure.count
+    pub tariff_octets : (f.kind ≡ 0 → ⊥) → (charge_for form).write c ≡ rates_charge c.entries f.count
     unfolding charge_for sort rates canonical over some_more
-    tariff_octets k = rw (ne_eqb form 61 d, ne_eqb form 62 e, ne_eqb c.figure.kind 0 k) (cons_write 0x30 _ c)
+    tariff_octets k0 = let k : c.figure.kind ≡ 0 → ⊥ = rw is at k0 in rw (is, ne_eqb form 61 d, ne_eqb form 62 e, ne_eqb c.figure.kind 0 k) (cons_write 0x30 _ c)
 
   -- ---- how many they are
 
-  pub final_length : {x y : ℕ} → form ≡ 61 → x ≡ length (figure_octets c.figure) → y ≡ length ((association true).write c.figure.association)
+  pub final_length : {x y : ℕ} → form ≡ 61 → x ≡ length (figure_octets f) → y ≡ length ((association true).write f.association)
       → x + y ≡ length ((charge_for form).write c)
   final_length e p q =
-      omega (arith, ap length (final_octets e), length-append (figure_octets c.figure) ((association true).write c.figure.association), p, q)
+      omega (arith, ap length (final_octets e), length-append (figure_octets f) ((association true).write f.association), p, q)

@@ -1,6 +1,6 @@
 -- A figure in money: its octets as they are put, and how many they are.
 use Rattle.prelude.proofs.Prelude.{ℕ, ◌+◌, ◌≤◌, ◌≡◌, sym, ap, ◌∙◌, List, ◌++◌, append_assoc, true, arith, length, length-append, eq-eqb, ne_eqb}
-use Rattle.coding.{specs.inner.Written.Wrote, specs.inner.Written.Room, specs.inner.Written.lead, proofs.Writing.room_as, proofs.Writing.room_head, proofs.Small.null_length}
+use Rattle.coding.{specs.inner.Written.Wrote, specs.inner.Written.Room, specs.inner.Written.lead, proofs.Writing.room_as, proofs.Writing.room_head}
 use Rattle.types.specs.{declared.Figure.Figure, Charges.money}
 use Rattle.write_elements.{specs.inner.Element.element, proofs.Parts.{element_as_lem, room_2, room_3, wrote_three}}
 use Rattle.write_figures.specs.inner.Octets.{billing_octets}
@@ -68,12 +68,6 @@ module _ (f : Figure) where
   pub money_octets_lem : (f.kind ≡ 0 → ⊥) → (f.kind ≡ 1 → ⊥) → figure_octets f ≡ priced_octets f
   unfolding figure_octets
   money_octets_lem k0 k1 = rw (ne_eqb f.kind 0 k0, ne_eqb f.kind 1 k1)
-
-  pub none_length : f.kind ≡ 0 → 2 ≡ length (figure_octets f)
-  none_length e = omega (arith, ap length (none_octets e), null_length 0x80)
-
-  pub free_length : f.kind ≡ 1 → 2 ≡ length (figure_octets f)
-  free_length e = omega (arith, ap length (free_octets e), null_length 0x81)
 
   pub money_length : {r : ℕ} → (f.kind ≡ 0 → ⊥) → (f.kind ≡ 1 → ⊥) → r ≡ length (priced_octets f) → r ≡ length (figure_octets f)
   money_length k0 k1 e = e ∙ sym (ap length (money_octets_lem k0 k1))

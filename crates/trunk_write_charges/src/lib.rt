@@ -1,17 +1,18 @@
 // The charge of a trunk's operation 61, 62 or 63: how many octets it takes, and its octets. Parts of document 01's charges are written by its crates; what its speed
-// wants with one caller is written here a second time, over the same laws (docs/SPEED.md).
-#![tactic(auto)]
+// wants with its own callers alone is written here a second time, over the same laws (docs/SPEED.md, "What one more caller costs").
+#![tactic(auto, using(crate::proofs::Octets::associations))]
 
 ghost use Rattle.std.specs.Prelude.{◌≡◌, true, ◌≤◌, length};
 ghost use Rattle.coding.specs.inner.Written.{Wrote, Room};
 ghost use Rattle.types.specs.Charges.{association};
-ghost use Rattle.types.specs.Stored.{with_list};
 ghost use Rattle.trunk_types.specs.Bodies.{charge_for};
+ghost use Rattle.trunk_types.specs.Stored.{lent_charge};
 ghost use Rattle.trunk_write_charges.specs.inner.Octets.{priced_octets, figure_octets, Priced, Figured};
 
+use trunk_types::Parts;
 use types::{Association, Figure, association_kind, charge_kind, operation};
 
-// ---- associations
+// ---- associations, as `write_association` has them, whose two functions keep their callers for its speed
 
 pub fn association_size(a: Association) -> usize
     requires { (association true).valid a ≡ true }
@@ -40,8 +41,9 @@ pub fn put_association(buf: &mut [u8], at: usize, a: Association) -> usize
     write_association::put_address(buf, at, 0xa0, a)
 }
 
-// ---- figures
+// ---- figures: not available is 80 00 here and 05 00 in document 01, whose `priced_size` and `put_after` keep their callers for its speed, and count marks too
 
+#[tactic(auto, using(crate::proofs::Octets::figures))]
 fn priced_size(f: Figure) -> usize
     requires { Priced f }
     ensures value { result ≡ length (priced_octets f) }
@@ -52,6 +54,7 @@ fn priced_size(f: Figure) -> usize
     write_figures::sized(write_figures::sized(n) + write_figures::billing_size(f.billed))
 }
 
+#[tactic(auto, using(crate::proofs::Octets::figures))]
 fn figure_size(f: Figure) -> usize
     requires { Figured f }
     ensures value { result ≡ length (figure_octets f) }
@@ -66,6 +69,7 @@ fn figure_size(f: Figure) -> usize
     priced_size(f)
 }
 
+#[tactic(auto, using(crate::proofs::Octets::figures))]
 fn put_priced(buf: &mut [u8], at: usize, f: Figure) -> usize
     requires { Priced f × Room buf.old at (priced_octets f) }
     ensures { Wrote buf.old buf.new at (priced_octets f) result }
@@ -78,6 +82,7 @@ fn put_priced(buf: &mut [u8], at: usize, f: Figure) -> usize
     write_figures::put_billing(buf, q, 0x82, f.billed, f.billing)
 }
 
+#[tactic(auto, using(crate::proofs::Octets::figures))]
 fn put_figure(buf: &mut [u8], at: usize, f: Figure) -> usize
     requires { Figured f × Room buf.old at (figure_octets f) }
     ensures { Wrote buf.old buf.new at (figure_octets f) result }
@@ -94,14 +99,18 @@ fn put_figure(buf: &mut [u8], at: usize, f: Figure) -> usize
 // ---- charges
 
 // The octets of a valid charge, which may be too many for a component.
-pub fn charge_size(form: u8, f: Figure, numbers: &[u32; 32], rows: &[u8; 192]) -> usize
-    requires rows_len { length rows.now ≡ 192 }
-    requires rows_value { (charge_for form).valid (with_list f numbers.now rows.now) ≡ true }
-    ensures value { result ≡ length ((charge_for form).write (with_list f numbers.now rows.now)) }
+#[tactic(auto, using(crate::proofs::Octets::charged))]
+pub fn charge_size(form: u8, parts: &Parts<'_>) -> usize
+    requires { (charge_for form).valid (lent_charge parts.now) ≡ true }
+    ensures value { result ≡ length ((charge_for form).write (lent_charge parts.now)) }
     ensures few { result ≤ 600 }
 {
+    let (numbers, rows) = (parts.numbers, parts.rows);
+    // As a slice the array shows its length to the proof.
+    let octets: &[u8] = rows;
+    let f = types_parts::figure_of(parts.figure);
     let a = f.association;
-    let n = f.count as usize;
+    let n = usize::from(f.count);
     if form == operation::FINAL {
         return figure_size(f) + association_size(a);
     }
@@ -115,20 +124,17 @@ pub fn charge_size(form: u8, f: Figure, numbers: &[u32; 32], rows: &[u8; 192]) -
 }
 
 // A valid charge of at most 254 octets.
-pub fn put_charge(
-    buf: &mut [u8],
-    at: usize,
-    form: u8,
-    f: Figure,
-    numbers: &[u32; 32],
-    rows: &[u8; 192],
-) -> usize
-    requires rows_len { length rows.now ≡ 192 }
-    requires rows_value { (charge_for form).valid (with_list f numbers.now rows.now) ≡ true }
-    requires rows_len_bound { length ((charge_for form).write (with_list f numbers.now rows.now)) ≤ 254 }
-    requires room { Room buf.old at ((charge_for form).write (with_list f numbers.now rows.now)) }
-    ensures { Wrote buf.old buf.new at ((charge_for form).write (with_list f numbers.now rows.now)) result }
+#[tactic(auto, using(crate::proofs::Octets::charged))]
+pub fn put_charge(buf: &mut [u8], at: usize, form: u8, parts: &Parts<'_>) -> usize
+    requires value { (charge_for form).valid (lent_charge parts.now) ≡ true }
+    requires few { length ((charge_for form).write (lent_charge parts.now)) ≤ 254 }
+    requires room { Room buf.old at ((charge_for form).write (lent_charge parts.now)) }
+    ensures { Wrote buf.old buf.new at ((charge_for form).write (lent_charge parts.now)) result }
 {
+    let (numbers, rows) = (parts.numbers, parts.rows);
+    // As a slice the array shows its length to the proof.
+    let octets: &[u8] = rows;
+    let f = types_parts::figure_of(parts.figure);
     let a = f.association;
     if form == operation::FINAL {
         let p = put_figure(buf, at, f);

@@ -1,5 +1,5 @@
 -- Extensions: those that are there, how many octets they take, and their octets.
-use Rattle.prelude.proofs.Prelude.{ℕ, List, ◌+◌, ◌≤◌, ◌≡◌, refl, sym, ap, ◌∙◌, [], ◌∷◌, ◌++◌, Bool, true, false, cond, arith, length, take, length-append, length-take, eqb, eqb-true, ne_eqb}
+use Rattle.prelude.proofs.Prelude.{ℕ, List, ◌+◌, ◌≡◌, refl, sym, ap, ◌∙◌, [], Bool, true, false, cond, arith, length, length-append, eqb, eqb-true, ne_eqb}
 use Rattle.coding.{specs.Codec.Run, specs.Codec.cons, specs.Codec.canonical, specs.Codec.over, specs.Codec.sort, specs.Codec.nothing, specs.Codec.length_octets, specs.Codec.pick_run}
 use Rattle.coding.{specs.Normal.normal_form, specs.inner.Written.lead}
 use Rattle.coding.proofs.Basic.{and_left, and_right, unpicked}
@@ -80,10 +80,3 @@ module _ (x : Extension) where
     tagged_size e s one =
         let tag = cond (eqb x.kind 2) 0xa2 one in
         s tag ∙ ap (λ (j : ℕ). length (lead tag j) + j) (e ∙ sym (d.octets k)) ∙ sym (kept_size tag) ∙ sym (ap length (unpicked _ _ (ne_eqb x.kind 0 k)))
-
-    -- as many octets as it says
-    pub kept_as : (tag : ℕ) → extension_octets tag x ≡ tag ∷ length_octets x.count ++ take x.count x.octets
-    kept_as tag = ap (λ (j : ℕ). tag ∷ length_octets j ++ kept_octets x) (d.octets k)
-
-    pub kept_fits : x.count ≤ length x.octets
-    kept_fits = omega (arith, d.octets k, length-take x.count x.octets)

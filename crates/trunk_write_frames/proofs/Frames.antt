@@ -8,12 +8,12 @@ use Rattle.types.specs.{declared.Record.Record, Frames.value, Frames.caller, Fra
 use Rattle.types.specs.{Frames.rejects, Frames.caller_of, Stored.two, Stored.association_in, Stored.figure_in}
 use Rattle.read_heads.proofs.Codes.{has_below}
 use Rattle.write_tests.proofs.Truth.{truth}
-use Rattle.trunk_types.specs.{declared.Body.Body, Extensions.parameter, Extensions.unextended, Stored.extension_in, Stored.body_in, Stored.trunk_in}
+use Rattle.trunk_types.specs.{declared.Body.Body, declared.Parts.Parts, Extensions.parameter, Extensions.unextended, Stored.extension_in, Stored.body_in, Stored.trunk_in}
 use Rattle.trunk_types.specs.Bodies.{argument_of, result_of, final_charge, interim, tariff, complete, diverted, naming, same_body, address, network, extending, charge_for}
 use Rattle.trunk_types.specs.Components.{lead_by, trunk_by, same_trunk, trunk_operations, answerable, carrying_body, trunk_invoke, trunk_result, trunk_errors, failing, trunk_error}
 use Rattle.trunk_types.specs.Components.{of_reject, reject_of, rejected, facility, tags, trunk_frame, trunk_component}
 use Rattle.trunk_types.specs.inner.Forms.{users, diverting, inner_of}
-use Rattle.trunk_write_frames.specs.{inner.Octets.Parts, inner.Octets.body, inner.Octets.whole, inner.Octets.body_of, inner.Octets.result_form, inner.Octets.id_octets}
+use Rattle.trunk_write_frames.specs.{inner.Octets.body, inner.Octets.whole, inner.Octets.body_of, inner.Octets.result_form, inner.Octets.id_octets}
 use Rattle.trunk_write_frames.specs.inner.Octets.{Counted, detail_in, error_octets, reject_octets, NetworkFine, network_octets, contents_of}
 use Rattle.trunk_write_frames.proofs.{Extensions.failing_form, Dispatch.Form, Dispatch.form_then}
 
@@ -80,7 +80,7 @@ module _ (r : Record) where
 
 module _ (five : Parts) where
   abbrev operation : ℕ
-  operation = get_or five.front 6 0
+  operation = get_or five.front.now 6 0
 
   -- ---- A1
 
@@ -88,9 +88,9 @@ module _ (five : Parts) where
     invoke_parts : (one_of trunk_operations operation ≡ true) × ((argument_of operation).valid (body five) ≡ true)
     unfolding trunk_invoke leads value barring prim listed carrying_body canonical over marked trunk_in
     invoke_parts =
-        let p = and_right (identifier.valid (two five.front 2)) _ v in
+        let p = and_right (identifier.valid (two five.front.now 2)) _ v in
         let q = and_right (one_of trunk_operations operation) _ p in
-        (and_left (one_of trunk_operations operation) _ p, and_right (same_trunk (trunk_by (lead_by 1 0 (two five.front 2) 0 operation 0) (body five)) (whole five)) _ q)
+        (and_left (one_of trunk_operations operation) _ p, and_right (same_trunk (trunk_by (lead_by 1 0 (two five.front.now 2) 0 operation 0) (body five)) (whole five)) _ q)
 
     pub invoke_operation : operation < 128
     invoke_operation = has_below 128 trunk_operations operation refl invoke_parts.0
@@ -98,12 +98,12 @@ module _ (five : Parts) where
     pub invoke_body : (body_of operation).valid (body five) ≡ true
     invoke_body = sym (argument_alike operation (body five) invoke_parts.0).1 ∙ invoke_parts.1
 
-    invoke_octets : trunk_invoke.write (whole five) ≡ id_octets five.front ++ (full_number 0x02 operation ++ (body_of operation).write (body five))
+    invoke_octets : trunk_invoke.write (whole five) ≡ id_octets five.front.now ++ (full_number 0x02 operation ++ (body_of operation).write (body five))
     unfolding trunk_invoke leads carrying_body canonical over marked trunk_in
     invoke_octets = rw (value_write 7 trunk_operations operation, (argument_alike operation (body five) invoke_parts.0).0)
 
     -- as the code has its parts
-    module _ {i : ℕ} (is : i ≡ two five.front 2) where
+    module _ {i : ℕ} (is : i ≡ two five.front.now 2) where
       pub invoke_split : trunk_invoke.write (whole five) ≡ (prim 0x02 identifier).write i ++ (full_number 0x02 operation ++ (body_of operation).write (body five))
       invoke_split = invoke_octets ∙ ap (λ (k : ℕ). (prim 0x02 identifier).write k ++ (full_number 0x02 operation ++ (body_of operation).write (body five))) (sym is)
 
@@ -119,9 +119,9 @@ module _ (five : Parts) where
     result_parts : (one_of answerable operation ≡ true) × ((result_of operation).valid (body five) ≡ true)
     unfolding trunk_result leads cons value barring prim listed carrying_body canonical over marked trunk_in
     result_parts =
-        let p = and_right (identifier.valid (two five.front 2)) _ v in
+        let p = and_right (identifier.valid (two five.front.now 2)) _ v in
         let q = and_right (one_of answerable operation) _ p in
-        (and_left (one_of answerable operation) _ p, and_right (same_trunk (trunk_by (lead_by 2 0 (two five.front 2) 0 operation 0) (body five)) (whole five)) _ q)
+        (and_left (one_of answerable operation) _ p, and_right (same_trunk (trunk_by (lead_by 2 0 (two five.front.now 2) 0 operation 0) (body five)) (whole five)) _ q)
 
     pub result_operation : operation < 128
     result_operation = has_below 128 answerable operation refl result_parts.0
@@ -134,13 +134,13 @@ module _ (five : Parts) where
         result_contents : 3 + n ≡ length (full_number 0x02 operation ++ (body_of form).write (body five))
         result_contents = omega (arith, e, length-append (full_number 0x02 operation) ((body_of form).write (body five)), small_length 0x02 operation result_operation)
 
-        result_octets : trunk_result.write (whole five) ≡ id_octets five.front ++ (lead 0x30 (3 + n) ++ (full_number 0x02 operation ++ (body_of form).write (body five)))
+        result_octets : trunk_result.write (whole five) ≡ id_octets five.front.now ++ (lead 0x30 (3 + n) ++ (full_number 0x02 operation ++ (body_of form).write (body five)))
         unfolding trunk_result leads cons lead value barring carrying_body canonical over marked trunk_in
         result_octets =
             rw (value_write 7 answerable operation, (result_alike operation (body five)).0, sym f)
-            (ap (λ (k : ℕ). id_octets five.front ++ (lead 0x30 k ++ (full_number 0x02 operation ++ (body_of form).write (body five)))) (sym result_contents))
+            (ap (λ (k : ℕ). id_octets five.front.now ++ (lead 0x30 k ++ (full_number 0x02 operation ++ (body_of form).write (body five)))) (sym result_contents))
 
-        module _ {i : ℕ} (is : i ≡ two five.front 2) where
+        module _ {i : ℕ} (is : i ≡ two five.front.now 2) where
           pub result_split : trunk_result.write (whole five) ≡ (prim 0x02 identifier).write i ++ (lead 0x30 (3 + n) ++ (full_number 0x02 operation ++ (body_of form).write (body five)))
           result_split =
               result_octets ∙ ap (λ (k : ℕ). (prim 0x02 identifier).write k ++ (lead 0x30 (3 + n) ++ (full_number 0x02 operation ++ (body_of form).write (body five)))) (sym is)
@@ -155,19 +155,19 @@ module _ (five : Parts) where
   -- ---- A3
 
   abbrev code : ℕ
-  code = two five.front 4
+  code = two five.front.now 4
 
   module _ (v : trunk_error.valid (whole five) ≡ true) where
-    error_parts : (pick_run (eqb code 1008) parameter unextended).valid (extension_in five.extension) ≡ true
+    error_parts : (pick_run (eqb code 1008) parameter unextended).valid (extension_in five.extension.now) ≡ true
     unfolding trunk_error leads value barring prim listed failing canonical over trunk_in body_in
     error_parts =
-        let p = and_right (one_of trunk_errors code) _ (and_right (identifier.valid (two five.front 2)) _ v) in
-        and_right (same_trunk (trunk_by (lead_by 3 0 (two five.front 2) code 0 0) (extending (extension_in five.extension))) (whole five)) _ p
+        let p = and_right (one_of trunk_errors code) _ (and_right (identifier.valid (two five.front.now 2)) _ v) in
+        and_right (same_trunk (trunk_by (lead_by 3 0 (two five.front.now 2) code 0 0) (extending (extension_in five.extension.now))) (whole five)) _ p
 
-    error_form : Form (trunk_error.write (whole five)) (Counted (extension_in five.extension)) (error_octets five.front five.extension)
+    error_form : Form (trunk_error.write (whole five)) (Counted (extension_in five.extension.now)) (error_octets five.front.now five.extension.now)
     unfolding trunk_error leads failing canonical over trunk_in body_in error_octets
     error_form =
-        let f = failing_form (extension_in five.extension) (eqb code 1008) error_parts in
+        let f = failing_form (extension_in five.extension.now) (eqb code 1008) error_parts in
         record { asked = f.asked; octets = rw (value_write 8 trunk_errors code, f.octets) }
 
   -- ---- A4
@@ -180,34 +180,34 @@ module _ (five : Parts) where
     unfolding rejected canonical over reject leads trunk_in
     problem_fine_lem = and_right (caller.valid (caller_of plain)) _ (and_right (same_trunk (of_reject plain) (whole five)) _ v)
 
-    reject_form : Form (rejected.write (whole five)) (detail_in five.front < 128) (reject_octets five.front)
+    reject_form : Form (rejected.write (whole five)) (detail_in five.front.now < 128) (reject_octets five.front.now)
     unfolding rejected canonical over reject leads trunk_in body_in
     reject_form =
         let f = problem_form plain (caller_of plain) problem_fine_lem in
-        record { asked = f.asked; octets = ap₂ (λ (x y : List ℕ). x ++ y) (call (get_or five.front 1 0) (two five.front 2)) f.octets }
+        record { asked = f.asked; octets = ap₂ (λ (x y : List ℕ). x ++ y) (call (get_or five.front.now 1 0) (two five.front.now 2)) f.octets }
 
   -- ---- AA
 
   module _ (v : facility.valid (whole five) ≡ true) where
-    network_fine : NetworkFine five.front five.figure
+    network_fine : NetworkFine five.front.now five.figure.now
     unfolding facility network canonical over marked pair prim number address sort cons trunk_in body_in figure_in
     network_fine =
         let n = and_right (same_trunk (trunk_by (lead_by 10 0 0 0 0 0) (body five)) (whole five)) _ v in
-        let held = naming (get_or five.front 42 0) (get_or five.front 43 0) (association_in five.front) (association_in five.figure) in
+        let held = naming (get_or five.front.now 42 0) (get_or five.front.now 43 0) (association_in five.front.now) (association_in five.figure.now) in
         let g = simp truth at (and_right (same_body held (body five)) _ n) in
         record { source = g.0.1; source_address = g.1.0; destination = g.1.1.0.1; destination_address = g.1.1.1 }
 
-    network_form : Form (facility.write (whole five)) (NetworkFine five.front five.figure) (network_octets five.front five.figure)
+    network_form : Form (facility.write (whole five)) (NetworkFine five.front.now five.figure.now) (network_octets five.front.now five.figure.now)
     unfolding facility network canonical over marked pair trunk_in body_in figure_in network_octets
     network_form = record {
       asked = network_fine;
-      octets = rw (number_write 0x80 0 1 (get_or five.front 42 0), number_write 0x82 0 1 (get_or five.front 43 0));
+      octets = rw (number_write 0x80 0 1 (get_or five.front.now 42 0), number_write 0x82 0 1 (get_or five.front.now 43 0));
     }
 
   -- ---- by the frame
 
   abbrev kind : ℕ
-  kind = get_or five.front 0 0
+  kind = get_or five.front.now 0 0
 
   frame_valid : trunk_component.valid (whole five) ≡ true → (one_of tags (0xa0 + kind) ≡ true) × ((trunk_frame (0xa0 + kind)).valid (whole five) ≡ true)
   unfolding trunk_component frames trunk_in
@@ -233,23 +233,23 @@ module _ (five : Parts) where
     unfolding trunk_frame
     holds_2 e = holding 2 e
 
-    pub holds_3 : kind ≡ 3 → Holds (Counted (extension_in five.extension)) (error_octets five.front five.extension)
+    pub holds_3 : kind ≡ 3 → Holds (Counted (extension_in five.extension.now)) (error_octets five.front.now five.extension.now)
     unfolding trunk_frame
     holds_3 e = form_then (holding 3 e) error_form
 
-    pub holds_4 : kind ≡ 4 → Holds (detail_in five.front < 128) (reject_octets five.front)
+    pub holds_4 : kind ≡ 4 → Holds (detail_in five.front.now < 128) (reject_octets five.front.now)
     unfolding trunk_frame
     holds_4 e = form_then (holding 4 e) reject_form
 
     -- any other, as the code finds it
-    pub holds_10 : (((Unit {0} × (kind ≡ 1 → ⊥)) × (kind ≡ 2 → ⊥)) × (kind ≡ 3 → ⊥)) × (kind ≡ 4 → ⊥)
-        → Holds (NetworkFine five.front five.figure) (network_octets five.front five.figure)
+    pub holds_10 : (kind ≡ 1 → ⊥) → (kind ≡ 2 → ⊥) → (kind ≡ 3 → ⊥) → (kind ≡ 4 → ⊥)
+        → Holds (NetworkFine five.front.now five.figure.now) (network_octets five.front.now five.figure.now)
     unfolding trunk_frame trunk_in
-    holds_10 n =
-        let a = ne_eqb (0xa0 + kind) 0xa1 (λ z. n.0.0.0.1 (omega (arith, z))) in
-        let b = ne_eqb (0xa0 + kind) 0xa2 (λ z. n.0.0.1 (omega (arith, z))) in
-        let c = ne_eqb (0xa0 + kind) 0xa3 (λ z. n.0.1 (omega (arith, z))) in
-        let d = ne_eqb (0xa0 + kind) 0xa4 (λ z. n.1 (omega (arith, z))) in
+    holds_10 h1 h2 h3 h4 =
+        let a = ne_eqb (0xa0 + kind) 0xa1 (λ z. h1 (omega (arith, z))) in
+        let b = ne_eqb (0xa0 + kind) 0xa2 (λ z. h2 (omega (arith, z))) in
+        let c = ne_eqb (0xa0 + kind) 0xa3 (λ z. h3 (omega (arith, z))) in
+        let d = ne_eqb (0xa0 + kind) 0xa4 (λ z. h4 (omega (arith, z))) in
         form_then (record { asked = rw (a, b, c, d) at (frame_valid v).1; octets = rw (a, b, c, d, contents_of) }) network_form
 
   pub known_frame : trunk_component.valid (whole five) ≡ true → kind < 11

@@ -1,4 +1,3 @@
-mod Cited
 pub mod Dispatch
 pub mod Extensions
 pub mod Forms

@@ -1,27 +1,14 @@
 -- How many octets the parts take, and the parts one after the other, by what the code has of each.
-use Rattle.prelude.proofs.Prelude.{ℕ, ◌+◌, ◌-◌, ◌*◌, ◌≤◌, ◌<◌, ◌≡◌, sym, ap, ap₂, ◌∙◌, List, [], ◌∷◌, ◌++◌, true, arith, length, get_or, take, drop, length-append}
-use Rattle.prelude.proofs.Prelude.{length-drop, take-length, eq-eqb, ne_eqb}
-use Rattle.coding.specs.{Codec.{canonical, over, sort, cons, nothing, prim, all, write_all, length_octets}, Rows.table, Leaves.{identifier, width}}
+use Rattle.prelude.proofs.Prelude.{ℕ, ◌+◌, ◌*◌, ◌<◌, ◌≡◌, sym, ap, ap₂, ◌∙◌, List, [], ◌++◌, true, arith, length, get_or, length-append}
+use Rattle.prelude.proofs.Prelude.{eq-eqb, ne_eqb}
+use Rattle.coding.specs.{Codec.{canonical, over, sort, cons, nothing, prim, all, write_all}, Rows.table, Leaves.{identifier, width}}
 use Rattle.coding.{specs.inner.Written.{lead, full_number}, proofs.Basic.{picked, unpicked}, proofs.Small.{small_length, id_length, null_length}}
 use Rattle.coding.proofs.Writing.{number_length}
 use Rattle.types.specs.{declared.Association.Association, Charges.party_number, Charges.association, Charges.unassociated, Stored.two, Stored.association_in}
 use Rattle.trunk_types.specs.{Bodies.address, Stored.modes_in, Stored.extension_in}
-use Rattle.trunk_write_frames.specs.{inner.Octets.extension_octets, inner.Octets.tagged_by, inner.Octets.Counted, inner.Octets.mode, inner.Octets.mode_at, inner.Octets.modes_of, inner.Octets.modes_octets, inner.Octets.detail_in}
+use Rattle.trunk_write_frames.specs.{inner.Octets.tagged_by, inner.Octets.mode, inner.Octets.mode_at, inner.Octets.modes_of, inner.Octets.modes_octets, inner.Octets.detail_in}
 use Rattle.trunk_write_frames.specs.inner.Octets.{users_octets, id_octets, error_octets, caller_octets, reject_octets, NetworkFine, network_octets}
-use Rattle.trunk_write_frames.proofs.{Extensions.kept_as, Extensions.kept_fits, Dispatch.Form}
-
--- ---- the extension's octets lie in the lent part from the third on
-
-module _ (extension : List ℕ) where
-  slice_is : take (length extension - 2) (drop 2 extension) ≡ drop 2 extension
-  slice_is = ap (λ (k : ℕ). take k (drop 2 extension)) (sym (length-drop 2 extension)) ∙ take-length (drop 2 extension)
-
-  module _ (d : Counted (extension_in extension)) (k : (extension_in extension).kind ≡ 0 → ⊥) {n : ℕ} (e : n ≡ (extension_in extension).count) where
-    pub kept_slice : (tag : ℕ) → extension_octets tag (extension_in extension) ≡ tag ∷ length_octets n ++ take n (take (length extension - 2) (drop 2 extension))
-    kept_slice tag = kept_as (extension_in extension) d k tag ∙ ap₂ (λ (j : ℕ) (s : List ℕ). tag ∷ length_octets j ++ take j s) (sym e) (sym slice_is)
-
-    pub slice_fits : n ≤ length (take (length extension - 2) (drop 2 extension))
-    slice_fits = omega (arith, e, kept_fits (extension_in extension) d k, ap length slice_is)
+use Rattle.trunk_write_frames.proofs.Dispatch.{Form}
 
 -- ---- modes
 
@@ -38,9 +25,6 @@ module _ (front : List ℕ) {n : ℕ} (e : n ≡ (modes_in front).count) where
 module _ {U A u a : Association} (eu : u ≡ U) (ea : a ≡ A) where
   pub users_split : users_octets U A ≡ (party_number true).write u ++ (association true).write a
   users_split = sym (ap₂ (λ (x y : Association). users_octets x y) eu ea)
-
-  pub users_length : {n k : ℕ} → n ≡ length ((party_number true).write u) → k ≡ length ((association true).write a) → n + k ≡ length (users_octets U A)
-  users_length p q = omega (arith, p, q, ap length users_split, length-append ((party_number true).write u) ((association true).write a))
 
 -- ---- addresses
 

@@ -4,3 +4,4 @@ pub mod Components
 pub mod Blank
 pub mod Masks
 pub mod Tests
+pub mod Found

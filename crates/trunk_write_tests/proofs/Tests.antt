@@ -59,15 +59,15 @@ module _ (s : List ℕ) (e : length s ≡ 48) where
   places_length : length (part s 9 16) ≡ 7
   places_length = part_length s 9 16 (omega arith)
 
-  pub modes_none : (k : ℕ) → (k ≡ 59 → ⊥) → modes_fine k (modes_in s) ≡ eqb 0 n && every (λ x. ltb x 1) (part s 9 16)
+  none_asked : (k : ℕ) → (k ≡ 59 → ⊥) → modes_fine k (modes_in s) ≡ eqb 0 n && every (λ x. ltb x 1) (part s 9 16)
   unfolding modes_fine
-  modes_none k h =
+  none_asked k h =
       rw (ne_eqb k 59 h)
       (ap (λ (t : Bool). eqb 0 n && t) (ap (λ (i : ℕ). same_list eqb (replicate i 0) (part s 9 16)) (sym places_length) ∙ all_zero (part s 9 16)))
 
-  pub some_modes_lem : (k : ℕ) → k ≡ 59 → modes_fine k (modes_in s) ≡ (leb n 7 && every (λ x. ltb x 1) (part s (9 + n) 16)) && every (λ x. ltb x 7) (part s 9 (9 + n))
+  some_asked : (k : ℕ) → k ≡ 59 → modes_fine k (modes_in s) ≡ (leb n 7 && every (λ x. ltb x 1) (part s (9 + n) 16)) && every (λ x. ltb x 7) (part s 9 (9 + n))
   unfolding modes_fine some_modes
-  some_modes_lem k r =
+  some_asked k r =
       rw (eq-eqb k 59 r)
       (ap₂ (λ (t u : Bool). t && (u && all (λ x. leb x 6) (take n (part s 9 16)))) (counted_is n 7 (part s 9 16) places_length) (few_taken n 7 (part s 9 16) places_length)
       ∙ by_cases (leb n 7)
@@ -76,6 +76,14 @@ module _ (s : List ℕ) (e : length s ≡ 48) where
       let d = drop_part s 9 16 n (omega arith) (omega arith) in
       rw (q, d, all_zero (part s (9 + n) 16), take_part s 9 16 n (omega arith), up_to (part s 9 (9 + n))))
       (λ q. rw q))
+
+  -- with the count as the code has it
+  module _ {m : ℕ} (is : m ≡ n) where
+    pub modes_none : (k : ℕ) → (k ≡ 59 → ⊥) → modes_fine k (modes_in s) ≡ eqb 0 m && every (λ x. ltb x 1) (part s 9 16)
+    modes_none k h = rw is (none_asked k h)
+
+    pub some_modes_lem : (k : ℕ) → k ≡ 59 → modes_fine k (modes_in s) ≡ (leb m 7 && every (λ x. ltb x 1) (part s (9 + m) 16)) && every (λ x. ltb x 7) (part s 9 (9 + m))
+    some_modes_lem k r = rw is (some_asked k r)
 
 -- ---- by a test that a call has answered
 

@@ -1,15 +1,15 @@
 // Components of a trunk: which may be written. Each `_fine` is the writer's test of a part, by the component's form.
-#![tactic(auto)]
+#![tactic(auto, using(crate::proofs::Found::found))]
 
-ghost use Rattle.std.specs.Prelude.{◌≡◌, true, not, ◌||◌, cond, eqb, length, get_or};
+ghost use Rattle.std.specs.Prelude.{◌≡◌, true, not, ◌||◌, cond, eqb, get_or};
 ghost use Rattle.types.specs.Charges.{association};
-ghost use Rattle.types.specs.Stored.{stored_charge, association_in};
-ghost use Rattle.trunk_types.specs.Stored.{lead_in, modes_in, extension_in, trunk_in};
+ghost use Rattle.types.specs.Stored.{association_in};
+ghost use Rattle.trunk_types.specs.Stored.{lead_in, modes_in, extension_in, lent_charge, trunk_of};
 ghost use Rattle.trunk_types.specs.Components.{trunk_component};
 ghost use Rattle.trunk_write_tests.specs.inner.Fine.{lead_fine, form_of, detail_fine, entity_fine, modes_fine, number_if, names, user_fine, other_fine, kind_fine, is_billing, list_if, charge_fits, most_extension, extension_fine, front_fits};
 ghost use Rattle.trunk_write_tests.specs.inner.Masks.{billed_by, masked_fits};
 
-use trunk_types::{Lead, extended, form, in_extension, in_front};
+use trunk_types::{Lead, Parts, extended, form, in_extension, in_front};
 use types::{
     Association, association_kind, billing, charge_kind, error, frame, in_figure, operation,
 };
@@ -33,6 +33,7 @@ fn lead_of(front: &[u8; 48]) -> Lead
 }
 
 // What a frame does not have is zero.
+#[tactic(auto, using(crate::proofs::Found::found), unfolding(crate::specs::inner::Fine::lead_fine))]
 fn lead_fine(l: Lead) -> bool
     ensures { result ≡ lead_fine l }
 {
@@ -47,22 +48,23 @@ fn lead_fine(l: Lead) -> bool
         return false;
     }
     if l.frame == frame::ERROR {
-        return l.operation == 0 && trunk_read_heads::known_error(l.error as u32);
+        return l.operation == 0 && trunk_read_heads::known_error(u32::from(l.error));
     }
     if l.error != 0 {
         return false;
     }
     if l.frame == frame::INVOKE {
-        return trunk_read_heads::known_operation(l.operation as u32);
+        return trunk_read_heads::known_operation(u32::from(l.operation));
     }
     if l.frame == frame::RESULT {
-        return trunk_read_heads::is_answerable(l.operation as u32);
+        return trunk_read_heads::is_answerable(u32::from(l.operation));
     }
     // A network facility extension has no identifier and no operation.
     l.id == 0 && (l.operation == 0 && l.frame == frame::EXTENSION)
 }
 
 // The form by which a body is tested.
+#[tactic(auto, using(crate::proofs::Found::found), unfolding(crate::specs::inner::Fine::form_of))]
 fn form_of(l: Lead) -> u8
     ensures { result ≡ form_of l }
 {
@@ -86,6 +88,7 @@ fn form_of(l: Lead) -> u8
 
 // ---- the small fields
 
+#[tactic(auto, using(crate::proofs::Found::found), unfolding(crate::specs::inner::Fine::detail_fine))]
 fn detail_fine(form: u8, problem: u8, detail: u8) -> bool
     ensures { result ≡ detail_fine form problem detail }
 {
@@ -99,6 +102,7 @@ fn detail_fine(form: u8, problem: u8, detail: u8) -> bool
     }
 }
 
+#[tactic(auto, using(crate::proofs::Found::found), unfolding(crate::specs::inner::Fine::entity_fine))]
 fn entity_fine(form: u8, entity: u8) -> bool
     ensures { result ≡ entity_fine form entity }
 {
@@ -114,7 +118,7 @@ fn modes_fine(front: &[u8; 48], form: u8) -> bool
 {
     // As a slice the array shows its length to the proof.
     let all: &[u8] = front;
-    let n = all[in_front::ASKED] as usize;
+    let n = usize::from(all[in_front::ASKED]);
     if form != operation::CHARGE_REQUEST {
         return n == 0 && octets::below(all, in_front::MODES, in_front::USER, 1);
     }
@@ -123,16 +127,15 @@ fn modes_fine(front: &[u8; 48], form: u8) -> bool
             && octets::below(all, in_front::MODES, in_front::MODES + n, 7))
 }
 
-// ---- numbers and associations, with their digits in an array beside them
+// ---- numbers and associations
 
-fn number_if(a: Association, digits: &[u8; 20]) -> bool
-    requires { digits.now ≡ a.digits }
-    ensures { result ≡ number_if a }
+fn number_if(a: &Association) -> bool
+    ensures { result ≡ number_if a.now }
 {
     if a.kind == association_kind::NONE {
-        return write_tests::no_association(a, digits);
+        return write_tests::no_association(*a, &a.digits);
     }
-    write_tests::number_fine(a)
+    write_tests::number_fine(*a)
 }
 
 // 64 and 65 name a user.
@@ -142,17 +145,17 @@ fn names(form: u8) -> bool
     form == operation::COMPLETE || form == operation::DIVERSION
 }
 
-fn user_fine(a: Association, digits: &[u8; 20], form: u8) -> bool
-    requires { digits.now ≡ a.digits }
-    ensures { result ≡ user_fine form a }
+#[tactic(auto, using(crate::proofs::Found::found), unfolding(crate::specs::inner::Fine::user_fine))]
+fn user_fine(a: &Association, form: u8) -> bool
+    ensures { result ≡ user_fine form a.now }
 {
     if names(form) {
-        return write_tests::number_fine(a);
+        return write_tests::number_fine(*a);
     }
     if form == frame::EXTENSION {
-        return number_if(a, digits);
+        return number_if(a);
     }
-    write_tests::no_association(a, digits)
+    write_tests::no_association(*a, &a.digits)
 }
 
 // 61, 64 and 65 may have an association.
@@ -162,32 +165,31 @@ fn associates(form: u8) -> bool
     form == operation::FINAL || names(form)
 }
 
-// As `write_tests::association_fine`, which stays with one caller and is compiled into it.
-fn association_fine(a: Association, digits: &[u8; 20]) -> bool
-    requires { digits.now ≡ a.digits }
-    ensures { result ≡ (association true).valid a }
+// As `write_tests::association_fine` but for the private numbers; that one keeps its caller for its speed (docs/SPEED.md, "What one more caller costs").
+fn association_fine(a: &Association) -> bool
+    ensures { result ≡ (association true).valid a.now }
 {
     if a.kind == association_kind::NONE {
-        return write_tests::no_association(a, digits);
+        return write_tests::no_association(*a, &a.digits);
     }
     if a.kind == association_kind::IDENTIFIER {
-        return write_tests::identified_fine(a, digits);
+        return write_tests::identified_fine(*a, &a.digits);
     }
-    write_tests::number_fine(a)
+    write_tests::number_fine(*a)
 }
 
 // An association that was taken out of a figure.
-fn associated_fine(a: Association, digits: &[u8; 20], form: u8) -> bool
-    requires { digits.now ≡ a.digits }
-    ensures { result ≡ other_fine form a }
+#[tactic(auto, using(crate::proofs::Found::found), unfolding(crate::specs::inner::Fine::other_fine))]
+fn associated_fine(a: &Association, form: u8) -> bool
+    ensures { result ≡ other_fine form a.now }
 {
     if associates(form) {
-        return association_fine(a, digits);
+        return association_fine(a);
     }
     if form == frame::EXTENSION {
-        return number_if(a, digits);
+        return number_if(a);
     }
-    write_tests::no_association(a, digits)
+    write_tests::no_association(*a, &a.digits)
 }
 
 // Whether a figure has an association.
@@ -205,12 +207,12 @@ fn other_fine(figure: &[u8; 48], associated: bool, form: u8) -> bool
         return true;
     }
     let a = types_parts::association_of(figure);
-    let digits = a.digits;
-    associated_fine(a, &digits, form)
+    associated_fine(&a, form)
 }
 
 // ---- the charge
 
+#[tactic(auto, using(crate::proofs::Found::found), unfolding(crate::specs::inner::Fine::kind_fine))]
 fn kind_fine(form: u8, kind: u8) -> bool
     ensures { result ≡ kind_fine form kind }
 {
@@ -224,6 +226,7 @@ fn kind_fine(form: u8, kind: u8) -> bool
 }
 
 // A billing identification that money may have.
+#[tactic(auto, using(crate::proofs::Found::found), unfolding(crate::specs::inner::Fine::is_billing))]
 fn is_billing(form: u8, billing: u8) -> bool
     ensures { result ≡ is_billing form billing }
 {
@@ -280,32 +283,36 @@ fn fields_fine(figure: &[u8; 48], associated: bool, form: u8) -> bool
 }
 
 // Rates, or none.
-fn list_fine(figure: &[u8; 48], numbers: &[u32; 32], rows: &[u8; 192]) -> bool
-    requires { (length numbers.now ≡ 32) × (length rows.now ≡ 192) }
-    ensures { result ≡ list_if (stored_charge figure.now numbers.now rows.now) }
+#[tactic(auto, using(crate::proofs::Found::found), unfolding(crate::specs::inner::Fine::list_if, types::specs::Stored::figure_in))]
+fn list_fine(parts: &Parts<'_>) -> bool
+    ensures { result ≡ list_if (lent_charge parts.now) }
 {
-    let count = figure[in_figure::COUNT];
-    if figure[in_figure::KIND] == charge_kind::RATES {
+    let (numbers, rows) = (parts.numbers, parts.rows);
+    // As slices the arrays show their lengths to the proof.
+    let places: &[u32] = numbers;
+    let octets: &[u8] = rows;
+    let count = parts.figure[in_figure::COUNT];
+    if parts.figure[in_figure::KIND] == charge_kind::RATES {
         return write_rates::rates_fine(numbers, rows, count, true);
     }
     count == 0 && write_tests::no_entries(numbers, rows)
 }
 
-fn charge_fine(figure: &[u8; 48], numbers: &[u32; 32], rows: &[u8; 192], form: u8) -> bool
-    ensures { result ≡ charge_fits form (stored_charge figure.now numbers.now rows.now) }
+fn charge_fine(parts: &Parts<'_>, form: u8) -> bool
+    ensures { result ≡ charge_fits form (lent_charge parts.now) }
 {
-    // As slices the arrays show their lengths to the proof.
+    let figure = parts.figure;
+    // As a slice the array shows its length to the proof.
     let all: &[u8] = figure;
-    let places: &[u32] = numbers;
-    let octets: &[u8] = rows;
     let associated = is_associated(figure);
     other_fine(figure, associated, form)
-        && (fields_fine(figure, associated, form) && list_fine(figure, numbers, rows))
+        && (fields_fine(figure, associated, form) && list_fine(parts))
 }
 
 // ---- the extension
 
 // How great the kind of an extension may be.
+#[tactic(auto, using(crate::proofs::Found::found), unfolding(crate::specs::inner::Fine::most_extension))]
 fn most_extension(form: u8) -> u8
     ensures { result ≡ most_extension form }
 {
@@ -327,14 +334,14 @@ fn extended_fine(extension: &[u8; 244], form: u8) -> bool
 {
     let all: &[u8] = extension;
     let kind = all[in_extension::EXTENDED];
-    let n = all[in_extension::EXTENT] as usize;
+    let n = usize::from(all[in_extension::EXTENT]);
     if most_extension(form) < kind {
         return false;
     }
     if 242 < n {
         return false;
     }
-    if !octets::zeros(&all[in_extension::EXTENSION + n..244]) {
+    if !octets::all_are(&all[in_extension::EXTENSION + n..244], 0) {
         return false;
     }
     if kind == extended::NOT {
@@ -351,7 +358,7 @@ fn extension_fine(extension: &[u8; 244], form: u8) -> bool
     ensures { result ≡ extension_fine form (extension_in extension.now) }
 {
     let all: &[u8] = extension;
-    octets::zeros(all) || extended_fine(extension, form)
+    octets::all_are(all, 0) || extended_fine(extension, form)
 }
 
 // ---- the whole
@@ -368,30 +375,23 @@ fn front_fine(front: &[u8; 48], form: u8, problem: u8) -> bool
     }
     // No modes and no user.
     let all: &[u8] = front;
-    if octets::zeros(&all[in_front::ASKED..in_front::DETAIL]) {
+    if octets::all_are(&all[in_front::ASKED..in_front::DETAIL], 0) {
         return !names(form);
     }
     if !modes_fine(front, form) {
         return false;
     }
     let user = types_parts::association_of(front);
-    let digits = user.digits;
-    user_fine(user, &digits, form)
+    user_fine(&user, form)
 }
 
-// Whether the component that lies in the five parts may be written.
-pub fn trunk_fine(
-    front: &[u8; 48],
-    extension: &[u8; 244],
-    figure: &[u8; 48],
-    numbers: &[u32; 32],
-    rows: &[u8; 192],
-) -> bool
-    ensures { result ≡ trunk_component.valid (trunk_in front.now extension.now (stored_charge figure.now numbers.now rows.now)) }
+// Whether the component that lies in the parts may be written.
+pub fn trunk_fine(parts: &Parts<'_>) -> bool
+    ensures { result ≡ trunk_component.valid (trunk_of parts.now) }
 {
-    let l = lead_of(front);
+    let l = lead_of(parts.front);
     let form = form_of(l);
     lead_fine(l)
-        && (front_fine(front, form, l.problem)
-            && (charge_fine(figure, numbers, rows, form) && extension_fine(extension, form)))
+        && (front_fine(parts.front, form, l.problem)
+            && (charge_fine(parts, form) && extension_fine(parts.extension, form)))
 }

@@ -1,14 +1,22 @@
 -- A figure that is laid out in 48 octets is read back from them.
-use Rattle.prelude.proofs.Prelude.{ℕ, ◌+◌, ◌*◌, ◌/◌, ◌%◌, ◌≡◌, refl, ap, ◌∙◌, List, [], ◌∷◌, ◌++◌, length, get_or}
+use Rattle.prelude.proofs.Prelude.{ℕ, ◌+◌, ◌*◌, ◌^◌, ◌<◌, arith, ◌≡◌, refl, ap, ◌∙◌, List, [], ◌∷◌, ◌++◌, length, get_or}
 use Rattle.coding.specs.Reader.{part}
 use Rattle.types.specs.{declared.Figure.Figure, Stored.figure_in}
-use Rattle.types.proofs.Stored.{spread, by_octets, halves, quarters}
+use Rattle.types.proofs.Stored.{spread, by_octets}
+use Rattle.std.specs.Int.{to_le_bytes, w16, w32}
 
 -- a list of n is the list of its first n
 abbrev first : ℕ → List ℕ → List ℕ
 first n s = spread n (λ i. get_or s i 0)
 
-module _ (g : Figure) where
+-- a number comes back from its octets
+back_4 : (n : ℕ) (b : List ℕ) → n < 2 ^ 32 → b ≡ to_le_bytes w32 n → get_or b 0 0 + 256 * get_or b 1 0 + 65536 * (get_or b 2 0 + 256 * get_or b 3 0) ≡ n
+back_4 n b h e = rw e (omega arith)
+
+back_2 : (n : ℕ) (b : List ℕ) → n < 2 ^ 16 → b ≡ to_le_bytes w16 n → get_or b 0 0 + 256 * get_or b 1 0 ≡ n
+back_2 n b h e = rw e (omega arith)
+
+module _ (g : Figure) (n i k : List ℕ) where
   abbrev os : List ℕ
   os = g.money.currency.octets
 
@@ -19,8 +27,8 @@ module _ (g : Figure) where
   laid =
       let m = g.money in let a = g.association in
       (m.currency.count ∷ first 10 os)
-      ++ ((m.multiplier ∷ m.number % 256 ∷ m.number / 256 % 256 ∷ m.number / 65536 % 256 ∷ m.number / 16777216 ∷ [])
-      ++ ((a.id % 256 ∷ a.id / 256 ∷ a.count % 256 ∷ a.count / 256 ∷ a.kind ∷ a.plan ∷ first 20 ds)
+      ++ ((m.multiplier ∷ get_or n 0 0 ∷ get_or n 1 0 ∷ get_or n 2 0 ∷ get_or n 3 0 ∷ [])
+      ++ ((get_or i 0 0 ∷ get_or i 1 0 ∷ get_or k 0 0 ∷ get_or k 1 0 ∷ a.kind ∷ a.plan ∷ first 20 ds)
       ++ (g.kind ∷ g.total ∷ g.billed ∷ g.billing ∷ g.arrangement ∷ g.count ∷ [])))
 
   -- the figure with other arrays and wide numbers
@@ -36,17 +44,15 @@ module _ (g : Figure) where
     count = g.count;
   }
 
-  pub figure_laid : length os ≡ 10 → length ds ≡ 20 → figure_in laid ≡ g
+  pub figure_laid : length os ≡ 10 → length ds ≡ 20 → n ≡ to_le_bytes w32 g.money.number → i ≡ to_le_bytes w16 g.association.id → k ≡ to_le_bytes w16 g.association.count
+      → g.money.number < 2 ^ 32 → g.association.id < 2 ^ 16 → g.association.count < 2 ^ 16 → figure_in laid ≡ g
   unfolding figure_in part
-  figure_laid e h =
-      let n = g.money.number in
-      let i = g.association.id in
-      let k = g.association.count in
-      let n' = n % 256 + 256 * (n / 256 % 256) + 65536 * (n / 65536 % 256 + 256 * (n / 16777216)) in
-      let i' = i % 256 + 256 * (i / 256) in
-      let k' = k % 256 + 256 * (k / 256) in
+  figure_laid e h p q r l m o =
+      let n' = get_or n 0 0 + 256 * get_or n 1 0 + 65536 * (get_or n 2 0 + 256 * get_or n 3 0) in
+      let i' = get_or i 0 0 + 256 * get_or i 1 0 in
+      let k' = get_or k 0 0 + 256 * get_or k 1 0 in
       ap (λ (x : List ℕ). made x n' (first 20 ds) i' k') (by_octets 10 (λ (s : List ℕ). first 10 s ≡ s) (λ f. refl) os e)
-      ∙ ap (λ (x : ℕ). made os x (first 20 ds) i' k') (quarters n)
-      ∙ ap (λ (x : List ℕ). made os n x i' k') (by_octets 20 (λ (s : List ℕ). first 20 s ≡ s) (λ f. refl) ds h)
-      ∙ ap (λ (x : ℕ). made os n ds x k') (halves i)
-      ∙ ap (λ (x : ℕ). made os n ds i x) (halves k)
+      ∙ ap (λ (x : ℕ). made os x (first 20 ds) i' k') (back_4 g.money.number n l p)
+      ∙ ap (λ (x : List ℕ). made os g.money.number x i' k') (by_octets 20 (λ (s : List ℕ). first 20 s ≡ s) (λ f. refl) ds h)
+      ∙ ap (λ (x : ℕ). made os g.money.number ds x k') (back_2 g.association.id i m q)
+      ∙ ap (λ (x : ℕ). made os g.money.number ds g.association.id x) (back_2 g.association.count k o r)

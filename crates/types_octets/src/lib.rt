@@ -6,7 +6,7 @@ ghost use Rattle.types.specs.Stored.{figure_in};
 
 use types::Figure;
 
-// The 48 octets that a figure lies in.
+// The 48 octets that a figure lies in, one by one: with copies into parts of the array the proof did not close.
 pub fn octets_of(f: Figure) -> [u8; 48]
     ensures { figure_in result ≡ f }
 {
@@ -15,9 +15,9 @@ pub fn octets_of(f: Figure) -> [u8; 48]
     let a = f.association;
     let o = c.octets;
     let d = a.digits;
-    let n = m.number;
-    let i = a.id;
-    let k = a.count;
+    let n = m.number.to_le_bytes();
+    let i = a.id.to_le_bytes();
+    let k = a.count.to_le_bytes();
     [
         c.count,
         o[0],
@@ -31,14 +31,14 @@ pub fn octets_of(f: Figure) -> [u8; 48]
         o[8],
         o[9],
         m.multiplier,
-        (n % 256) as u8,
-        (n / 256 % 256) as u8,
-        (n / 65536 % 256) as u8,
-        (n / 16777216) as u8,
-        (i % 256) as u8,
-        (i / 256) as u8,
-        (k % 256) as u8,
-        (k / 256) as u8,
+        n[0],
+        n[1],
+        n[2],
+        n[3],
+        i[0],
+        i[1],
+        k[0],
+        k[1],
         a.kind,
         a.plan,
         d[0],

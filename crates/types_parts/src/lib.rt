@@ -1,5 +1,5 @@
 // Takes a record's octets in the caller's memory apart into its numbers and its figure. Numbers lie low octet first.
-#![tactic(auto)]
+#![tactic(auto, unfolding(coding::specs::Reader::part, types::specs::Stored::figure_in))]
 
 ghost use Rattle.std.specs.Prelude.{◌≡◌, ◌+◌, ◌*◌};
 ghost use Rattle.types.specs.Stored.{two, front_in, money_in, association_in, figure_in};
@@ -9,13 +9,7 @@ use types::{Association, Currency, Figure, Front, Money, in_figure, in_front};
 pub fn number16(low: u8, high: u8) -> u16
     ensures { result ≡ low + 256 * high }
 {
-    (low as u16) + 256 * (high as u16)
-}
-
-fn number32(low: u16, high: u16) -> u32
-    ensures { result ≡ low + 65536 * high }
-{
-    (low as u32) + 65536 * (high as u32)
+    u16::from_le_bytes([low, high])
 }
 
 // The identifier and the error in a trunk's front.
@@ -50,37 +44,28 @@ pub fn front_of(f: &[u8; 8]) -> Front
 pub fn money_of(f: &[u8; 48]) -> Money
     ensures { result ≡ money_in f.now }
 {
-    // As a slice the array shows its length to the proof.
-    let all: &[u8] = f;
-    let mut octets: [u8; 10] = [0; 10];
-    let mut i = 0;
-    while i < 10 {
-        octets[i] = f[in_figure::CURRENCY + i];
-        i += 1;
-    }
+    let mut octets = [0; 10];
+    octets.copy_from_slice(&f[in_figure::CURRENCY..in_figure::MULTIPLIER]);
     Money {
         currency: Currency {
             count: f[in_figure::CURRENCY_COUNT],
             octets,
         },
         multiplier: f[in_figure::MULTIPLIER],
-        number: number32(
-            number16(f[in_figure::NUMBER], f[in_figure::NUMBER_1]),
-            number16(f[in_figure::NUMBER_2], f[in_figure::NUMBER_3]),
-        ),
+        number: u32::from_le_bytes([
+            f[in_figure::NUMBER],
+            f[in_figure::NUMBER_1],
+            f[in_figure::NUMBER_2],
+            f[in_figure::NUMBER_3],
+        ]),
     }
 }
 
 pub fn association_of(f: &[u8; 48]) -> Association
     ensures { result ≡ association_in f.now }
 {
-    let all: &[u8] = f;
-    let mut digits: [u8; 20] = [0; 20];
-    let mut i = 0;
-    while i < 20 {
-        digits[i] = f[in_figure::DIGITS + i];
-        i += 1;
-    }
+    let mut digits = [0; 20];
+    digits.copy_from_slice(&f[in_figure::DIGITS..in_figure::KIND]);
     Association {
         id: number16(f[in_figure::ID], f[in_figure::ID_HIGH]),
         count: number16(f[in_figure::DIGITS_COUNT], f[in_figure::DIGITS_COUNT_HIGH]),

@@ -48,6 +48,7 @@ fn passed_over(o: Outcome, octets: &[u8]) -> bool
 
 // ---- one event
 
+#[tactic(auto, unfolding(crate::specs::inner::Seeing::turn_of))]
 fn turn(t: State, e: Event, octets: &[u8], n: u64) -> State
     ensures { result ≡ turn_of t e octets.now n }
 {
@@ -64,7 +65,6 @@ fn explained(rows: &[u16], octets: &[u8]) -> Reason
     requires { adds_up rows.now (length octets.now) ≡ true }
     ensures { result ≡ reason_of (events_of rows.now octets.now) }
 {
-    let n = rows.len() / 6;
     let account = account::fresh();
     let seen = Seen {
         efinal: 0,
@@ -76,18 +76,17 @@ fn explained(rows: &[u16], octets: &[u8]) -> Reason
     };
     let mut state = State { account, seen };
     let mut at: usize = 0;
-    let mut i: usize = 0;
-    while i < n {
+    for i in 0..rows.len() / 6 {
         let end = at + events::count_at(rows, i);
         let e = events::row_at(rows, i);
-        i += 1;
-        state = turn(state, e, &octets[at..end], i as u64);
+        state = turn(state, e, &octets[at..end], i as u64 + 1);
         at = end;
     }
     why_rules::concluded(state.account.status.phase, state.seen)
 }
 
 // One reason, from an event list in slices.
+#[tactic(auto, unfolding(why_rules::specs::Reasons::why_of))]
 pub fn why(rows: &[u16], octets: &[u8]) -> Reason
     ensures { result ≡ why_of rows.now octets.now }
 {

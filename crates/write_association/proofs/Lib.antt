@@ -1,2 +1,3 @@
 mod Cited
 pub mod Sizes
+mod Search

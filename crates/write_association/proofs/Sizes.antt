@@ -4,7 +4,7 @@ use Rattle.prelude.proofs.{Prelude.{arith, length, take, length-append, length-t
 use Rattle.coding.specs.{Codec.{canonical, over, prim, pair, sort, nothing, cons, length_octets}, Leaves.{string, identifier, only}, inner.Written.{Wrote, Room, lead, full_number}}
 use Rattle.coding.proofs.{Basic.{and_left, and_right}, Writing.{number_write, cons_write, lead_length_short, room_as, room_head}}
 use Rattle.coding.proofs.Small.{small_length, string_write, string_length, id_length, id_range}
-use Rattle.write_elements.{specs.inner.Element.element, proofs.Parts.{element_as_lem, room_2, room_3}}
+use Rattle.write_elements.{specs.inner.Element.element, proofs.Parts.{wrote_three, element_as_lem, room_2, room_3}}
 use Rattle.types.specs.{declared.Association.Association, Charges.is_digit, Charges.digits_leaf, Charges.digits_of}
 use Rattle.types.specs.{Charges.identified, Charges.planned, Charges.party_number, Charges.plain_party, Charges.party, Charges.unassociated, Charges.association}
 use Rattle.write_association.specs.inner.Octets.{plan_tag}
@@ -118,6 +118,10 @@ module _ (a : Association) (v : (party_number true).valid a ≡ true) where
 
         pub planned_3 : {m n : List ℕ} {y z : ℕ} → Wrote l m x (lead tag (5 + a.count)) y → Wrote m n y (full_number 0x0a a.plan) z → Room n z (digits_element 0x12 a)
         planned_3 = room_3 planned_octets r
+
+      pub planned_wrote : {l m k j : List ℕ} {x y z w : ℕ} (n : ℕ) → n ≡ a.count → Wrote l m x (lead tag (5 + n)) y → Wrote m k y (full_number 0x0a a.plan) z
+          → Wrote k j z (0x12 ∷ length_octets n ++ take n a.digits) w → Wrote l j x ((party_number true).write a) w
+      planned_wrote n q = rw q (wrote_three planned_octets)
 
     pub planned_length : a.count + 7 ≡ length ((party_number true).write a)
     planned_length =

@@ -2,7 +2,7 @@
 //
 // Each `_size` is the octets of a valid value, and each `put_` stores those octets into the caller's buffer from a place on and gives the place
 // after them.
-#![tactic(auto)]
+#![tactic(auto, using(crate::proofs::Search::parts))]
 
 ghost use Rattle.std.specs.Prelude.{◌≡◌, true, ℕ, ◌≤◌, length};
 ghost use Rattle.coding.specs.inner.Written.{Wrote, Room};
@@ -20,7 +20,7 @@ pub fn number_size(a: Association) -> usize
     ensures value { result ≡ length ((party_number true).write a) }
     ensures few { result ≤ 27 }
 {
-    let n = a.count as usize;
+    let n = usize::from(a.count);
     if write_tests::is_planned(a.kind) {
         return n + 7;
     }
@@ -67,7 +67,7 @@ fn put_planned(buf: &mut [u8], at: usize, a: Association) -> usize
     requires room { Room buf.old at ((party_number true).write a) }
     ensures { Wrote buf.old buf.new at ((party_number true).write a) result }
 {
-    let n = a.count as usize;
+    let n = usize::from(a.count);
     let digits = a.digits;
     let tag = plan_tag(a.kind);
     let p = write_elements::put_lead(buf, at, tag, 5 + n);
@@ -79,7 +79,7 @@ pub fn put_party(buf: &mut [u8], at: usize, a: Association) -> usize
     requires { ((party_number true).valid a ≡ true) × Room buf.old at ((party_number true).write a) }
     ensures { Wrote buf.old buf.new at ((party_number true).write a) result }
 {
-    let n = a.count as usize;
+    let n = usize::from(a.count);
     let digits = a.digits;
     if write_tests::is_planned(a.kind) {
         return put_planned(buf, at, a);

@@ -102,32 +102,32 @@ fn put_unit(buf: &mut [u8], at: usize, u: Units) -> usize
 // ---- lists of units
 
 // Whether the first n entries may be written.
+#[tactic(auto, using(crate::proofs::Search::passing))]
 fn units_valid(numbers: &[u32; 32], rows: &[u8; 192], n: usize) -> bool
     requires { n ≤ 32 }
     ensures { result ≡ all unit.valid (unit_list (laid numbers.now rows.now) n) }
 {
-    let mut i = 0;
-    while i < n {
-        let u = unit_of(numbers, rows, i);
-        if !unit_fine(u) {
+    for i in 0..n {
+        if !unit_fine(unit_of(numbers, rows, i)) {
             return false;
         }
-        i += 1;
     }
     true
 }
 
+#[tactic(auto, using(crate::proofs::Search::passing))]
 fn units_fine(numbers: &[u32; 32], rows: &[u8; 192], count: u8) -> bool
     requires { (length numbers.now ≡ 32) × (length rows.now ≡ 192) }
     ensures { result ≡ units_fine (laid numbers.now rows.now) count }
 {
-    let n = count as usize;
+    let n = usize::from(count);
     n != 0
         && (n <= 32
             && (write_tests::unused_zero(numbers, rows, n, 2 * n) && units_valid(numbers, rows, n)))
 }
 
 // The octets of the first n entries.
+#[tactic(auto, using(crate::proofs::Search::octets))]
 fn units_size(numbers: &[u32; 32], rows: &[u8; 192], n: usize) -> usize
     requires n_bound { n ≤ 32 }
     requires n_value { all unit.valid (unit_list (laid numbers.now rows.now) n) ≡ true }
@@ -135,29 +135,24 @@ fn units_size(numbers: &[u32; 32], rows: &[u8; 192], n: usize) -> usize
     ensures few { result ≤ 352 }
 {
     let mut size = 0;
-    let mut i = 0;
-    while i < n {
-        let u = unit_of(numbers, rows, i);
-        size += unit_size(u);
-        i += 1;
+    for i in 0..n {
+        size += unit_size(unit_of(numbers, rows, i));
     }
     size
 }
 
+#[tactic(auto, using(crate::proofs::Search::octets))]
 fn put_units(buf: &mut [u8], at: usize, numbers: &[u32; 32], rows: &[u8; 192], n: usize) -> usize
     requires n_bound { n ≤ 32 }
     requires n_value { all unit.valid (unit_list (laid numbers.now rows.now) n) ≡ true }
     requires room { Room buf.old at (write_all unit.write (unit_list (laid numbers.now rows.now) n)) }
     ensures { Wrote buf.old buf.new at (write_all unit.write (unit_list (laid numbers.now rows.now) n)) result }
 {
-    let mut p = at;
-    let mut i = 0;
-    while i < n {
-        let u = unit_of(numbers, rows, i);
-        p = put_unit(buf, p, u);
-        i += 1;
+    let mut next = at;
+    for i in 0..n {
+        next = put_unit(buf, next, unit_of(numbers, rows, i));
     }
-    p
+    next
 }
 
 // ---- charges
@@ -200,7 +195,7 @@ pub fn charge_size(f: Figure, numbers: &[u32; 32], rows: &[u8; 192], operation: 
     ensures value { result ≡ length ((charge_of operation).write (with_list f numbers.now rows.now)) }
     ensures few { result ≤ 600 }
 {
-    let n = f.count as usize;
+    let n = usize::from(f.count);
     if f.kind == charge_kind::UNITS {
         return write_figures::priced_size(f, operation, units_size(numbers, rows, n));
     }
@@ -224,7 +219,7 @@ fn put_units_charge(
     requires room { Room buf.old at (units_charge operation f (laid numbers.now rows.now)) }
     ensures { Wrote buf.old buf.new at (units_charge operation f (laid numbers.now rows.now)) result }
 {
-    let n = f.count as usize;
+    let n = usize::from(f.count);
     let size = units_size(numbers, rows, n);
     let p = write_figures::put_before(buf, at, f, operation, size);
     let q = put_units(buf, p, numbers, rows, n);

@@ -2,7 +2,7 @@
 //
 // A writer is given a buffer, a place and what to write. It stores those octets from the place on, changes no other octet, and answers
 // the place after them.
-#![tactic(auto)]
+#![tactic(auto, using(crate::proofs::Search::stores))]
 
 ghost use Rattle.std.specs.Prelude.{ℕ, ◌+◌, ◌≤◌, ◌<◌, ◌≡◌, [], ◌∷◌, ◌++◌, length, take};
 ghost use Rattle.coding.specs.Codec.{prim, length_octets};

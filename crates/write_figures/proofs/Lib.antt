@@ -3,3 +3,4 @@ pub mod Forms
 pub mod Sizes
 pub mod Frames
 pub mod Plain
+mod Search

@@ -1,5 +1,5 @@
 // All of a record but its charge: whether it may be written, how many octets it takes, and its octets.
-#![tactic(auto)]
+#![tactic(auto, using(crate::proofs::Search::heads))]
 
 ghost use Rattle.std.specs.Prelude.{◌≡◌, true, false, cond, [], ◌++◌, ◌+◌, ◌≤◌, ◌<◌, length, eqb};
 ghost use Rattle.coding.specs.Codec.{one_of};
@@ -15,10 +15,7 @@ use types::{charging_case, frame, operation};
 fn is_operation(n: u8) -> bool
     ensures { result ≡ one_of operations n }
 {
-    match n {
-        operation::CHARGING_REQUEST..=operation::E_UNITS => true,
-        _ => false,
-    }
+    matches!(n, operation::CHARGING_REQUEST..=operation::E_UNITS)
 }
 
 pub fn problem_fine(problem: u8, detail: u8) -> bool
@@ -68,7 +65,7 @@ fn error_fine(f: types::Front) -> bool
     f.unnamed == 0
         && (f.operation == 0
             && (f.problem == 0
-                && (f.detail == 0 && read_heads::values::known_error(f.error as u32))))
+                && (f.detail == 0 && read_heads::values::known_error(u32::from(f.error)))))
 }
 
 fn reject_fine(f: types::Front) -> bool
@@ -89,6 +86,7 @@ pub fn is_called(unnamed: u8, id: u16) -> bool
     }
 }
 
+#[tactic(auto, unfolding(crate::specs::inner::Fronts::front_fine))]
 pub fn front_fine(f: types::Front) -> bool
     ensures { result ≡ front_fine f }
 {
@@ -144,6 +142,7 @@ pub fn front_size(f: types::Front, n: usize) -> usize
     i + 3
 }
 
+#[tactic(auto, using(crate::proofs::Search::stores))]
 fn put_invoke(buf: &mut [u8], at: usize, f: types::Front) -> usize
     requires { (f.operation < 128) × (f.detail < 128) × Room buf.old at (id_octets f ++ (full_number 0x02 f.operation ++ cond (eqb f.operation 30) (full_number 0x0a f.detail) [])) }
     ensures { Wrote buf.old buf.new at (id_octets f ++ (full_number 0x02 f.operation ++ cond (eqb f.operation 30) (full_number 0x0a f.detail) [])) result }
@@ -156,6 +155,7 @@ fn put_invoke(buf: &mut [u8], at: usize, f: types::Front) -> usize
     q
 }
 
+#[tactic(auto, using(crate::proofs::Search::stores))]
 fn put_result(buf: &mut [u8], at: usize, f: types::Front, n: usize) -> usize
     requires { (f.operation < 128) × (n < 250) × Room buf.old at (id_octets f ++ (lead 0x30 (3 + n) ++ full_number 0x02 f.operation)) }
     ensures { Wrote buf.old buf.new at (id_octets f ++ (lead 0x30 (3 + n) ++ full_number 0x02 f.operation)) result }
@@ -176,6 +176,7 @@ fn put_caller(buf: &mut [u8], at: usize, f: types::Front) -> usize
     write_elements::put_id(buf, at, 0x02, f.id)
 }
 
+#[tactic(auto, using(crate::proofs::Search::stores))]
 fn put_reject(buf: &mut [u8], at: usize, f: types::Front) -> usize
     requires { (f.detail < 128) × Room buf.old at (cond (eqb f.unnamed 1) (lead 0x05 0) (id_octets f) ++ full_number f.problem f.detail) }
     ensures { Wrote buf.old buf.new at (cond (eqb f.unnamed 1) (lead 0x05 0) (id_octets f) ++ full_number f.problem f.detail) result }
@@ -184,6 +185,7 @@ fn put_reject(buf: &mut [u8], at: usize, f: types::Front) -> usize
     write_elements::put_small(buf, p, f.problem, f.detail)
 }
 
+#[tactic(auto, using(crate::proofs::Search::stores))]
 fn put_error(buf: &mut [u8], at: usize, f: types::Front) -> usize
     requires { (f.error < 128) × Room buf.old at (id_octets f ++ full_number 0x02 f.error) }
     ensures { Wrote buf.old buf.new at (id_octets f ++ full_number 0x02 f.error) result }
@@ -192,6 +194,7 @@ fn put_error(buf: &mut [u8], at: usize, f: types::Front) -> usize
     write_elements::put_small(buf, p, 0x02, f.error)
 }
 
+#[tactic(auto, using(crate::proofs::Search::fronts), unfolding(crate::specs::inner::Fronts::front_octets))]
 pub fn put_front(buf: &mut [u8], at: usize, f: types::Front, n: usize) -> usize
     requires { (front_fine f ≡ true) × (n < 250) × Room buf.old at (front_octets f n) }
     ensures { Wrote buf.old buf.new at (front_octets f n) result }

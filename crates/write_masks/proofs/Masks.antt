@@ -5,8 +5,12 @@ use Rattle.coding.{specs.Codec.same_list, specs.Reader.part, proofs.Tests.ands, 
 use Rattle.types.specs.{declared.Figure.Figure, Charges.no_money, Charges.no_association, Charges.same_association, Charges.money, Charges.association}
 use Rattle.types.specs.{Stored.figure_in, Stored.money_in, Stored.association_in, Arguments.same_money}
 use Rattle.types.proofs.Stored.{spread, by_octets}
-use Rattle.write_tests.{specs.inner.Fine.{figure_fine, marks_fine, money_fine, association_fine, priced_marks, bare_kind}, proofs.Truth.same_truth, proofs.Tests.association_0}
-use Rattle.write_masks.specs.inner.Masks.{masked, with_money, without_money, clear_but, mask_of, billed_fine, priced_fine, arranged_fine, used_fine, associated, masked_fine}
+use Rattle.write_tests.{specs.inner.Fine.{figure_fine, marks_fine, money_fine, association_fine, priced_marks, bare_kind}, proofs.Truth.{same_truth, zero_first}, proofs.Tests.association_0}
+use Rattle.write_masks.specs.inner.Masks.{masked, with_money, without_money, clear_but, mask_of, billed_fine, priced_fine, used_fine, associated, masked_fine}
+use Rattle.prelude.proofs.Prelude.{◌≤◌, take}
+use Rattle.std.specs.List.{list_all}
+use Rattle.std.proofs.lemmas.List.Folds.{list_all_more}
+use Rattle.octets.proofs.Slices.{same_whole}
 
 -- ---- zeros, in runs of octets
 
@@ -49,6 +53,19 @@ masked_at [] xs i h l = absurd (omega arith)
 masked_at (u ∷ us) [] i h l = absurd (omega arith)
 masked_at (u ∷ us) (x ∷ xs) zero h l = refl
 masked_at (u ∷ us) (x ∷ xs) (suc i) h l = masked_at us xs i (omega arith) (omega arith)
+
+-- a loop that tests what is left, one octet after the other
+pub clear_more : (us xs : List ℕ) (i y : ℕ) (b : Bool) → length us ≡ 48 → length xs ≡ 48 → i < 48 → b ≡ list_all (eqb 0) (take i (masked us xs))
+    → y ≡ cond (eqb (get_or us i 0) 0x2e) (get_or xs i 0) 0 → b && eqb y 0 ≡ list_all (eqb 0) (take (i + 1) (masked us xs))
+clear_more us xs i y b h l k e w =
+    sym (list_all_more (eqb 0) (masked us xs) i 0 (omega (arith, masked_long us xs 48 h l))
+    ∙ rw (masked_at us xs i (omega arith) (omega arith), ← w, ← e, zero_first y) refl)
+
+pub clear_whole : (us xs : List ℕ) (i : ℕ) (b : Bool) → length us ≡ 48 → length xs ≡ 48 → 48 ≤ i → b ≡ list_all (eqb 0) (take i (masked us xs)) → b ≡ clear_but us xs
+unfolding clear_but
+clear_whole us xs i b h l e w =
+    let n = masked_long us xs 48 h l in
+    same_whole eqb 0 (masked us xs) i b (omega (arith, n)) w ∙ ap (λ (k : ℕ). same_list eqb (replicate k 0) (masked us xs)) n
 
 -- ---- the parts of a figure that lie in 48 octets
 

@@ -1,5 +1,5 @@
 // Says which charges without a list may be written: what their kind uses is in range, and all else is zero, by one mask for each kind.
-#![tactic(auto)]
+#![tactic(auto, using(crate::proofs::Search::masks))]
 
 ghost use Rattle.std.specs.Prelude.{◌≡◌, true, false, ◌||◌, cond, get_or, eqb};
 ghost use Rattle.types.specs.Charges.{association};
@@ -15,27 +15,19 @@ use types::{association_kind, billing, charge_kind, in_figure, operation};
 // 26, and the small fields are the last 6.
 
 // What must be zero of an octet.
-fn unused(x: u8, used: u8) -> u32
+fn unused(x: u8, used: u8) -> u8
     ensures { result ≡ cond (eqb used 0x2e) x 0 }
 {
-    if used == b'.' {
-        return octets::wide32(x);
-    }
-    0
+    if used == b'.' { x } else { 0 }
 }
 
-// Whether all that a mask has no use for is zero. As in `octets::zeros`, the loop has no way out but its end.
+// Whether all that a mask has no use for is zero. As in `octets::all_are`, the loop has no way out but its end.
 fn clear_but(used: &[u8; 48], figure: &[u8; 48]) -> bool
     ensures { result ≡ clear_but used.now figure.now }
 {
-    // As slices the arrays show their lengths to the proof.
-    let mask: &[u8] = used;
-    let all: &[u8] = figure;
     let mut clear = true;
-    let mut i = 0;
-    while i < 48 {
-        clear = octets::still(clear, unused(figure[i], used[i]));
-        i += 1;
+    for (i, x) in figure.iter().enumerate() {
+        clear &= unused(*x, used[i]) == 0;
     }
     clear
 }
@@ -51,6 +43,7 @@ pub fn clear_by(figure: &[u8; 48], associated: bool, with: &[u8; 48], without: &
 }
 
 // By the masks of a kind.
+#[tactic(auto, unfolding(crate::specs::inner::Masks::mask_of))]
 fn clear_of(figure: &[u8; 48], associated: bool, kind: u8) -> bool
     ensures { result ≡ clear_but (mask_of associated kind) figure.now }
 {
@@ -121,6 +114,7 @@ fn arranged_fine(arrangement: u8, operation: u8) -> bool
 }
 
 // Whether an operation may have a kind that has no small field.
+#[tactic(auto, unfolding(write_tests::specs::inner::Fine::bare_kind))]
 fn bare_kind(kind: u8, operation: u8) -> bool
     ensures { result ≡ bare_kind operation kind }
 {
@@ -133,6 +127,7 @@ fn bare_kind(kind: u8, operation: u8) -> bool
 }
 
 // All that the kind uses but the association.
+#[tactic(auto, unfolding(crate::specs::inner::Masks::used_fine))]
 fn used_fine(figure: &[u8; 48], kind: u8, operation: u8) -> bool
     ensures { result ≡ used_fine operation kind figure.now }
 {
@@ -156,6 +151,7 @@ fn used_fine(figure: &[u8; 48], kind: u8, operation: u8) -> bool
 // ---- figures
 
 // Whether a figure may have an association, and has one.
+#[tactic(auto, unfolding(types::specs::Stored::figure_in))]
 fn is_associated(figure: &[u8; 48], operation: u8) -> bool
     ensures { result ≡ associated operation (figure_in figure.now) }
 {
@@ -180,8 +176,6 @@ fn associate_fine(figure: &[u8; 48], associated: bool) -> bool
 pub fn parts_fine(figure: &[u8; 48], operation: u8) -> bool
     ensures { result ≡ figure_fine operation (figure_in figure.now) }
 {
-    // As a slice the array shows its length to the proof.
-    let all: &[u8] = figure;
     let kind = figure[in_figure::KIND];
     let associated = is_associated(figure, operation);
     associate_fine(figure, associated)

@@ -1,7 +1,7 @@
 -- Lists in rows: loops over the entries of a table, and arrays that hold the rows of a table and zeros after them.
-use Rattle.prelude.proofs.Prelude.{ℕ, zero, suc, ◌+◌, ◌-◌, ◌*◌, ◌≤◌, ◌<◌, ◌≡◌, refl, sym, ap, ap₂, ◌∙◌, List, [], ◌∷◌, ◌++◌, append-nil, append_assoc, Bool, true, false, not, ◌&&◌, arith}
-use Rattle.prelude.proofs.Prelude.{mul-zero, mul-suc, add-one, length, get_or, take, drop, replicate, length-append, take-append-drop, take-add, drop-cons, drop-length}
-use Rattle.prelude.proofs.Prelude.{length-take-le, ltb, leb, eqb, eq-eqb, ne_eqb, leb-true, ltb-true, ltb-false, not-true, not-false}
+use Rattle.prelude.proofs.Prelude.{ℕ, zero, suc, ◌+◌, ◌*◌, ◌≤◌, ◌<◌, ◌≡◌, refl, sym, ap, ap₂, ◌∙◌, List, [], ◌∷◌, ◌++◌, append-nil, append_assoc, Bool, true, false, not, ◌&&◌, arith}
+use Rattle.prelude.proofs.Prelude.{mul-zero, mul-suc, add-one, length, get_or, take, drop, length-append, take-add, drop-cons, drop-length}
+use Rattle.prelude.proofs.Prelude.{ltb, leb, eqb, eq-eqb, ne_eqb, leb-true, ltb-true, ltb-false}
 use Rattle.coding.{specs.Codec.Run, specs.Codec.all, specs.Codec.write_all, specs.Codec.some_more, specs.Codec.same_list, specs.Codec.pad, specs.inner.Written.Wrote, specs.inner.Written.Room}
 use Rattle.coding.{specs.Rows.rows, specs.Rows.table, proofs.Basic.and_left, proofs.Basic.and_right, proofs.Writing.wrote_as, proofs.Writing.wrote_both, proofs.Writing.wrote_next}
 use Rattle.coding.{proofs.Writing.wrote_none, proofs.Writing.Split, proofs.Writing.split, proofs.Writing.room_first, proofs.Writing.room_rest, proofs.Rows.table_length}

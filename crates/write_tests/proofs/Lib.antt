@@ -1,3 +1,4 @@
 pub mod Truth
 pub mod Tests
 pub mod Valid
+mod Search

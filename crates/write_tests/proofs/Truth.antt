@@ -1,6 +1,6 @@
 -- Tests joined by `and`: in any order, and taken apart.
-use Rattle.prelude.proofs.Prelude.{ℕ, zero, suc, ◌+◌, ◌-◌, ◌≤◌, ◌≡◌, refl, sym, subst, ◌∙◌, List, Bool, true, false, not, ◌&&◌, ◌↔◌, arith, leb, eqb, leb-true, le-leb, eqb-true, eq-eqb}
-use Rattle.prelude.proofs.Prelude.{ne_eqb, not-true, not-false}
+use Rattle.prelude.proofs.Prelude.{ℕ, zero, suc, ◌+◌, ◌-◌, ◌≤◌, ◌≡◌, refl, sym, subst, List, Bool, true, false, ◌&&◌, ◌↔◌, arith, leb, eqb, leb-true, le-leb, eqb-true, eq-eqb}
+use Rattle.prelude.proofs.Prelude.{ne_eqb}
 use Rattle.coding.{specs.Codec.same_list, proofs.Padded.eqb_equal, proofs.Padded.list_equal, proofs.Holds.and_iff, proofs.Tests.ands}
 
 -- two tests are the same if each says what the other says

@@ -1,13 +1,18 @@
--- What the inner functions do, by the numbers that they are handed. proofs/Transitions.antt and Phases.antt tie them to the table of transitions.
-use Rattle.std.specs.Prelude.{ℕ, ◌&&◌, cond, eqb}
+-- What the inner functions do, by the numbers that they are handed. The code has the rows of the table of transitions.
+use Rattle.std.specs.Prelude.{ℕ, ◌&&◌, cond, eqb, Option, Some, None}
 use Rattle.phases.specs.declared.Event.{Event}
 use Rattle.phases.specs.declared.Status.{Status}
 use Rattle.phases.specs.declared.Moving.{Moving}
-use Rattle.phases.specs.Phases.{Idle, Setup, allowed, leads_to, no_service, clashes, moved}
+use Rattle.phases.specs.Phases.{Setup, Request, no_request, allowed, leads_to, no_service, clashes, moved}
 
--- the phase that an event leads to, and Idle where it is not allowed: nothing leads to Idle
-abbrev pub next_phase : ℕ → ℕ → ℕ
-next_phase kind phase = cond (allowed kind phase) (leads_to kind phase) Idle
+-- the phase that an event leads to, if it is allowed
+abbrev pub next_phase : ℕ → ℕ → Option ℕ
+next_phase kind phase = cond (allowed kind phase) (Some (leads_to kind phase)) None
+
+-- what is kept of an identifier that is asked for
+abbrev pub kept : Option ℕ → Request
+kept None = no_request
+kept (Some id) = record { mark = 1; id = id }
 
 -- ---- what an event that is no component changes
 

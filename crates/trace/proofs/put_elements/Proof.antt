@@ -1,5 +1,5 @@
 -- At each place the components of the elements that are left are still to be laid.
-use Rattle.prelude.proofs.Prelude.{◌<◌, ◌-◌, ◌+◌, refl, ap, arith, length, get_or, not-true, not-false}
+use Rattle.prelude.proofs.Prelude.{◌<◌, ◌-◌, ◌+◌, refl, ap, arith, length, get_or}
 use Rattle.trace_framing.{specs.Framing.Elements, proofs.Laws.end_past, proofs.Laws.end_near, proofs.Laws.elements_on}
 use Rattle.trace_messages.{specs.Trace.components_left, specs.Trace.components_after, specs.Trace.component_events, proofs.Walk.events_more, proofs.Walk.from_over}
 use Rattle.trace.specs.inner.Putting.{Progress}

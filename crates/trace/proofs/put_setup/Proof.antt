@@ -1,4 +1,4 @@
-use Rattle.trace.proofs.{Cited.{arith, not-true, not-false}, Laying.{puts_none, bare_room}, put_setup.Statement.statement}
+use Rattle.trace.proofs.{Cited.{arith}, Laying.{puts_none, bare_room}, put_setup.Statement.statement}
 use Rattle.trace.proofs.put_setup.Tie as tie
 
 put-bare-requires : tie.Need-put_bare-requires

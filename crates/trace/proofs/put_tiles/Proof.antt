@@ -1,5 +1,5 @@
 -- At each place the components of what is left of the element are still to be laid.
-use Rattle.prelude.proofs.Prelude.{ℕ, List, ◌-◌, sym, ap, ◌∙◌, arith, length, not-true, not-false}
+use Rattle.prelude.proofs.Prelude.{ℕ, List, ◌-◌, sym, ap, ◌∙◌, arith, length}
 use Rattle.coding.{specs.Reader.part, proofs.Parts.part_length}
 use Rattle.element.specs.{Element.element_of, Cut.starts_of, Cut.parts_of}
 use Rattle.element_pass.proofs.Going.{Goes, Here, goes_first, goes_on, goes_none}

@@ -1,21 +1,20 @@
 -- What a frame of a trunk's component holds, as it lies in the caller's parts. For the writer's inner functions.
 use Rattle.std.specs.Prelude.{ℕ, ◌+◌, ◌*◌, ◌≤◌, ◌≡◌, true, cond, List, [], ◌∷◌, ◌++◌, length, get_or, eqb}
-use Rattle.std.specs.Borrow.{Bor}
-use denote.Triple.Both.{Both}
 use Rattle.coding.specs.Codec.{Run, prim, pick_run, length_octets, write_all}
 use Rattle.coding.specs.Rows.{table}
 use Rattle.coding.specs.Leaves.{number, identifier}
 use Rattle.coding.specs.inner.Written.{Room, lead, full_number}
 use Rattle.types.specs.declared.Association.{Association}
 use Rattle.types.specs.Charges.{party_number, association}
-use Rattle.types.specs.Stored.{two, association_in, stored_charge}
+use Rattle.types.specs.Stored.{two, association_in}
 use Rattle.trunk_types.specs.declared.Extension.{Extension}
 use Rattle.trunk_types.specs.declared.Body.{Body}
+use Rattle.trunk_types.specs.declared.Parts.{Parts}
 use Rattle.trunk_types.specs.declared.Trunk.{Trunk}
 use Rattle.trunk_types.specs.Extensions.{kept_octets}
 use Rattle.trunk_types.specs.Bodies.{dummy, extended, address}
 use Rattle.trunk_types.specs.Components.{trunk_frame}
-use Rattle.trunk_types.specs.Stored.{modes_in, extension_in, body_in, trunk_in}
+use Rattle.trunk_types.specs.Stored.{modes_in, extension_in, body_in, lent_charge, trunk_of}
 use Rattle.trunk_types.specs.inner.Forms.{inner_in, inner_of}
 
 -- a value that may be put from a place on: it is valid, it has at most so many octets, and there is room for them
@@ -24,44 +23,16 @@ pub record Fits {A : Type 0} (f : Run A) (x : A) (most : ℕ) (buf : List ℕ) (
   pub few : length (f.write x) ≤ most
   pub room : Room buf at (f.write x)
 
--- ---- the parts in which a component is lent
+-- ---- what is in lent parts, and the whole but the lead, and but the extension too
 
--- without the extension
-pub record Four : Type 0 where
-  pub front : List ℕ
-  pub figure : List ℕ
-  pub numbers : List ℕ
-  pub rows : List ℕ
-
-pub record Parts : Type 0 where
-  pub front : List ℕ
-  pub extension : List ℕ
-  pub figure : List ℕ
-  pub numbers : List ℕ
-  pub rows : List ℕ
-
--- what is in them
-abbrev pub inner : Four → Body
-inner p = inner_in p.front (stored_charge p.figure p.numbers p.rows)
+abbrev pub inner : Parts → Body
+inner p = inner_in p.front.now (lent_charge p)
 
 abbrev pub body : Parts → Body
-body p = body_in p.front p.extension (stored_charge p.figure p.numbers p.rows)
+body p = body_in p.front.now p.extension.now (lent_charge p)
 
 abbrev pub whole : Parts → Trunk
-whole p = trunk_in p.front p.extension (stored_charge p.figure p.numbers p.rows)
-
--- the arrays as a function has them, and as they were at its call
-abbrev pub held_four : (front figure numbers rows : Bor (List ℕ)) → Four
-held_four front figure numbers rows = record { front = front.now; figure = figure.now; numbers = numbers.now; rows = rows.now }
-
-abbrev pub lent_four : (front figure numbers rows : Both (Bor (List ℕ)) (Bor (List ℕ))) → Four
-lent_four front figure numbers rows = held_four front.entry figure.entry numbers.entry rows.entry
-
-abbrev pub held : (front extension figure numbers rows : Bor (List ℕ)) → Parts
-held front extension figure numbers rows = record { front = front.now; extension = extension.now; figure = figure.now; numbers = numbers.now; rows = rows.now }
-
-abbrev pub lent : (front extension figure numbers rows : Both (Bor (List ℕ)) (Bor (List ℕ))) → Parts
-lent front extension figure numbers rows = held front.entry extension.entry figure.entry numbers.entry rows.entry
+whole p = trunk_of p
 
 -- ---- the extension: its octets as they were received, under a tag
 

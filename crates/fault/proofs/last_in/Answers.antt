@@ -1,0 +1,29 @@
+use Rattle.std.proofs.Common.{ℕ, ◌≡◌, ◌/◌, ◌<◌, refl, ap, ◌∙◌, arith, length}
+use Rattle.account.specs.History.{judged}
+use Rattle.events.{specs.inner.Prefix.place_at, specs.inner.Prefix.before, proofs.Prefix.turn_inside, proofs.Prefix.next_place}
+use Rattle.fault.specs.{declared.State.State, inner.Going.last_by}
+use Rattle.fault.proofs.Back.{back_next}
+use Rattle.fault.proofs.last_in.Goals as goal
+
+pub loop-i-init : goal.loop-i-init
+unfolding before place_at
+loop-i-init c = (refl, rw c.fresh-account.ensures refl)
+
+-- the octets of event i end inside
+pub overflow_add-end : goal.overflow_add-end
+overflow_add-end c = omega (arith, turn_inside c.args.rows.now c.args.octets.now c.loop-i.i c.loop-i.invariant.0 c.count_at.ensures c.requires.0 (omega arith))
+
+pub slice_bounds-turn-end : goal.slice_bounds-turn-end
+slice_bounds-turn-end c = omega (arith, turn_inside c.args.rows.now c.args.octets.now c.loop-i.i c.loop-i.invariant.0 c.count_at.ensures c.requires.0 (omega arith))
+
+pub loop-i-preserved : goal.loop-i-preserved
+loop-i-preserved c =
+    let r = c.args.rows.now in let o = c.args.octets.now in let l = c.loop-i in (
+      next_place r o l.i l.invariant.0 c.count_at.ensures,
+      back_next r o c.args.c l.i l.invariant.0 c.count_at.ensures c.row_at-e.ensures l.invariant.1 c.turn-state.ensures,
+    )
+
+pub returns : goal.returns
+returns c =
+    let e : c.loop-i.i ≡ c.args.k = omega arith in
+    ap (λ (t : State). t.last) c.loop-i.invariant.1 ∙ ap (λ (i : ℕ). last_by c.args.c (judged (before c.args.rows.now c.args.octets.now i))) e
