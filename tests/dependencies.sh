@@ -9,7 +9,7 @@ import sys
 
 # Listed and never named: an account is handed on whole, and the checker must know each struct in it, the charges of `types` and the
 # services of `requests`; and an answer of `read_elements` is handed on.
-HELD = {("step", "requests"), ("fault", "requests"), ("why", "requests"), ("board", "types"), ("board", "requests"), ("trunk_write_tests", "read_elements")}
+HELD = {("step", "requests"), ("fault", "requests"), ("why", "requests"), ("board", "types"), ("trunk_write_tests", "read_elements")}
 
 listed, unnamed = 0, set()
 for line in pathlib.Path("crates.txt").read_text(encoding="utf-8").splitlines():
