@@ -181,5 +181,5 @@ pub fn placed(g: Grid, service: u32, billed: u8, billing: u8) -> Grid
         service_line(service),
         billing_column(billed, billing),
     );
-    Grid { cells }
+    grid_of(cells)
 }

@@ -126,6 +126,6 @@ pub fn empty_month() -> Month
         free: 0,
         units: [0; 17],
         rows: [row; 16],
-        grid: Grid { cells: [[0; 9]; 2] },
+        grid: month_rows::grid_of([[0; 9]; 2]),
     }
 }

@@ -62,3 +62,8 @@ place_number FinalOfE = 4
 abbrev pub is_at : Place → Option Place → Bool
 is_at p None = false
 is_at p (Some q) = eqb (place_number p) (place_number q)
+
+-- the number of where a figure is kept, 0 where it is kept nowhere
+abbrev pub place_or_none : Option Place → ℕ
+place_or_none None = 0
+place_or_none (Some p) = place_number p

@@ -44,10 +44,10 @@ pub const NOT_OURS: u8 = 32;
 // Where an account keeps the figure of a component.
 #[derive(Clone, Copy, PartialEq, Eq)]
 pub enum Place {
-    Rate,
-    Running,
-    FinalOfD,
-    FinalOfE,
+    Rate = 1,
+    Running = 2,
+    FinalOfD = 3,
+    FinalOfE = 4,
 }
 
 // ---- the outcome of a component, but for comparing finals: one that is claimed is 22

@@ -1,7 +1,9 @@
 -- What the table of transitions says. A rule of the table is one test over its rows, which is computed; one law turns it into the rule of every event in every phase.
-use Rattle.prelude.proofs.Prelude.{ℕ, ◌≡◌, refl, sym, ◌∙◌, List, [], ◌∷◌, Bool, true, false, not, ◌&&◌, ◌||◌, eqb, eqb-true}
-use Rattle.prelude.proofs.{Ways.by_cases}
+use Rattle.prelude.proofs.Prelude.{ℕ, zero, suc, ◌≤◌, ◌<◌, ◌+◌, ◌*◌, ◌/◌, ◌%◌, ◌^◌, ◌≡◌, refl, sym, ◌∙◌, List, [], ◌∷◌, Bool, true, false, not, ◌&&◌, ◌||◌, eqb, leb, get_or, arith, eqb-true}
+use Rattle.prelude.proofs.{Prelude.leb-true, Ways.by_cases}
+use Rattle.octets.{specs.Each.each, proofs.Each.each_fails}
 use Rattle.phases.specs.Phases.{Idle, Ended, Setup, Released, Component, Transition, goes, transitions, is_for, allowed_by, leads_by, allowed, leads_to}
+use Rattle.phases.specs.inner.ByNumber.{led_to}
 use Rattle.phases.proofs.Choice.{first_of, second_of, implied, never}
 
 abbrev every : (Transition → Bool) → List Transition → Bool
@@ -82,3 +84,57 @@ component_stays p =
     by_cases (allowed Component p)
     (λ a. eqb-true _ _ (rule (λ r. not (eqb r.event Component) || eqb r.to r.from) refl Component p a))
     (stays Component p)
+
+-- ---- the two questions in one: Idle where an event is not allowed
+
+pub next_none : (k p n : ℕ) → n ≡ led_to k p → n ≡ Idle → allowed k p ≡ false
+next_none k p n e z =
+    by_cases (allowed k p)
+    (λ a. let q : leads_to k p ≡ Idle = sym (rw a at e) ∙ z in never (rw q at (rule (λ r. not (eqb r.to Idle)) refl k p a)))
+    (λ a. a)
+
+pub next_some : (k p n : ℕ) → n ≡ led_to k p → (n ≡ Idle → ⊥) → (allowed k p ≡ true) × (n ≡ leads_to k p)
+next_some k p n e z = by_cases (allowed k p) (λ a. (a, rw a at e)) (λ a. absurd (z (rw a at e)))
+
+-- ---- the same as a number for each kind: its digit to the base 16 at a phase is where the kind leads from there
+
+pub past_kind : (k p : ℕ) → 7 < k → led_to k p ≡ 0
+past_kind k p h =
+    by_cases (allowed k p)
+    (λ a. let q : k ≤ 7 = leb-true _ _ (rule (λ r. leb r.event 7) refl k p a) in absurd (omega arith))
+    (λ a. rw a)
+
+pub past_phase : (k p : ℕ) → 7 < p → led_to k p ≡ 0
+past_phase k p h =
+    by_cases (allowed k p)
+    (λ a. let q : p ≤ 7 = leb-true _ _ (rule (λ r. leb r.from 7) refl k p a) in absurd (omega arith))
+    (λ a. rw a)
+
+-- the digits of a kind from a phase on, n of them; the numbers of all eight kinds
+abbrev digits : ℕ → ℕ → ℕ → ℕ
+digits k p zero = 0
+digits k p (suc n) = led_to k p + digits k (suc p) n * 16
+
+abbrev rows : ℕ → ℕ → List ℕ
+rows k zero = []
+rows k (suc n) = digits k 0 8 ∷ rows (suc k) n
+
+abbrev pub by_kind : List ℕ
+by_kind = rows 0 8
+
+-- each digit is right, by computing it
+abbrev right : ℕ → Bool
+right i = eqb (get_or by_kind (i / 8) 0 / 2 ^ (i % 8 * 4) % 16) (led_to (i / 8) (i % 8))
+
+all_right : each 64 right ≡ true
+unfolding allowed leads_to
+all_right = refl
+
+pub look_up : (k p : ℕ) → k ≤ 7 → p ≤ 7 → get_or by_kind k 0 / 2 ^ (p * 4) % 16 ≡ led_to k p
+look_up k p hk hp =
+    let i : ℕ = k * 8 + p in
+    let kind : i / 8 ≡ k = omega arith in
+    let phase : i % 8 ≡ p = omega arith in
+    by_cases (right i)
+    (λ e. rw (kind, phase) at (eqb-true (get_or by_kind (i / 8) 0 / 2 ^ (i % 8 * 4) % 16) (led_to (i / 8) (i % 8)) e))
+    (λ f. never (sym (each_fails 64 right i (omega arith) f) ∙ all_right))

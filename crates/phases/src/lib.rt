@@ -7,7 +7,7 @@
 ghost use Rattle.std.specs.Prelude.{◌≡◌, ◌&&◌, eqb};
 ghost use Rattle.requests.specs.Sets.{empty_set};
 ghost use Rattle.phases.specs.Phases.{clash, asking, clashes, moved, outcome, no_service};
-ghost use Rattle.phases.specs.inner.ByNumber.{next_phase, kept, moving, moving_of};
+ghost use Rattle.phases.specs.inner.ByNumber.{led_to, next_phase, kept, moving, moving_of};
 
 use coding::refusal;
 use requests::{Services, service};
@@ -126,20 +126,31 @@ pub fn bare(phase: u8) -> Status
     }
 }
 
+// Where each kind of event leads, in hexadecimal: the digit at a phase, counted from the right, is the phase that it leads to from there.
+// 0 means that it is not allowed, since nothing leads to Idle. With a `match` over kind and phase in place of the table, `phase_step` is too
+// large to be inlined: a Connect or a Suspend then takes half as much time again, and the phase of a list four times as much (docs/LOOK-BACK.md).
+const NEXT: [u32; 8] = [0, 0x1, 0x20, 0x300330, 0x4000, 0x503210, 0x500, 0x200000];
+
+fn led_to(kind: u8, phase: u8) -> u8
+    ensures { result ≡ led_to kind phase }
+{
+    if kind > 7 {
+        return 0;
+    }
+    if phase > 7 {
+        return 0;
+    }
+    let row = NEXT[kind as usize];
+    ((row >> ((phase as u32) * 4)) % 16) as u8
+}
+
 // The phase that an event leads to, if it is allowed.
-#[tactic(auto, unfolding(crate::specs::Phases::allowed, crate::specs::Phases::leads_to))]
 pub fn next_phase(kind: u8, phase: u8) -> Option<u8>
     ensures { result ≡ next_phase kind phase }
 {
-    match (kind, phase) {
-        (SETUP, IDLE) => Some(ESTABLISHMENT),
-        (CONNECT, ESTABLISHMENT) => Some(ACTIVE),
-        (CLEAR, ESTABLISHMENT | ACTIVE | SUSPENDED) => Some(CLEARING),
-        (RELEASED, CLEARING) => Some(ENDED),
-        (SUSPEND, ACTIVE) => Some(SUSPENDED),
-        (RESUME, SUSPENDED) => Some(ACTIVE),
-        (COMPONENT, ESTABLISHMENT | ACTIVE | CLEARING | SUSPENDED) => Some(phase),
-        _ => None,
+    match led_to(kind, phase) {
+        IDLE => None,
+        next => Some(next),
     }
 }
 

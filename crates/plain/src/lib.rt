@@ -149,7 +149,7 @@ fn kept(rows: &[u16], octets: &[u8], place: Place) -> PlainCharge
             value: account::no_charge(),
         };
     }
-    let value = plain_lists::last_kept(rows, octets, place);
+    let value = plain_lists::kept_at(rows, octets, place);
     PlainCharge { number: 0, value }
 }
 

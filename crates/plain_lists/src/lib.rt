@@ -4,7 +4,7 @@
 ghost use Rattle.std.specs.Prelude.{◌≡◌, true, [], length, eqb};
 ghost use Rattle.types.specs.Charges.{flag};
 ghost use Rattle.outcomes.specs.Outcome.{its};
-ghost use Rattle.outcomes.specs.Status.{place_of, is_at};
+ghost use Rattle.outcomes.specs.Status.{place_of, place_or_none, is_at};
 ghost use Rattle.events.specs.Events.{adds_up, events_of};
 ghost use Rattle.account.specs.History.{any, last, phase, closing, no_closing};
 ghost use Rattle.plain_lists.specs.inner.Marked.{told_set};
@@ -24,25 +24,36 @@ pub const NO_OUTCOME: Outcome = Outcome {
 
 // ---- what is kept and what was reported
 
-// Whether an outcome keeps its charge at a place.
-fn is_at(place: Place, o: Outcome) -> bool
-    ensures { result ≡ is_at place (place_of o) }
+// The number of the place where an outcome keeps its charge: 1 the rate, 2 the running figure, 3 the final of D, 4 the final of E; 0 nowhere.
+fn number_of(o: Outcome) -> u16
+    ensures { result ≡ place_or_none (place_of o) }
 {
-    outcomes::place_of(o) == Some(place)
+    match outcomes::place_of(o) {
+        None => 0,
+        Some(place) => place as u16,
+    }
 }
 
-// The charge of the last event whose outcome keeps it at a place.
-pub fn last_kept(rows: &[u16], octets: &[u8], place: Place) -> Charge
+// The charge of the last event whose outcome keeps it at the place with a number. With 0 it is the charge of the last event that keeps none anywhere.
+pub fn last_kept(rows: &[u16], octets: &[u8], place: u16) -> Charge
     requires { adds_up rows.now (length octets.now) ≡ true }
-    ensures { result ≡ last (λ j. is_at place (place_of j.outcome)) (history rows.now octets.now) }
+    ensures { result ≡ last (λ j. eqb (place_or_none (place_of j.outcome)) place) (history rows.now octets.now) }
 {
     for i in (0..rows.len() / 6).rev() {
         let o = plain_scans::outcome_at(rows, octets, i);
-        if is_at(place, o) {
+        if number_of(o) == place {
             return plain_scans::charge_at(rows, octets, i);
         }
     }
     account::no_charge()
+}
+
+// The charge of the last event whose outcome keeps it at a place.
+pub fn kept_at(rows: &[u16], octets: &[u8], place: Place) -> Charge
+    requires { adds_up rows.now (length octets.now) ≡ true }
+    ensures { result ≡ last (λ j. is_at place (place_of j.outcome)) (history rows.now octets.now) }
+{
+    last_kept(rows, octets, place as u16)
 }
 
 // 1 where an event was a service's outcome, else 0.
@@ -95,14 +106,14 @@ pub fn closing_in(rows: &[u16], octets: &[u8]) -> Closing
     if phase_in(rows, octets) != phases::ENDED {
         return no_closing();
     }
-    let e = last_kept(rows, octets, Place::FinalOfE);
+    let e = kept_at(rows, octets, Place::FinalOfE);
     if e.figure.kind != charge_kind::NONE {
         return Closing {
             service: closing_service::E,
             value: e,
         };
     }
-    let d = last_kept(rows, octets, Place::FinalOfD);
+    let d = kept_at(rows, octets, Place::FinalOfD);
     if d.figure.kind != charge_kind::NONE {
         return Closing {
             service: closing_service::D,

@@ -1,9 +1,13 @@
--- What the inner functions do, by the numbers that they are handed. The code has the rows of the table of transitions.
+-- What the inner functions do, by the numbers that they are handed. proofs/Transitions.antt ties them to the table of transitions.
 use Rattle.std.specs.Prelude.{ℕ, ◌&&◌, cond, eqb, Option, Some, None}
 use Rattle.phases.specs.declared.Event.{Event}
 use Rattle.phases.specs.declared.Status.{Status}
 use Rattle.phases.specs.declared.Moving.{Moving}
-use Rattle.phases.specs.Phases.{Setup, Request, no_request, allowed, leads_to, no_service, clashes, moved}
+use Rattle.phases.specs.Phases.{Idle, Setup, Request, no_request, allowed, leads_to, no_service, clashes, moved}
+
+-- the phase that an event leads to, and Idle where it is not allowed: nothing leads to Idle
+abbrev pub led_to : ℕ → ℕ → ℕ
+led_to kind phase = cond (allowed kind phase) (leads_to kind phase) Idle
 
 -- the phase that an event leads to, if it is allowed
 abbrev pub next_phase : ℕ → ℕ → Option ℕ

@@ -20,7 +20,7 @@ returns-2 : tie.Need-returns-then-e-ne-NONE
 returns-2 c =
     let e = c.before.before in
     let p = e.before.before in
-    sym (rw (eq-eqb _ 4 e.before.if-phase_in-ne-ENDED.false, ne_eqb _ 0 c.if-e-ne-NONE.true)) ∙ closing_kept (events p) p.phase_in.ensures e.last_kept-e.ensures refl
+    sym (rw (eq-eqb _ 4 e.before.if-phase_in-ne-ENDED.false, ne_eqb _ 0 c.if-e-ne-NONE.true)) ∙ closing_kept (events p) p.phase_in.ensures e.kept_at-e.ensures refl
 
 returns-3 : tie.Need-returns-then-d-ne-NONE
 returns-3 c =
@@ -28,7 +28,7 @@ returns-3 c =
     let e = d.before.before.before in
     let p = e.before.before in
     sym (rw (eq-eqb _ 4 e.before.if-phase_in-ne-ENDED.false, eq-eqb _ 0 d.before.if-e-ne-NONE.false, ne_eqb _ 0 c.if-d-ne-NONE.true))
-    ∙ closing_kept (events p) p.phase_in.ensures e.last_kept-e.ensures d.last_kept-d.ensures
+    ∙ closing_kept (events p) p.phase_in.ensures e.kept_at-e.ensures d.kept_at-d.ensures
 
 returns-4 : tie.Need-returns
 returns-4 c =
@@ -37,7 +37,7 @@ returns-4 c =
     let p = e.before.before in
     c.no_closing-2.ensures
     ∙ sym (rw (eq-eqb _ 4 e.before.if-phase_in-ne-ENDED.false, eq-eqb _ 0 d.before.if-e-ne-NONE.false, eq-eqb _ 0 c.before.if-d-ne-NONE.false))
-    ∙ closing_kept (events p) p.phase_in.ensures e.last_kept-e.ensures d.last_kept-d.ensures
+    ∙ closing_kept (events p) p.phase_in.ensures e.kept_at-e.ensures d.kept_at-d.ensures
 
 pub closing_in_spec : {M : Type 1} → statement M
 closing_in_spec =
